@@ -29,8 +29,8 @@ _rtcm2rinex() {
             arguments='files'
             ;;
         convert)
-            options='--station --near --made --marker --codes --window --msm -h --help'
-            values='--station --near --made --marker --codes --window --msm'
+            options='--station --near --made --marker --codes --window --msm --channels --leap-seconds -h --help'
+            values='--station --near --made --marker --codes --window --msm --channels --leap-seconds'
             arguments='files stdin'
             ;;
         show)

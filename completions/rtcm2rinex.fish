@@ -33,9 +33,11 @@ complete -c rtcm2rinex -n '__fish_seen_subcommand_from convert' -l station -x -d
 complete -c rtcm2rinex -n '__fish_seen_subcommand_from convert' -l near -x -d 'A GPS time within half a week of all messages, as 2024-05-17T12:00:00'
 complete -c rtcm2rinex -n '__fish_seen_subcommand_from convert' -l made -x -d 'The UTC time of making that the file shows, as 2024-05-17T13:00:00'
 complete -c rtcm2rinex -n '__fish_seen_subcommand_from convert' -l marker -x -d 'The marker\'s name, as BASE'
-complete -c rtcm2rinex -n '__fish_seen_subcommand_from convert' -l codes -x -d 'The observation codes, as 1C,2W'
+complete -c rtcm2rinex -n '__fish_seen_subcommand_from convert' -l codes -x -d 'The observation codes, as 1C,2W or 1C,R1C,E1X,C2I'
 complete -c rtcm2rinex -n '__fish_seen_subcommand_from convert' -l window -x -d 'How many epochs are kept open, 2 to 4096, as 600 [default: 64]'
-complete -c rtcm2rinex -n '__fish_seen_subcommand_from convert' -l msm -x -d 'Which MSM is converted beside 1004: 4 is 1074, 5 is 1075, 6 is 1076, 7 is 1077 [default: 4]'
+complete -c rtcm2rinex -n '__fish_seen_subcommand_from convert' -l msm -x -d 'Which MSM is converted: 4 is MSM4, as 1074, to 7; 7,E4 has an exception [default: 4]'
+complete -c rtcm2rinex -n '__fish_seen_subcommand_from convert' -l channels -x -d 'The channels of GLONASS slots, as 1:1,9:-6, or none'
+complete -c rtcm2rinex -n '__fish_seen_subcommand_from convert' -l leap-seconds -x -d 'The leap seconds that date GLONASS, 0 to 99; those of the table if not given'
 complete -c rtcm2rinex -n '__fish_seen_subcommand_from convert' -s h -l help -d 'Print help (see more with \'--help\')'
 complete -c rtcm2rinex -n '__fish_seen_subcommand_from convert' -F -a stdin
 complete -c rtcm2rinex -n '__fish_seen_subcommand_from show' -l hex -d 'The capture is hex text'

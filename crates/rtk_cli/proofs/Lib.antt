@@ -1,9 +1,14 @@
+mod ChannelLemmas
 mod ChoiceLemmas
 mod CodeListLemmas
+mod CodeWordLemmas
 mod FaultLineLemmas
+mod HeadLemmas
+mod KindLemmas
 mod LinkLemmas
 mod MomentTextLemmas
 mod NameListLemmas
+mod PartLemmas
 mod RefusedLemmas
 mod SaidLemmas
 mod SatelliteListLemmas

@@ -1,10 +1,12 @@
 -- The fault lines of words that clap takes: what follows the name of the program and a colon.
-use Rattle.std.specs.Prelude.{◌≡◌, ℕ, List, codes}
+use Rattle.std.specs.Prelude.{◌≡◌, ℕ, List, codes, Option, None, Some}
+use Rattle.std.specs.Option.{option_map}
 use Rattle.rtk_label.specs.declared.label_fault.LabelFault.TheVariants.{RunBy, MarkerNumber, Observer, Agency, ReceiverNumber, ReceiverType, ReceiverVersion, AntennaNumber, AntennaType, DeltaHeight, DeltaEast, DeltaNorth}
 use Rattle.rtk_cli.specs.declared.words.BadWords.{BadWords}
-use Rattle.rtk_cli.specs.declared.words.BadWords.TheVariants.{Near, Made, Codes, Marker, Links, Systems, Satellites, From, Until, Field, Files}
+use Rattle.rtk_cli.specs.declared.words.BadWords.TheVariants.{Near, Made, Codes, CodeOfSystem, CodeOfGps, Marker, Channels, NoChannels, Links, Systems, Satellites, From, Until, Field, Files}
 use Rattle.rtk_cli.specs.declared.words.WordsFault.{WordsFault}
 use Rattle.rtk_cli.specs.declared.words.WordsFault.TheVariants.{Bad, OutOfMemory}
+use Rattle.rtk_cli.specs.CodeLines.{codes_line, short_code_line}
 
 -- table
 -- the fault line of a cause (this project's rule)
@@ -12,7 +14,11 @@ abbrev pub fault_line : BadWords → List ℕ
 fault_line Near = codes "bad --near"
 fault_line Made = codes "bad --made"
 fault_line Codes = codes "bad --codes"
+fault_line (CodeOfSystem s) = codes "bad --codes"
+fault_line (CodeOfGps c) = codes "bad --codes"
 fault_line Marker = codes "bad --marker"
+fault_line Channels = codes "bad --channels"
+fault_line NoChannels = codes "R codes need --channels"
 fault_line Links = codes "bad links"
 fault_line Systems = codes "bad --systems"
 fault_line Satellites = codes "bad --satellites"
@@ -32,12 +38,19 @@ fault_line (Field DeltaEast) = codes "bad --delta-east"
 fault_line (Field DeltaNorth) = codes "bad --delta-north"
 fault_line Files = codes "bad files"
 
--- the words are refused by the fault line of this cause
+-- table
+-- the line that follows the fault line of a cause, if one does (this project's rule)
+abbrev pub second_line : BadWords → Option (List ℕ)
+second_line (CodeOfSystem s) = Some (codes_line s)
+second_line (CodeOfGps c) = Some (short_code_line c)
+second_line _ = None
+
+-- the words are refused by the lines of this cause
 abbrev pub TellsCause : BadWords → WordsFault → Type 0
-TellsCause cause (Bad line) = line.now ≡ fault_line cause
+TellsCause cause (Bad line more) = (line.now ≡ fault_line cause) × (option_map (λ text. text.now) more ≡ second_line cause)
 TellsCause cause _ = ⊥
 
--- the words are refused by the fault line of a cause that there is
+-- the words are refused by the lines of a cause that there is
 abbrev pub HasCause : (BadWords → Type 0) → WordsFault → Type 0
 HasCause IsCause fault = (cause : BadWords) × IsCause cause × TellsCause cause fault
 

@@ -1,5 +1,6 @@
 pub mod Converting
 pub mod ConvertsBytes
+pub mod CodeLines
 pub mod FaultLines
 pub mod JoinedLinks
 pub mod SurveysText

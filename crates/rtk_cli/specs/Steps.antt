@@ -2,6 +2,10 @@
 pub mod ClapStatus
 pub mod NameList
 pub mod CodeList
+pub mod Parts
+pub mod AnyCodeList
+pub mod KindList
+pub mod ChannelList
 pub mod Links
 pub mod MomentText
 pub mod ConvertWords

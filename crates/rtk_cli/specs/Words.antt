@@ -6,7 +6,7 @@ use Rattle.rtk_convert.specs.Converter.{IsLinkCount}
 use Rattle.rtk_setup.specs.Setup.{IsStation, IsWindow}
 use Rattle.rtk_cut.specs.Cut.{IsStepOrNone}
 use Rattle.rtk_commands.specs.ChartInput.{IsWidth}
-use Rattle.rtk_cli.specs.FaultLines.{fault_line}
+use Rattle.rtk_cli.specs.FaultLines.{TellsCause}
 use Rattle.rtk_cli.specs.declared.words.BadWords.{BadWords}
 use Rattle.rtk_cli.specs.declared.words.Job.{Job}
 use Rattle.rtk_cli.specs.declared.words.Job.TheVariants.{Convert, Chart, Cut, Compare}
@@ -39,9 +39,9 @@ IsWithinLimits (Compare command old new) = AreComparedNames old.now new.now
 IsWithinLimits _ = Unit {0}
 
 -- table
--- after a text of clap's the program ends with status 0 or 2; which of them is not said here. A fault
--- line is that of a cause (this project's rule)
+-- after a text of clap's the program ends with status 0 or 2; which of them is not said here. Fault
+-- lines are those of a cause (this project's rule)
 abbrev pub IsWordsFault : WordsFault → Type 0
 IsWordsFault (Clap text status) = (status ≡ 0) ⊎ (status ≡ 2)
-IsWordsFault (Bad line) = (cause : BadWords) × (line.now ≡ fault_line cause)
+IsWordsFault (Bad line more) = (cause : BadWords) × TellsCause cause (Bad line more)
 IsWordsFault OutOfMemory = Unit {0}

@@ -1,16 +1,138 @@
 //! The words of `convert`: what its options and links say.
 
-ghost use Rattle.std.specs.Prelude.{map, IfOk, IfErr, Decides};
-ghost use Rattle.rtk_cli.specs.Steps.ConvertWords.{SaysConversion, RefusesConversion};
+ghost use Rattle.std.specs.Prelude.{map, ◌≡◌, ◌≤◌, IfOk, IfErr, Decides};
+ghost use Rattle.rtk_rinex.specs.MixedHead.{has_glonass, IsGlonassView, TellsGlonass};
+ghost use Rattle.rtk_cli.specs.FaultLines.{IsRefusal};
+ghost use Rattle.rtk_cli.specs.Steps.ConvertWords.{SaysConversion, RefusesConversion, IsLeapSecondsOf, SaysGlonass, IsHeadOf, IsGlonassCause, IsHeadCause, with_given};
 ghost use Rattle.rtk_cli.specs.Words.{AreLinkNames, IsWithinLimits};
 
-use crate::option_texts::{codes_said, made_said, marker_said, moment_said, reference_said};
+use crate::channel_list::channels_said;
+use crate::code_words::{any_codes_said, in_file_order};
+use crate::option_texts::{made_said, marker_said, moment_said, reference_said};
 use crate::options::ConvertOptions;
 use crate::words::{BadWords, Job, WordsFault};
-use rtk_convert::{LinkCount, Setup};
-use rtk_rinex::Head;
+use rtk_convert::LinkCount;
+use rtk_message::System;
+use rtk_obs::{AnyCode, Channels, GpsMs, leap_seconds_at};
+use rtk_rinex::{CreationTime, Glonass, Marker, MixedHead, is_mixed_list};
+use rtk_setup::{LeapSeconds, Setup, SystemKinds};
 use rtk_streams::STDIN;
 use std::alloc::Global;
+
+// A listed code is of GLONASS.
+fn has_glonass(listed: &[AnyCode]) -> bool
+    ensures { result ≡ has_glonass listed.now }
+{
+    for code in listed {
+        if code.text()[0] == b'R' {
+            return true;
+        }
+    }
+    false
+}
+
+// The leap seconds that are given, or those of the table at the reference.
+fn seconds_of(leap_seconds: Option<LeapSeconds>, near: GpsMs) -> u8
+    ensures said { IsLeapSecondsOf leap_seconds near result }
+    ensures bound { result ≤ 99 }
+{
+    match leap_seconds {
+        Some(given) => given.number(),
+        None => leap_seconds_at(near),
+    }
+}
+
+// What a header tells of GLONASS: these channels, and the leap seconds.
+fn glonass_of(channels: Channels, leap_seconds: Option<LeapSeconds>, near: GpsMs) -> Glonass
+    ensures channels { result.channels ≡ channels }
+    ensures leap_seconds { IsLeapSecondsOf leap_seconds near result.leap_seconds }
+    ensures good { IsGlonassView result }
+{
+    let Some(glonass) = Glonass::new(channels, seconds_of(leap_seconds, near)) else {
+        unreachable!();
+    };
+    glonass
+}
+
+// What the options tell of GLONASS, for a file with these codes. Channels without a code of GLONASS are refused as bad
+// ones.
+fn glonass_said(
+    alloc: Global,
+    options: &ConvertOptions,
+    listed: &[AnyCode],
+    near: GpsMs,
+) -> Result<Option<Glonass>, WordsFault>
+    ensures said { IfOk result (SaysGlonass options.now listed.now near) }
+    ensures due { IfOk result (TellsGlonass listed.now) }
+    // `OutOfMemory` comes only if memory is refused: tests/system/calls, rows `job of convert ..`.
+    ensures refused { IfErr result (IsRefusal (IsGlonassCause options.now listed.now)) }
+{
+    let is_due = has_glonass(listed);
+    let text = match options.channels {
+        Some(text) => text,
+        None => {
+            if is_due {
+                return Err(BadWords::NoChannels.into());
+            }
+            return Ok(None);
+        }
+    };
+    let channels = channels_said(alloc, text)?;
+    if !is_due {
+        return Err(BadWords::Channels.into());
+    }
+    Ok(Some(glonass_of(channels, options.leap_seconds, near)))
+}
+
+// The head of a file with these codes, and what the options tell of GLONASS.
+fn head_said(
+    alloc: Global,
+    options: &ConvertOptions,
+    marker: Marker,
+    codes: &[AnyCode],
+    made: CreationTime,
+    near: GpsMs,
+) -> Result<MixedHead, WordsFault>
+    ensures said { IfOk result (IsHeadOf options.now marker codes.now made near) }
+    // `OutOfMemory` comes only if memory is refused: tests/system/calls, rows `job of convert ..`.
+    ensures refused { IfErr result (IsRefusal (IsHeadCause options.now codes.now)) }
+{
+    let listed = in_file_order(alloc, codes)?;
+    if !is_mixed_list(listed.as_slice()) {
+        return Err(BadWords::Codes.into());
+    }
+    let glonass = glonass_said(alloc, options, listed.as_slice(), near)?;
+    let Ok(head) = MixedHead::new(marker, listed.as_slice(), glonass, made) else {
+        unreachable!();
+    };
+    Ok(head)
+}
+
+// The setup with these kinds.
+fn with_kinds(setup: Setup, kinds: SystemKinds) -> Setup
+    ensures { result ≡ record setup { kinds = kinds } }
+{
+    setup
+        .with_kind(System::Gps, kinds.gps)
+        .with_kind(System::Glonass, kinds.glonass)
+        .with_kind(System::Galileo, kinds.galileo)
+        .with_kind(System::Beidou, kinds.beidou)
+        .with_kind(System::Qzss, kinds.qzss)
+        .with_kind(System::Sbas, kinds.sbas)
+        .with_kind(System::Navic, kinds.navic)
+}
+
+// The setup with these leap seconds, if any are given.
+fn with_leap_seconds(setup: Setup, leap_seconds: Option<LeapSeconds>) -> Setup
+    ensures given { result ≡ with_given setup leap_seconds }
+    ensures station { result.station ≡ setup.station }
+    ensures window { result.window ≡ setup.window }
+{
+    match leap_seconds {
+        Some(given) => setup.with_leap_seconds(given),
+        None => setup,
+    }
+}
 
 /// The conversion that the options and the links say. The causes are looked for in the order that
 /// `BadWords` says.
@@ -24,22 +146,18 @@ pub(crate) fn convert_job<'a>(
     // `OutOfMemory` comes only if memory is refused: tests/system/calls, rows `job of convert ..`.
     ensures refused { IfErr result (RefusesConversion options.now (map (λ link. link.now) links.entry.items)) }
 {
-    let near = moment_said(options.near, BadWords::Near)?;
+    let moment = moment_said(options.near, BadWords::Near)?;
     let made = made_said(options.made)?;
-    let codes = codes_said(alloc, options.codes)?;
+    let codes = any_codes_said(alloc, options.codes)?;
     let marker = marker_said(options.marker)?;
-    let Ok(head) = Head::from_parts(marker, codes.as_slice(), made) else {
-        return Err(BadWords::Codes.into());
-    };
+    let head = head_said(alloc, options, marker, codes.as_slice(), made, moment)?;
     if !are_links(links.as_slice()) {
         return Err(BadWords::Links.into());
     }
-    let near = reference_said(near)?;
-    let setup = Setup::from_parts(options.station, near, head, options.window);
-    Ok(Job::Convert {
-        setup: setup.with_msm(options.msm),
-        links,
-    })
+    let near = reference_said(moment)?;
+    let setup = Setup::mixed(options.station, near, head, options.window);
+    let setup = with_leap_seconds(with_kinds(setup, options.kinds), options.leap_seconds);
+    Ok(Job::Convert { setup, links })
 }
 
 // Can these be the links of a conversion: 1 to 16, and standard input at most once?

@@ -11,6 +11,7 @@ use crate::clap_words::{matches_of, missing_word};
 use crate::compare_words::{compared_files, comparison};
 use crate::convert_words::convert_job;
 use crate::cut_words::part_of;
+use crate::kind_list::has_kind_list;
 use crate::label_words::label_of;
 use crate::options::{
     auto_options, chart_options, convert_options, cut_options, label_options, quality_form,
@@ -187,6 +188,6 @@ pub fn job<'a>(alloc: Global, words: &'a [&'a str]) -> Result<Job<'a>, WordsFaul
     ensures limits { IfOk result IsWithinLimits }
     ensures fault { IfErr result IsWordsFault }
 {
-    let mut program = program_command(alloc)?;
+    let mut program = program_command(alloc, has_kind_list(words))?;
     job_of_words(alloc, &mut program, words)
 }

@@ -7,7 +7,7 @@
 //! // A part of a file can't begin at a moment that is written in another form.
 //! fn example(alloc: Global) -> Result<bool, AllocError> {
 //!     match job(alloc, &["cut", "--from", "noon", "day.rnx"]) {
-//!         Err(WordsFault::Bad { line }) => Ok(line == "bad --from"),
+//!         Err(WordsFault::Bad { line, .. }) => Ok(line == "bad --from"),
 //!         _ => Ok(false),
 //!     }
 //! }
@@ -24,18 +24,23 @@ mod auto_refusing;
 mod auto_rereading;
 mod auto_running;
 mod auto_words;
+mod channel_list;
 mod chart_words;
 mod clap_words;
+mod code_lines;
 mod code_list;
+mod code_words;
 mod compare_words;
 mod convert_words;
 mod converting;
 mod cut_words;
 mod jobs;
+mod kind_list;
 mod label_words;
 mod moment_text;
 mod option_texts;
 mod options;
+mod parts;
 mod refusing;
 mod running;
 mod watching;

@@ -8,20 +8,21 @@ ghost use Rattle.std.specs.Prelude.{◌≡◌, ◌+◌, IfSome, MatchOption};
 ghost use Rattle.std.specs.Int.{IsInRange};
 ghost use Rattle.std.specs.Option.{ForSome};
 ghost use Rattle.rtk_message.specs.Systems.{number_of_kind};
-ghost use Rattle.rtk_setup.specs.Setup.{IsStation, IsWindow};
+ghost use Rattle.rtk_setup.specs.Setup.{IsStation, IsWindow, IsLeapSeconds};
 ghost use Rattle.rtk_cut.specs.Cut.{IsStepOrNone};
 ghost use Rattle.rtk_commands.specs.ChartInput.{IsWidth};
 
+use crate::kind_list::kinds_of;
 use clap::ArgMatches;
-use rtk_convert::{Station, Window};
 use rtk_label::LabelParts;
 use rtk_message::MsmKind;
 use rtk_plan::Ways;
 use rtk_quality::Form;
+use rtk_setup::{LeapSeconds, Station, SystemKinds, Window};
 use rtk_usage::{LEAST_WIDTH, MOST_STEP, MOST_WIDTH};
 
-/// How many characters wide a picture is if no number is given. It is not clap's default value,
-/// unlike `WINDOW` of command_line.rt: without `--text` a picture has no such width.
+/// How many characters wide a picture is if no number is given. It is not a default value of clap's,
+/// as rtk_usage has one for the window: without `--text` a picture has no such width.
 const COLUMNS: u32 = 80;
 
 /// The options of `auto`. `None` is to be found in the captures, or chosen.
@@ -57,8 +58,12 @@ pub(crate) struct ConvertOptions<'a> {
     pub(crate) codes: &'a str,
     /// How many epochs are kept open.
     pub(crate) window: Window,
-    /// Which MSM is converted beside 1004.
-    pub(crate) msm: MsmKind,
+    /// The kind of MSM that is converted of each system.
+    pub(crate) kinds: SystemKinds,
+    /// The text of the channels of GLONASS.
+    pub(crate) channels: Option<&'a str>,
+    /// The leap seconds by which clocks of GLONASS are dated, in place of the table's.
+    pub(crate) leap_seconds: Option<LeapSeconds>,
 }
 
 /// The options of `chart`.
@@ -98,6 +103,16 @@ fn window_of(epochs: u32) -> Option<Window>
     ensures { MatchOption result (¬ (IsWindow epochs)) (λ window. window ≡ epochs) }
 {
     Window::new(epochs as usize).ok()
+}
+
+// So many leap seconds; `None` exactly if they are too many.
+fn leap_seconds_of(number: u32) -> Option<LeapSeconds>
+    ensures { MatchOption result (¬ (IsLeapSeconds number)) (λ given. given ≡ number) }
+{
+    let Ok(number) = u8::try_from(number) else {
+        return None;
+    };
+    LeapSeconds::new(number)
 }
 
 // The MSM whose message numbers end with this digit; `None` exactly if there is none.
@@ -146,6 +161,14 @@ pub(crate) fn auto_options<'a>(words: &ArgMatches<'a>) -> Option<AutoOptions<'a>
     })
 }
 
+// The kinds that `--msm` of `convert` writes: a number is the kind of all systems.
+fn kinds_said(words: &ArgMatches<'_>) -> Option<SystemKinds> {
+    match words.get_one::<u32>("msm") {
+        Some(digit) => Some(SystemKinds::all(msm_of(digit)?)),
+        None => kinds_of(words.get_str("msm")?.as_bytes()),
+    }
+}
+
 /// The options of `convert`.
 pub(crate) fn convert_options<'a>(words: &ArgMatches<'a>) -> Option<ConvertOptions<'a>> {
     Some(ConvertOptions {
@@ -155,7 +178,9 @@ pub(crate) fn convert_options<'a>(words: &ArgMatches<'a>) -> Option<ConvertOptio
         marker: words.get_str("marker")?,
         codes: words.get_str("codes")?,
         window: window_of(words.get_one::<u32>("window")?)?,
-        msm: msm_of(words.get_one::<u32>("msm")?)?,
+        kinds: kinds_said(words)?,
+        channels: words.get_str("channels"),
+        leap_seconds: value_if_any(words.get_one::<u32>("leap-seconds").map(leap_seconds_of))?,
     })
 }
 

@@ -55,13 +55,24 @@ fn refuse_with_form<R: Eprint>(rt: &R, is_auto: bool, line: &str) -> u8
     status
 }
 
+// Prints the line that follows a fault line, if one does.
+fn print_more<R: Eprint>(rt: &R, more: Option<&str>) {
+    if let Some(more) = more {
+        let _printed = eprintln!(rt; "{more}");
+    }
+}
+
 /// Says why words give no job; `is_auto` if they are of the command `auto`.
 pub(crate) fn refuse_words<R: Print + Eprint>(rt: &R, is_auto: bool, fault: WordsFault) -> u8
     ensures { result ≤ REFUSED }
 {
     match fault {
         WordsFault::Clap { text, status } => print_clap_text(rt, text.as_str(), status),
-        WordsFault::Bad { line } => refuse_with_form(rt, is_auto, line),
+        WordsFault::Bad { line, more } => {
+            let status = refuse_with_form(rt, is_auto, line);
+            print_more(rt, more);
+            status
+        }
         WordsFault::OutOfMemory => fail(rt, ToolFault::OutOfMemory),
     }
 }

@@ -1,10 +1,12 @@
 //! What the words of a command line ask for, and why a command is not done.
 
+use crate::code_lines::{codes_line, short_code_line};
 use rtk_commands::{Chart, Compare};
 use rtk_convert::Setup;
 use rtk_cut::Part;
 use rtk_label::{Label, LabelFault};
-use rtk_message::MsmKind;
+use rtk_message::{MsmKind, System};
+use rtk_obs::Code;
 use rtk_plan::{Wanted, Ways};
 use rtk_quality::Form;
 use rtk_rinex::CreationTime;
@@ -94,12 +96,21 @@ pub(crate) enum BadWords {
     Near,
     /// The time of making is written in another form, or there is no such moment.
     Made,
-    /// A name is no observation code. Or, once the marker is known to be good: the codes are not
-    /// 1 to 16, or one stands twice.
+    /// A name is no observation code. Or, once the marker is known to be good: a code stands twice, or
+    /// `auto` has more than 16.
     Codes,
+    /// A name of three characters begins with the letter of this system, and is no observation code.
+    CodeOfSystem(System),
+    /// A name is that of a code of GPS behind the letter of GPS.
+    CodeOfGps(Code),
     /// The marker's name does not have 1 to 60 printable characters of ASCII, or the first or the
     /// last one is a blank.
     Marker,
+    /// The channels of GLONASS are written in another form, a slot or a channel doesn't exist, or a slot
+    /// stands twice. Or there is no code of GLONASS.
+    Channels,
+    /// There are codes of GLONASS, and no channels.
+    NoChannels,
     /// The links are not 1 to 16, or standard input stands twice.
     Links,
     /// A letter is that of no system, or there is none.
@@ -119,7 +130,8 @@ pub(crate) enum BadWords {
 
 impl BadWords {
     ghost use Rattle.std.specs.Prelude.{◌≡◌};
-    ghost use Rattle.rtk_cli.specs.FaultLines.{fault_line};
+    ghost use Rattle.std.specs.Option.{option_map};
+    ghost use Rattle.rtk_cli.specs.FaultLines.{fault_line, second_line};
 
     /// The fault line of the program.
     pub(crate) fn line(self) -> &'static str
@@ -128,8 +140,10 @@ impl BadWords {
         match self {
             BadWords::Near => "bad --near",
             BadWords::Made => "bad --made",
-            BadWords::Codes => "bad --codes",
+            BadWords::Codes | BadWords::CodeOfSystem(_) | BadWords::CodeOfGps(_) => "bad --codes",
             BadWords::Marker => "bad --marker",
+            BadWords::Channels => "bad --channels",
+            BadWords::NoChannels => "R codes need --channels",
             BadWords::Links => "bad links",
             BadWords::Systems => "bad --systems",
             BadWords::Satellites => "bad --satellites",
@@ -150,6 +164,17 @@ impl BadWords {
             BadWords::Files => "bad files",
         }
     }
+
+    /// The line that follows the fault line, if one does.
+    pub(crate) fn second_line(self) -> Option<&'static str>
+        ensures { option_map (λ line. line.now) result ≡ second_line self }
+    {
+        match self {
+            BadWords::CodeOfSystem(system) => Some(codes_line(system)),
+            BadWords::CodeOfGps(code) => Some(short_code_line(code)),
+            _ => None,
+        }
+    }
 }
 
 /// Why the words give no job.
@@ -167,6 +192,8 @@ pub enum WordsFault {
     Bad {
         /// The fault line, as `bad --near`.
         line: &'static str,
+        /// The line that follows the fault line, as `codes of R: 1C 1P 2C 2P`, if one does.
+        more: Option<&'static str>,
     },
     /// No memory for reading the words.
     OutOfMemory,
@@ -178,7 +205,10 @@ impl From<BadWords> for WordsFault {
     ghost from_gives = { TellsCause };
 
     fn from(cause: BadWords) -> WordsFault {
-        WordsFault::Bad { line: cause.line() }
+        WordsFault::Bad {
+            line: cause.line(),
+            more: cause.second_line(),
+        }
     }
 }
 

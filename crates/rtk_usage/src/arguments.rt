@@ -62,6 +62,15 @@ pub(crate) fn msm_arg<'a>(alloc: Global, help: &'a str) -> Arg<'a> {
     number_arg(alloc, "msm", 4, 7, help)
 }
 
+/// The kinds of MSM that are converted. clap's numbers are no lists, and its texts are anything. So texts are taken only
+/// if some word is a good list, and else each word is refused as a number is.
+pub(crate) fn kinds_arg<'a>(alloc: Global, takes_lists: bool, help: &'a str) -> Arg<'a> {
+    if takes_lists {
+        return option_arg(alloc, "msm", "N", help);
+    }
+    msm_arg(alloc, help)
+}
+
 /// The marker's name.
 pub(crate) fn marker_arg<'a>(alloc: Global, help: &'a str) -> Arg<'a> {
     option_arg(alloc, "marker", "NAME", help).allow_hyphen_values(true)

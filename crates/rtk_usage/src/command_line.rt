@@ -3,12 +3,13 @@
 //! clap is the costly part of the proof, so its command is built here alone, in small functions.
 
 use crate::arguments::{
-    file_arg, marker_arg, msm_arg, number_arg, option_arg, station_arg, switch_arg, window_arg,
+    file_arg, kinds_arg, marker_arg, msm_arg, number_arg, option_arg, station_arg, switch_arg,
+    window_arg,
 };
 use crate::auto_command::auto_command;
 use crate::help_texts;
 use crate::label_command::label_command;
-use crate::limits::{LEAST_WIDTH, MOST_STEP, MOST_WIDTH};
+use crate::limits::{LEAST_WIDTH, MOST_LEAP_SECONDS, MOST_STEP, MOST_WIDTH};
 use clap::{Arg, ArgAction, ArgGroup, Command};
 use std::alloc::{AllocError, Global};
 
@@ -153,16 +154,29 @@ fn convert_with_times<'a>(alloc: Global) -> Result<Command<'a>, AllocError> {
         .arg(required_arg(alloc, "made", "T", made))
 }
 
-fn convert_command<'a>(alloc: Global) -> Result<Command<'a>, AllocError> {
+// The same with the options of the file.
+fn convert_with_codes<'a>(alloc: Global) -> Result<Command<'a>, AllocError> {
     let marker = "The marker's name, as BASE";
-    let codes = "The observation codes, as 1C,2W";
+    let codes = "The observation codes, as 1C,2W or 1C,R1C,E1X,C2I";
     let window = "How many epochs are kept open, 2 to 4096, as 600";
-    let msm = "Which MSM is converted beside 1004: 4 is 1074, 5 is 1075, 6 is 1076, 7 is 1077";
     convert_with_times(alloc)?
         .arg(marker_arg(alloc, marker).required(true))?
         .arg(required_arg(alloc, "codes", "LIST", codes))?
-        .arg(window_arg(alloc, window).default_value(WINDOW))?
-        .arg(msm_arg(alloc, msm).default_value(MSM))?
+        .arg(window_arg(alloc, window).default_value(WINDOW))
+}
+
+fn leap_seconds_arg<'a>(alloc: Global) -> Arg<'a> {
+    let help = "The leap seconds that date GLONASS, 0 to 99; those of the table if not given";
+    number_arg(alloc, "leap-seconds", 0, i64::from(MOST_LEAP_SECONDS), help)
+}
+
+fn convert_command<'a>(alloc: Global, takes_lists: bool) -> Result<Command<'a>, AllocError> {
+    let msm = "Which MSM is converted: 4 is MSM4, as 1074, to 7; 7,E4 has an exception";
+    let channels = "The channels of GLONASS slots, as 1:1,9:-6, or none";
+    convert_with_codes(alloc)?
+        .arg(kinds_arg(alloc, takes_lists, msm).default_value(MSM))?
+        .arg(option_arg(alloc, "channels", "LIST", channels))?
+        .arg(leap_seconds_arg(alloc))?
         .arg(links_arg(alloc))
 }
 
@@ -183,13 +197,16 @@ fn with_command<'a>(
     program.subcommand(command?)
 }
 
-/// The whole command line.
-pub fn program_command<'a>(alloc: Global) -> Result<Command<'a>, AllocError> {
+/// The whole command line. If `takes_lists`, `--msm` of `convert` takes texts.
+pub fn program_command<'a>(
+    alloc: Global,
+    takes_lists: bool,
+) -> Result<Command<'a>, AllocError> {
     let program = program_alone(alloc)?
         .no_binary_name(true)
         .subcommand_required(true);
     let program = with_command(program, auto_command(alloc))?;
-    let program = with_command(program, convert_command(alloc))?;
+    let program = with_command(program, convert_command(alloc, takes_lists))?;
     let program = with_command(program, show_command(alloc))?;
     let program = with_command(program, check_command(alloc))?;
     let program = with_command(program, summary_command(alloc))?;

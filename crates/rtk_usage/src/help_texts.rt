@@ -36,12 +36,28 @@ Manual: man rtcm2rinex, or docs/MANUAL.md";
 pub(crate) const CONVERT: &str = "\
 A time is written as 2024-05-17T12:00:00, with no zone and no blank. A marker's
 name has 1 to 60 printable characters of ASCII; the first and the last are no
-blank. The codes are 1 to 16 of these:
-  1C 1P 1W 1S 1L 1X 2C 2D 2P 2W 2S 2L 2X 5I 5Q 5X
+blank.
+
+Which codes:
+  GPS      1C 1P 1W 1S 1L 1X 2C 2D 2P 2W 2S 2L 2X 5I 5Q 5X
+  GLONASS  R1C R1P R2C R2P
+  Galileo  E1C E1B E1X E6C E6B E6X E7I E7Q E7X E8I E8Q E8X E5I E5Q E5X
+  BeiDou   C2I C2Q C2X C6I C6Q C6X C7I C7Q C7X C5D C5P C5X C7D C1D C1P C1X
+  QZSS     J1C J6S J6L J6X J2S J2L J2X J5I J5Q J5X J1S J1L J1X
+  SBAS     S1C S5I S5Q S5X
+  NavIC    I5A
+  These are codes and not observation types: 2X is of GPS, and C2X is of BeiDou.
+  A system is converted if a code of it is listed.
 
 Which MSM:
   --msm 7 converts 1077 in the place of 1074, and leaves 1074 out. Most stations
   that are bought today send 1077. summary tells which MSM a capture has.
+  --msm 7,E4,C4 converts MSM7 of all systems, but MSM4 of Galileo and BeiDou.
+
+Which channels:
+  Codes of GLONASS need --channels, because a phase depends on the channel of its
+  slot. A slot is 1 to 27, and a channel -7 to 6. A slot that is not listed has no
+  phases, and with --channels none no slot has any.
 
 Example:
   rtcm2rinex convert --station 2003 --near 2024-05-17T12:00:00 \\

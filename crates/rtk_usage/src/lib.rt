@@ -8,7 +8,7 @@
 //!
 //! // `--version` is answered as an error, with the text that is to be shown.
 //! fn example(alloc: Global) -> Result<bool, AllocError> {
-//!     let mut program = program_command(alloc)?;
+//!     let mut program = program_command(alloc, false)?;
 //!     Ok(program.try_get_matches_from_mut(&["--version"]).is_err())
 //! }
 //! ```

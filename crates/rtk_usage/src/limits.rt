@@ -9,3 +9,6 @@ pub const MOST_WIDTH: u32 = 400;
 
 /// The greatest step of a part, in s.
 pub const MOST_STEP: u32 = 86_400;
+
+/// The most leap seconds: they have two digits.
+pub(crate) const MOST_LEAP_SECONDS: u32 = 99;

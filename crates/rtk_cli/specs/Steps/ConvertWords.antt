@@ -1,33 +1,93 @@
 -- What the words of `convert` say, and why they are refused.
-use Rattle.std.specs.Prelude.{◌≡◌, ◌⊎◌, ℕ, List, map}
+use Rattle.std.specs.Prelude.{◌≡◌, ◌⊎◌, ℕ, true, false, ℤ, List, map, Option, None, Some}
+use Rattle.std.specs.Borrow.{Bor}
 use Rattle.rtk_obs.specs.Dating.{IsReference}
+use Rattle.rtk_obs.specs.LeapSeconds.{IsLeapSecondsAt}
 use Rattle.rtk_obs.specs.declared.any_code.AnyCode.{AnyCode}
-use Rattle.rtk_obs.specs.declared.code.Code.{Code}
-use Rattle.rtk_obs.specs.AnyCode.{code_of_gps}
-use Rattle.rtk_rinex.specs.Header.{IsMarker, IsCodeList}
-use Rattle.rtk_setup.specs.Setup.{SetupView, all_of}
+use Rattle.rtk_rinex.specs.Header.{IsMarker}
+use Rattle.rtk_rinex.specs.MixedHead.{GlonassView, MixedHeadView, IsMixedList, has_glonass}
+use Rattle.rtk_setup.specs.Setup.{SetupView}
 use Rattle.rtk_cli.specs.declared.options.ConvertOptions.{ConvertOptions}
 use Rattle.rtk_cli.specs.declared.words.BadWords.{BadWords}
-use Rattle.rtk_cli.specs.declared.words.BadWords.TheVariants.{Near, Made, Codes, Marker, Links}
+use Rattle.rtk_cli.specs.declared.words.BadWords.TheVariants.{Near, Made, Codes, CodeOfSystem, CodeOfGps, Marker, Channels, NoChannels, Links}
 use Rattle.rtk_cli.specs.declared.words.Job.{Job}
 use Rattle.rtk_cli.specs.declared.words.Job.TheVariants.{Convert}
 use Rattle.rtk_cli.specs.declared.words.WordsFault.{WordsFault}
 use Rattle.rtk_cli.specs.FaultLines.{IsRefusal}
 use Rattle.rtk_cli.specs.Words.{AreLinkNames}
-use Rattle.rtk_cli.specs.Steps.CodeList.{Lists}
+use Rattle.rtk_cli.specs.Steps.AnyCodeList.{ListsCodes, in_file_order, IsNameCause}
+use Rattle.rtk_cli.specs.Steps.ChannelList.{WritesChannels, HasNoChannels}
 use Rattle.rtk_cli.specs.Steps.MomentText.{WritesMoment, HasMoment}
 
--- these codes of GPS are what a text lists
-abbrev pub ListsOfGps : List ℕ → List AnyCode → Type 0
-ListsOfGps text listed = (own : List Code) × Lists text own × (listed ≡ map code_of_gps own)
+-- ---- GLONASS
+
+-- formula
+-- the leap seconds of a header: those that are given, or those of the table at the reference (this project's rule)
+abbrev pub IsLeapSecondsOf : Option ℕ → ℕ → ℕ → Type 0
+IsLeapSecondsOf None near n = IsLeapSecondsAt near n
+IsLeapSecondsOf (Some given) near n = n ≡ given
+
+-- the text of an option writes these channels
+abbrev pub SaysChannels : Option (Bor (List ℕ)) → List (Option ℤ) → Type 0
+SaysChannels None channels = ⊥
+SaysChannels (Some text) channels = WritesChannels text.now channels
+
+-- formula
+-- for a file with these codes the options tell this of GLONASS: nothing, without its codes and without channels; with its
+-- codes the channels, and the leap seconds (this project's rule)
+abbrev pub SaysGlonass : ConvertOptions → List AnyCode → ℕ → Option GlonassView → Type 0
+SaysGlonass o listed near None = (has_glonass listed ≡ false) × (o.channels ≡ None)
+SaysGlonass o listed near (Some g) =
+    (has_glonass listed ≡ true) × SaysChannels o.channels g.channels × IsLeapSecondsOf o.leap_seconds near g.leap_seconds
+
+-- the option is there, and its text writes no channels
+abbrev pub HasBadChannels : Option (Bor (List ℕ)) → Type 0
+HasBadChannels None = ⊥
+HasBadChannels (Some text) = HasNoChannels text.now
+
+-- the option is there, and its text writes channels
+abbrev pub HasGoodChannels : Option (Bor (List ℕ)) → Type 0
+HasGoodChannels o = (channels : List (Option ℤ)) × SaysChannels o channels
+
+-- formula
+-- why the options tell nothing that is due of GLONASS: bad channels, or channels without its codes; or its codes without
+-- channels (this project's rule)
+abbrev pub IsGlonassCause : ConvertOptions → List AnyCode → BadWords → Type 0
+IsGlonassCause o listed Channels = HasBadChannels o.channels ⊎ (HasGoodChannels o.channels × (has_glonass listed ≡ false))
+IsGlonassCause o listed NoChannels = (o.channels ≡ None) × (has_glonass listed ≡ true)
+IsGlonassCause o listed _ = ⊥
+
+-- ---- the head
+
+-- the head of these parts: the codes in the order of a file, and what the options tell of GLONASS
+pub record IsHeadOf (o : ConvertOptions) (name : List ℕ) (own : List AnyCode) (moment near : ℕ) (h : MixedHeadView) : Type 0 where
+  pub marker : h.marker ≡ name
+  pub listed : h.listed ≡ in_file_order own
+  pub good : IsMixedList h.listed
+  pub glonass : SaysGlonass o h.listed near h.glonass
+  pub made : h.made ≡ moment
+
+-- formula
+-- why there is no head with these codes: they are not good together; or what is due of GLONASS is not told
+abbrev pub IsHeadCause : ConvertOptions → List AnyCode → BadWords → Type 0
+IsHeadCause o own Codes = ¬ (IsMixedList (in_file_order own))
+IsHeadCause o own cause = IsMixedList (in_file_order own) × IsGlonassCause o (in_file_order own) cause
+
+-- ---- the whole
+
+-- formula
+-- the setup with the leap seconds that are given, or else those of the table (this project's rule)
+abbrev pub with_given : SetupView → Option ℕ → SetupView
+with_given s None = s
+with_given s (Some n) = record s { leap_seconds = Some n }
 
 -- formula
 -- the setup is what the options write
 abbrev pub SaysSetup : ConvertOptions → SetupView → Type 0
 SaysSetup o s =
-    (s.station ≡ o.station) × WritesMoment o.near.now s.near × WritesMoment o.made.now s.head.made
-    × (s.head.marker ≡ o.marker.now) × ListsOfGps o.codes.now s.head.listed × (s.window ≡ o.window)
-    × (s.kinds ≡ all_of o.msm)
+    (s.station ≡ o.station) × WritesMoment o.near.now s.near
+    × ((own : List AnyCode) × (made : ℕ) × ListsCodes o.codes.now own × WritesMoment o.made.now made × IsHeadOf o o.marker.now own made s.near s.head)
+    × (s.window ≡ o.window) × (s.kinds ≡ o.kinds) × (s.leap_seconds ≡ o.leap_seconds)
 
 -- the job is the conversion that the options and the names of the links say
 abbrev pub SaysConversion : ConvertOptions → List (List ℕ) → Job → Type 0
@@ -40,29 +100,36 @@ HasTimes o = HasMoment o.near.now × HasMoment o.made.now
 
 -- and each name of the list is a code's
 abbrev pub HasNames : ConvertOptions → Type 0
-HasNames o = HasTimes o × ((listed : List Code) × Lists o.codes.now listed)
+HasNames o = HasTimes o × ((own : List AnyCode) × ListsCodes o.codes.now own)
 
 -- and the marker is good
 abbrev pub HasMarker : ConvertOptions → Type 0
 HasMarker o = HasNames o × IsMarker o.marker.now
 
--- and the codes are good together
+-- and the codes are good together, and what is due of GLONASS is told
 abbrev pub HasHead : ConvertOptions → Type 0
-HasHead o = HasMarker o × ((listed : List Code) × Lists o.codes.now listed × IsCodeList listed)
+HasHead o = HasMarker o × ((own : List AnyCode) × (made : ℕ) × (near : ℕ) × (h : MixedHeadView) × ListsCodes o.codes.now own × IsHeadOf o o.marker.now own made near h)
+
+-- the cause is that of a head, and what comes before it is good
+abbrev pub HasHeadCause : ConvertOptions → BadWords → Type 0
+HasHeadCause o cause = HasMarker o × ((own : List AnyCode) × ListsCodes o.codes.now own × IsHeadCause o own cause)
 
 -- formula
 -- this is the first cause for which the words are refused, in this order: the form of the
 -- reference, the form of the time of making, the names of the codes, the marker, the codes
--- together, the links, and last a reference near which nothing is dated (this project's rule)
+-- together, the channels, codes of GLONASS without channels, the links, and last a reference near which nothing is dated
+-- (this project's rule)
 abbrev pub IsFirstCause : ConvertOptions → List (List ℕ) → BadWords → Type 0
 IsFirstCause o names Near =
     ¬ (HasMoment o.near.now)
     ⊎ (HasHead o × AreLinkNames names × ((t : ℕ) × WritesMoment o.near.now t × ¬ (IsReference t)))
 IsFirstCause o names Made = HasMoment o.near.now × ¬ (HasMoment o.made.now)
-IsFirstCause o names Codes =
-    (HasTimes o × ((listed : List Code) → ¬ (Lists o.codes.now listed)))
-    ⊎ (HasMarker o × ((listed : List Code) × Lists o.codes.now listed × ¬ (IsCodeList listed)))
+IsFirstCause o names Codes = (HasTimes o × IsNameCause o.codes.now Codes) ⊎ HasHeadCause o Codes
+IsFirstCause o names (CodeOfSystem s) = HasTimes o × IsNameCause o.codes.now (CodeOfSystem s)
+IsFirstCause o names (CodeOfGps c) = HasTimes o × IsNameCause o.codes.now (CodeOfGps c)
 IsFirstCause o names Marker = HasNames o × ¬ (IsMarker o.marker.now)
+IsFirstCause o names Channels = HasHeadCause o Channels
+IsFirstCause o names NoChannels = HasHeadCause o NoChannels
 IsFirstCause o names Links = HasHead o × ¬ (AreLinkNames names)
 IsFirstCause o names _ = ⊥
 

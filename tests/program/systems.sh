@@ -1,0 +1,296 @@
+#!/bin/sh
+# Runs `convert` with codes of all systems as a user does. The program is $1. The payloads and their values were worked out by
+# hand from the tables of RTCM 10403.3.
+. "$(dirname "$(readlink -f "$0")")/common"
+here=$root/tests/program
+near=2024-05-17T12:00:00
+made=2024-05-17T13:00:00
+
+# convert CODES WORD..: of station 1 near noon, marker BASE
+convert() {
+    codes=$1
+    shift
+    run convert --station 1 --near $near --made $made --marker BASE --codes "$codes" "$@"
+}
+
+# bad_words NAME LINE [MORE]: nothing is out, and standard error has this fault line, and one line more
+bad_words() {
+    expect "$1" 2 '' "rtcm2rinex: $2${3:+
+$3}"
+}
+
+# ---- the names of codes
+
+codes_of_G='codes of G: 1C 1P 1W 1S 1L 1X 2C 2D 2P 2W 2S 2L 2X 5I 5Q 5X'
+codes_of_R='codes of R: 1C 1P 2C 2P'
+codes_of_E='codes of E: 1C 1B 1X 6C 6B 6X 7I 7Q 7X 8I 8Q 8X 5I 5Q 5X'
+codes_of_C='codes of C: 2I 2Q 2X 6I 6Q 6X 7I 7Q 7X 5D 5P 5X 7D 1D 1P 1X'
+codes_of_J='codes of J: 1C 6S 6L 6X 2S 2L 2X 5I 5Q 5X 1S 1L 1X'
+codes_of_S='codes of S: 1C 5I 5Q 5X'
+codes_of_I='codes of I: 5A'
+# A name of three characters with the letter of a system, which is no code of it.
+for name in G9Z R5C E1A E1Z E6A E6Z C1C J1E S2C I1C G5A R2X; do
+    convert $name a
+    eval "more=\$codes_of_${name%??}"
+    # pins: codes_line, IsCauseOfName, code_word
+    bad_words "code_$name" 'bad --codes' "$more"
+done
+# A code of GPS has no letter.
+for code in ${codes_of_G#*: }; do
+    convert G$code a
+    # pins: short_code_line, IsCauseOfName
+    bad_words "code_G$code" 'bad --codes' "GPS codes have two characters: $code"
+done
+# Other names have no second line.
+for name in e1X X1C E1 E1XX 1CC ' E1X' 'E1X ' 'E1X,' ',E1X' E1X,,E1B 'E1X;E1B' E 9Z,E1A 1C,1,G1C E1C,r1C; do
+    convert "$name" a
+    # pins: ListsCodes
+    bad_words "codes_$name" 'bad --codes'
+done
+# The first bad name counts.
+# pins: IsNameCause
+convert 1C,E1A,R9Z a;   bad_words first_of_two_names 'bad --codes' "$codes_of_E"
+convert E1C,G1C,9Z a;   bad_words first_of_two_other_names 'bad --codes' 'GPS codes have two characters: 1C'
+# pins: IsHeadCause
+convert 1C,E1C,1C a;    bad_words code_of_gps_twice 'bad --codes'
+convert E1C,1C,E1C a;   bad_words code_of_galileo_twice 'bad --codes'
+convert R1C,R1C a;      bad_words code_of_glonass_twice 'bad --codes'
+# All codes of all systems are a good list, in any order.
+all=$(for letter in I S J C E R G; do
+    eval "codes=\$codes_of_$letter"
+    for code in ${codes#*: }; do echo "$letter$code"; done
+done | sed 's/^G//' | paste -sd,)
+convert "$all" --channels none nowhere; expect all_codes 1 '' 'rtcm2rinex: cannot open nowhere'
+convert "$all,1C" --channels none nowhere; bad_words all_codes_and_one_twice 'bad --codes'
+
+# ---- the channels
+
+for channels in '' NONE none, nones 1 1: :1 0:1 28:1 1:7 1:-8 1:-0 1:+1 01:1 1:01 1:1, ,1:1 1:1,,2:2 1:1,1:1 1:1,2:2,1:2 \
+    '1:1;2:2' '1:1 ' ' 1:1' '1: 1' R01:1 1:1:1 1::1 1-1 -1:1 none,1:1 1:10 100:1 1:--1 1:-1- 1.5:1; do
+    convert R1C "--channels=$channels" a
+    # pins: WritesChannels, HasNoChannels, ListsSlots, slot_parts, slot_word, channel_word
+    bad_words "channels_$channels" 'bad --channels'
+done
+every=$(for slot in $(seq 27); do echo "$slot:$((slot % 14 - 7))"; done | paste -sd,)
+for channels in none 27:-7 1:6 9:0 10:-1,9:-1 "$every"; do
+    convert R1C --channels $channels nowhere
+    # pins: WritesSlots, is_none_word
+    expect "good_channels_$channels" 1 '' 'rtcm2rinex: cannot open nowhere'
+done
+convert R1C nowhere;                   bad_words no_channels 'R codes need --channels'
+convert 1C,E1C,R2P nowhere;            bad_words no_channels_among_other_codes 'R codes need --channels'
+convert 1C,E1C --channels 1:1 nowhere; bad_words channels_without_codes 'bad --channels'
+convert 1C --channels none nowhere;    bad_words no_channels_without_codes 'bad --channels'
+
+# ---- which cause comes first
+
+# words NEAR MARKER CODES WORD..
+words() {
+    near_=$1 marker_=$2 codes_=$3
+    shift 3
+    run convert --station 1 --near "$near_" --made $made --marker "$marker_" --codes "$codes_" "$@"
+}
+early=1980-01-06T00:00:00
+words noon ' X' E1A --channels x stdin stdin;     bad_words times_before_names 'bad --near'
+words $early ' X' E1A --channels x stdin stdin;   bad_words names_before_the_marker 'bad --codes' "$codes_of_E"
+words $early ' X' R1C,R1C --channels x stdin stdin; bad_words the_marker_before_the_list 'bad --marker'
+words $early X R1C,R1C --channels x stdin stdin;  bad_words the_list_before_channels 'bad --codes'
+words $early X R1C,R1C stdin stdin;               bad_words the_list_before_missing_channels 'bad --codes'
+words $early X R1C --channels x stdin stdin;      bad_words channels_before_links 'bad --channels'
+words $early X R1C stdin stdin;                   bad_words missing_channels_before_links 'R codes need --channels'
+words $early X R1C --channels none stdin stdin;   bad_words links_before_the_reference 'bad links'
+# pins: IsFirstCause
+words $early X R1C --channels none nowhere;       bad_words the_reference_last 'bad --near'
+
+# ---- the kinds, and the leap seconds
+
+# bad_value NAME OPTION VALUE WHY
+bad_value() {
+    run convert "$2=$3" a
+    expect "$1" 2 '' "$(error "invalid value '$3' for '$2 <N>': $4")"
+}
+for kinds in 7,E8 7,E3 7,E4,E5 7,E4,C4,E4 E4 7, 7,,E4 7,X4 7,e4 7,E ,E4 7E4 7,E4, '7, E4' '7,E4 ' 7,E44 7,4E 7,E4,5; do
+    # pins: WritesKinds, exception_word, has_letters_once
+    bad_value "kinds_$kinds" --msm "$kinds" 'invalid digit found in string'
+done
+bad_value kinds_of_two_digits --msm 74 '74 is not in 4..=7'
+bad_value leap_seconds_of_100 --leap-seconds 100 '100 is not in 0..=99'
+bad_value leap_seconds_of_no_digits --leap-seconds x 'invalid digit found in string'
+for kinds in 7 007 +7 7,E4 4,G7,R6,E5,C4,J7,S6,I5; do
+    convert 1C --msm $kinds --leap-seconds 0 nowhere
+    expect "good_kinds_$kinds" 1 '' 'rtcm2rinex: cannot open nowhere'
+done
+# A link may have the name of a good list; it makes no other list good.
+convert 1C 7,E4;             expect link_of_the_name_of_kinds 1 '' 'rtcm2rinex: cannot open 7,E4'
+convert 1C --msm 8 7,E4;     [ "$status" -eq 2 ] && right no_kind_beside_such_a_link || wrong no_kind_beside_such_a_link "status $status"
+
+# ---- files
+
+# The payloads, each of one cell at noon.
+G05_5X=435001714BE8000000040000000000000000000080518200FB53FB500023285E05920190
+R10_2P=43F001ACDECCC00000002000000000000000400000508BE9FB538ACFCB71B01FF4B00190
+E36_7Q=446001714BE80000000000000008000000000100005580015B40D579E310
+E11_8X=449001714BE800000000100000000000000000080054C309FB502BF27F1AEE52C5A40190
+C41_1P=467001714B0D400000000000000040000000000001534122FB5060734F4240E8057A0190
+J01_1X=45D001714BE8000000400000000000000000000000DE8243FB5077C581CD5528A5DA0190
+S58_5I=453001714BE80000000000000001000000000002006083FFFB5200006000006C00020190
+I14_5A=471001714BE800000000020000000000000000020052C12CFB5000FA0001F40145000190
+seven="$G05_5X $R10_2P $E11_8X $C41_1P $J01_1X $S58_5I $I14_5A"
+
+# lines: each `TEXT|LABEL` as a line of a header, whose label begins in column 61
+lines() {
+    while IFS='|' read -r text label; do printf '%-60s%-20s\n' "$text" "$label"; done
+}
+# begins LETTER: the lines up to the antenna's height
+begins() {
+    lines <<LINES
+     3.05           OBSERVATION DATA    $1|RINEX VERSION / TYPE
+rtcm2rinex                              20240517 130000 UTC|PGM / RUN BY / DATE
+BASE|MARKER NAME
+GEODETIC|MARKER TYPE
+|OBSERVER / AGENCY
+|REC # / TYPE / VERS
+|ANT # / TYPE
+        0.0000        0.0000        0.0000|APPROX POSITION XYZ
+        0.0000        0.0000        0.0000|ANTENNA: DELTA H/E/N
+LINES
+}
+# glonass SLOTS LEAP_SECONDS: the lines of GLONASS and the end
+glonass() {
+    lines <<LINES
+$1|GLONASS SLOT / FRQ #
+|GLONASS COD/PHS/BIS
+$2|LEAP SECONDS
+|END OF HEADER
+LINES
+}
+
+{
+    begins M
+    lines <<LINES
+G    3 C5X L5X S5X|SYS / # / OBS TYPES
+R    3 C2P L2P S2P|SYS / # / OBS TYPES
+E    3 C8X L8X S8X|SYS / # / OBS TYPES
+C    3 C1P L1P S1P|SYS / # / OBS TYPES
+J    3 C1X L1X S1X|SYS / # / OBS TYPES
+S    3 C5I L5I S5I|SYS / # / OBS TYPES
+I    3 C5A L5A S5A|SYS / # / OBS TYPES
+DBHZ|SIGNAL STRENGTH UNIT
+  2024     5    17    12     0    0.0000000     GPS|TIME OF FIRST OBS
+G|SYS / PHASE SHIFT
+R|SYS / PHASE SHIFT
+E|SYS / PHASE SHIFT
+C|SYS / PHASE SHIFT
+J|SYS / PHASE SHIFT
+S|SYS / PHASE SHIFT
+I|SYS / PHASE SHIFT
+LINES
+    glonass '  1 R10 -5' '    18'
+    cat <<RECORD
+> 2024 05 17 12 00  0.0000000  0  7
+G05  21135365.609 7  82939744.722 7        44.500
+R10  20079294.057 6  83309237.891 6        37.500
+E11  25110278.381 7  99823175.832 7        45.250
+C41  23168976.578 7 121756438.318 7        43.750
+J01  36744259.918 7 193092375.800 7        46.750
+S58  39272226.466 1 154109205.616 1         0.250
+I14  22572264.730 6  88578414.182 6        40.000
+RECORD
+} >seven.rnx
+{ printf 'other-channel -\nno-channel -\n'; report 7 0 0 0 7 0 0 0 1; } >seven.report
+python3 "$here/framed.py" $seven >seven.rtcm
+python3 "$here/framed.py" $I14_5A $E11_8X $R10_2P $G05_5X $S58_5I $C41_1P $J01_1X >turned.rtcm
+# pins: in_file_order, code_word, SaysSetup
+convert 5X,R2P,E8X,C1P,J1X,S5I,I5A --msm 7 --channels 10:-5 seven.rtcm;  leaves seven_systems 0 seven.rnx seven.report
+convert 5X,R2P,E8X,C1P,J1X,S5I,I5A --msm 7 --channels 10:-5 turned.rtcm; leaves seven_systems_in_another_order 0 seven.rnx seven.report
+# refuses: systems that stand in the order of the words
+convert I5A,S5I,J1X,C1P,E8X,R2P,5X --msm 7 --channels 10:-5 seven.rtcm;  leaves codes_in_another_order 0 seven.rnx seven.report
+cp out written.rnx; run check written.rnx; expect check_of_seven_systems 0 'valid: 1 epochs, 7 satellite lines' ''
+{ printf 'other-channel -\nno-channel -\n'; report 14 0 0 0 7 7 0 0 1; } >twice.report
+convert 5X,R2P,E8X,C1P,J1X,S5I,I5A --msm 7 --channels 10:-5 seven.rtcm turned.rtcm; leaves seven_systems_over_two_links 0 seven.rnx twice.report
+
+# Kinds of systems: 1077 beside 1094.
+{
+    begins M
+    lines <<LINES
+G    3 C5X L5X S5X|SYS / # / OBS TYPES
+E    3 C7Q L7Q S7Q|SYS / # / OBS TYPES
+DBHZ|SIGNAL STRENGTH UNIT
+  2024     5    17    12     0    0.0000000     GPS|TIME OF FIRST OBS
+G|SYS / PHASE SHIFT
+E|SYS / PHASE SHIFT
+|END OF HEADER
+LINES
+} >kinds_header
+{
+    cat kinds_header
+    cat <<RECORD
+> 2024 05 17 12 00  0.0000000  0  2
+G05  21135365.609 7  82939744.722 7        44.500
+E36  25782201.028 8 103814285.756 8        49.000
+RECORD
+} >kinds.rnx
+report 2 0 0 0 2 0 0 0 1 >kinds.report
+python3 "$here/framed.py" $G05_5X $E36_7Q >kinds.rtcm
+convert E7Q,5X --msm 7,E4 kinds.rtcm;         leaves kinds_of_two_systems 0 kinds.rnx kinds.report
+convert 5X,E7Q --msm=4,R5,G7 kinds.rtcm;      leaves kinds_of_three_systems 0 kinds.rnx kinds.report
+{
+    cat kinds_header
+    cat <<RECORD
+> 2024 05 17 12 00  0.0000000  0  1
+G05  21135365.609 7  82939744.722 7        44.500
+RECORD
+} >gps.rnx
+{ echo 'no-message E'; report 2 1 0 0 1 0 0 0 1; } >gps.report
+# pins: WritesKinds
+convert 5X,E7Q --msm 7 kinds.rtcm; leaves another_kind_is_left_out 0 gps.rnx gps.report
+
+# GLONASS alone: its channels, and its leap seconds.
+# of_glonass SLOTS LEAP_SECONDS TIME_OF_FIRST LINE..: a file of 2P
+of_glonass() {
+    begins R
+    lines <<LINES
+R    3 C2P L2P S2P|SYS / # / OBS TYPES
+DBHZ|SIGNAL STRENGTH UNIT
+$3     GPS|TIME OF FIRST OBS
+R|SYS / PHASE SHIFT
+LINES
+    glonass "$1" "$2"
+    shift 3
+    printf '%s\n' "$@"
+}
+# channels_tell OTHER NO: a report of one message
+channels_tell() {
+    printf 'other-channel %s\nno-channel %s\n' "$1" "$2"
+    report 1 0 0 0 1 0 0 0 1
+}
+noon='  2024     5    17    12     0    0.0000000'
+at_noon='> 2024 05 17 12 00  0.0000000  0  1'
+without_phase='R10  20079294.057 6                          37.500'
+python3 "$here/framed.py" $R10_2P >glonass.rtcm
+of_glonass '  1 R10 -5' '    18' "$noon" "$at_noon" 'R10  20079294.057 6  83309237.891 6        37.500' >want; channels_tell - - >told
+convert R2P --msm 7 --channels 10:-5 glonass.rtcm;               leaves channel_of_the_message 0 want told
+of_glonass '  1 R10 -7' '    18' "$noon" "$at_noon" "$without_phase" >want; channels_tell R10 - >told
+# pins: AreChannelsOf
+convert R2P --msm 7 --channels 10:-7 glonass.rtcm;               leaves another_channel 0 want told
+of_glonass '  0' '    18' "$noon" "$at_noon" "$without_phase" >want; channels_tell - R10 >told
+convert R2P --msm 7 --channels none glonass.rtcm;                leaves no_channels_at_all 0 want told
+of_glonass '  1 R09 -6' '    18' "$noon" "$at_noon" "$without_phase" >want; channels_tell - R10 >told
+convert R2P --msm 7 --channels 9:-6 glonass.rtcm;                leaves a_channel_of_another_slot 0 want told
+of_glonass '  1 R10 -5' '    17' '  2024     5    17    11    59   59.0000000' '> 2024 05 17 11 59 59.0000000  0  1' \
+    'R10  20079294.057 6  83309237.891 6        37.500' >want
+channels_tell - - >told
+# pins: with_given, IsLeapSecondsOf
+convert R2P --msm 7 --channels 10:-5 --leap-seconds 17 glonass.rtcm; leaves leap_seconds_that_are_given 0 want told
+: >nothing
+{ of_glonass '  1 R10 -5' '    18' "$noon" | sed '$d'; } >want
+{ printf 'other-channel -\nno-channel -\nno-message R\n'; report 0 0 0 0 0 0 0 0 0; } >told
+convert R2P --channels 10:-5 nothing;                            leaves an_empty_capture_of_glonass 0 want told
+
+# `auto` finds codes of GPS alone, and refuses others by one line.
+for codes in E1X G1C R1C 1C,E1X; do
+    run auto --codes "$codes" seven.rtcm
+    expect "auto_codes_$codes" 2 '' 'rtcm2rinex: bad --codes'
+done
+
+ends
