@@ -5,8 +5,8 @@ use Rattle.rtk_obs.specs.AnyCode.{system_of}
 use Rattle.rtk_convert.proofs.CodesLemmas.{codes-all, codes-between}
 use Rattle.rtk_convert.proofs.epoch_rows.codes_of.Goals as goal
 
-pub returns-then-first-system-then-last-system : goal.returns-then-first-system-then-last-system
-returns-then-first-system-then-last-system c =
+pub returns-then-eq-2 : goal.returns-then-eq-2
+returns-then-eq-2 c =
     let listed = c.args.listed.now in
     let some = c.requires.count.0 in
     let inside : length listed - 1 < length listed = omega (arith, some) in
