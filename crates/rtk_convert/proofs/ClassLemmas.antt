@@ -65,30 +65,26 @@ takes-other s number other = cond-false (eqb number 1004) (lists_system s.head.l
 pub read-one : (s : SetupView) (r : Result Message AnyFault) (m : Message) → IfOk r (λ x. IsReadMessage s x) → r ≡ Ok m → IsReadMessage s m
 read-one s r m h is = subst (λ (x : Result Message AnyFault). IfOk x (λ y. IsReadMessage s y)) is h
 
-taken-is : (s : SetupView) (m : Message) (number : ℕ) (answer expected : Bool) → number ≡ number_of m → answer ≡ takes s number → answer ≡ expected → takes s (number_of m) ≡ expected
-taken-is s m number answer expected is asked told = ap (λ (n : ℕ). takes s n) (sym is) ∙ sym asked ∙ told
-
 -- one that the setup does not take
-pub class-other : (s : SetupView) (r : Result Message AnyFault) (m : Message) (number : ℕ) (answer : Bool) → r ≡ Ok m → number ≡ number_of m → answer ≡ takes s number → answer ≡ false
-    → IsClassOfReading s r OtherMessage
-class-other s r m number answer is named asked told =
-    let not_taken = taken-is s m number answer false named asked told in
+pub class-other : (s : SetupView) (r : Result Message AnyFault) (m : Message) (answer : Bool) → r ≡ Ok m → answer ≡ takes s (number_of m) → answer ≡ false → IsClassOfReading s r OtherMessage
+class-other s r m answer is asked told =
+    let not_taken : takes s (number_of m) ≡ false = sym asked ∙ told in
     subst (λ (x : Result Message AnyFault). IsClassOfReading s x OtherMessage) (sym is)
     (subst (λ (b : Bool). IsClassIf b s m OtherMessage) (sym not_taken) refl)
 
 -- one of another station
-pub class-foreign : (s : SetupView) (r : Result Message AnyFault) (m : Message) (number station own : ℕ) (answer : Bool) → r ≡ Ok m → number ≡ number_of m → answer ≡ takes s number → answer ≡ true
+pub class-foreign : (s : SetupView) (r : Result Message AnyFault) (m : Message) (station own : ℕ) (answer : Bool) → r ≡ Ok m → answer ≡ takes s (number_of m) → answer ≡ true
     → station ≡ station_of m → own ≡ s.station → station ≢ own → IsClassOfReading s r Foreign
-class-foreign s r m number station own answer is named asked told of chosen other =
-    let taken = taken-is s m number answer true named asked told in
+class-foreign s r m station own answer is asked told of chosen other =
+    let taken : takes s (number_of m) ≡ true = sym asked ∙ told in
     subst (λ (x : Result Message AnyFault). IsClassOfReading s x Foreign) (sym is)
     (subst (λ (b : Bool). IsClassIf b s m Foreign) (sym taken) (λ q. other (of ∙ q ∙ sym chosen)))
 
 -- one of the chosen station, with its epoch
-pub class-dated : (s : SetupView) (r : Result Message AnyFault) (m : Message) (number station own : ℕ) (answer : Bool) (a : Arrival) → r ≡ Ok m → number ≡ number_of m → answer ≡ takes s number → answer ≡ true
+pub class-dated : (s : SetupView) (r : Result Message AnyFault) (m : Message) (station own : ℕ) (answer : Bool) (a : Arrival) → r ≡ Ok m → answer ≡ takes s (number_of m) → answer ≡ true
     → station ≡ station_of m → own ≡ s.station → station ≡ own → IsDatedMessage s m a → IsClassOfReading s r (Dated a)
-class-dated s r m number station own answer a is named asked told of chosen same dated =
-    let taken = taken-is s m number answer true named asked told in
+class-dated s r m station own answer a is asked told of chosen same dated =
+    let taken : takes s (number_of m) ≡ true = sym asked ∙ told in
     subst (λ (x : Result Message AnyFault). IsClassOfReading s x (Dated a)) (sym is)
     (subst (λ (b : Bool). IsClassIf b s m (Dated a)) (sym taken) (sym of ∙ same ∙ chosen, dated))
 

@@ -158,6 +158,38 @@ module _ (s : System) where
       ∙ take-own (drop b listed) (e - b) (omega arith) (λ k d lt. ap system_of (at-drop listed b k d) ∙ own (b + k) d (omega arith) (omega arith))
       ∙ ap (λ (xs : List AnyCode). take (e - b) (drop b listed) ++ xs) after ∙ append-nil (take (e - b) (drop b listed)))
 
+  -- between two codes of the system stand codes of the system
+  same-between : (listed : List AnyCode) → IsMixedList listed → ((d : AnyCode) → system_of (get_or listed 0 d) ≡ s) → ((d : AnyCode) → system_of (get_or listed (length listed - 1) d) ≡ s)
+      → (k : ℕ) (d : AnyCode) → k < length listed → system_of (get_or listed k d) ≡ s
+  same-between listed list first last k d lt =
+      elim (cases_lt 0 k) [
+        | inr here ↦
+            let at : 0 ≡ k = omega arith in
+            subst (λ (i : ℕ). system_of (get_or listed i d) ≡ s) at (first d)
+        | inl after ↦ elim (cases_lt k (length listed - 1)) [
+          | inr here ↦
+              let at : length listed - 1 ≡ k = omega arith in
+              subst (λ (i : ℕ). system_of (get_or listed i d) ≡ s) at (last d)
+          | inl before ↦
+              let rises = (list.order 0 k d after lt).systems in
+              let falls = (list.order k (length listed - 1) d before (omega arith)).systems in
+              let low : codes_before s ≤ codes_before (system_of (get_or listed k d)) = subst (λ (t : System). codes_before t ≤ codes_before (system_of (get_or listed k d))) (first d) rises in
+              let high : codes_before (system_of (get_or listed k d)) ≤ codes_before s = subst (λ (t : System). codes_before (system_of (get_or listed k d)) ≤ codes_before t) (last d) falls in
+              before-once (system_of (get_or listed k d)) s (omega arith)
+        ]
+      ]
+
+  all-own : (cs : List AnyCode) → ((k : ℕ) (d : AnyCode) → k < length cs → system_of (get_or cs k d) ≡ s) → filter is_own cs ≡ cs
+  all-own [] h = refl
+  all-own (c ∷ cs) h =
+      cond-true (is_own c) (c ∷ filter is_own cs) (filter is_own cs) (own-is c (h 0 c (omega arith)))
+      ∙ ap (λ (xs : List AnyCode). c ∷ xs) (all-own cs (λ k d lt. h (suc k) d (omega arith)))
+
+  -- if the first and the last code are of the system, all are
+  pub codes-all : (listed : List AnyCode) → IsMixedList listed → ((d : AnyCode) → system_of (get_or listed 0 d) ≡ s) → ((d : AnyCode) → system_of (get_or listed (length listed - 1) d) ≡ s)
+      → listed ≡ codes_of (letter_of s) listed
+  codes-all listed list first last = sym (all-own listed (same-between listed list first last))
+
 -- ---- the codes of a row
 
 module _ (listed : List AnyCode) (satellite : ℕ) (s : System) (codes : List AnyCode) (list : IsMixedList listed) (is : codes ≡ codes_of (letter_of s) listed) where

@@ -79,6 +79,16 @@ at-navic n a = rw (above n 32 (omega arith), above n 59 (omega arith), above n 9
 abbrev pub last_of : System → ℕ
 last_of s = satellites_before s + satellites_of_system s
 
+-- no system ends before GPS, which comes first
+pub not-after-gps : (s : System) → 32 ≤ last_of s
+not-after-gps Gps = omega arith
+not-after-gps Glonass = omega arith
+not-after-gps Galileo = omega arith
+not-after-gps Beidou = omega arith
+not-after-gps Qzss = omega arith
+not-after-gps Sbas = omega arith
+not-after-gps Navic = omega arith
+
 -- what holds of each system with its satellites
 by-satellite : (P : System → Type 0) (n : ℕ) → IsSatelliteIndex n → (n ≤ 32 → P Gps) → (32 < n → n ≤ 59 → P Glonass) → (59 < n → n ≤ 95 → P Galileo) → (95 < n → n ≤ 158 → P Beidou)
     → (158 < n → n ≤ 168 → P Qzss) → (168 < n → n ≤ 207 → P Sbas) → (207 < n → n ≤ 221 → P Navic) → P (system_at n)

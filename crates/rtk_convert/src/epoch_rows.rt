@@ -64,6 +64,7 @@ const CODES: usize = 16;
 
 // Returns where each code stands among the codes of a row, by its place among those of its system, or 16.
 // A row has at most 16 codes, whose places are 0 to 15, so 16 is where none stands.
+#[inline(always)]
 fn columns_of(codes: &[AnyCode]) -> [u8; CODES]
     requires few { length codes.now ≤ 16 }
     requires distinct { AllPairs (λ a b. place_of a ≢ place_of b) codes.now }
@@ -130,17 +131,26 @@ fn codes_end(listed: &[AnyCode], system: System, begin: usize) -> usize
     listed.len()
 }
 
-// Returns the codes of a system, which stand one after another.
+// Returns the codes of a system, which stand one after another. All codes are of the system if the first and the
+// last one are, as in each file of one system.
+#[inline(always)]
 fn codes_of(listed: &[AnyCode], system: System) -> &[AnyCode]
     requires { IsMixedList listed.now }
     ensures { result.now ≡ codes_of (letter_of system) listed.now }
 {
+    let first = listed[0].system();
+    let last = listed[listed.len() - 1].system();
+    if first == system && last == system {
+        return listed;
+    }
     let begin = codes_before(listed, system);
     let end = codes_end(listed, system, begin);
     &listed[begin..end]
 }
 
-// Returns what the rows from this satellite on have in common, up to the last one of its system.
+// Returns what the rows from this satellite on have in common, up to the last one of its system. It is inlined,
+// since an epoch begins with the first satellite, of which much is known beforehand.
+#[inline(always)]
 fn form_from(epoch: GpsMs, listed: &[AnyCode], satellite: u8) -> RowForm<'_>
     requires listed { IsMixedList listed.now }
     requires satellite { IsSatelliteIndex satellite }
@@ -148,6 +158,7 @@ fn form_from(epoch: GpsMs, listed: &[AnyCode], satellite: u8) -> RowForm<'_>
     ensures codes { AreCodesTo listed.now satellite result.last result.codes.now }
     ensures columns { ArePlaces result.codes.now result.columns }
     ensures last { (satellite ≤ result.last) × (result.last ≤ 221) }
+    ensures least { 32 ≤ result.last }
 {
     let Some(index) = SatelliteIndex::new(satellite) else {
         unreachable!()
@@ -162,20 +173,27 @@ fn form_from(epoch: GpsMs, listed: &[AnyCode], satellite: u8) -> RowForm<'_>
     }
 }
 
-// Makes the form anew for the row of a satellite that is behind the last one of the form's system. No copy is
-// made of a form that stays, since there is a row for each satellite of each epoch.
+// Makes the form anew for the row of a satellite that is behind the last one of the form's system. There is a
+// row for each satellite of each epoch, so no copy is made of a form that stays, and where all rows are of GPS
+// nothing is asked.
 #[inline(always)]
-fn renew_form<'a>(form: &mut RowForm<'a>, listed: &'a [AnyCode], satellite: u8)
+fn renew_form<'a, E: FileEntry>(form: &mut RowForm<'a>, listed: &'a [AnyCode], satellite: u8)
     requires listed { IsMixedList listed.now }
     requires satellite { IsSatelliteIndex satellite }
+    requires within { satellite ≤ E.Lines.greatest }
     requires codes { satellite ≤ form.old.last → AreCodesTo listed.now satellite form.old.last form.old.codes.now }
     requires columns { ArePlaces form.old.codes.now form.old.columns }
     requires last { form.old.last ≤ 221 }
+    requires least { 32 ≤ form.old.last }
     ensures epoch { form.new.epoch ≡ form.old.epoch }
     ensures codes { AreCodesTo listed.now satellite form.new.last form.new.codes.now }
     ensures columns { ArePlaces form.new.codes.now form.new.columns }
     ensures last { (satellite ≤ form.new.last) × (form.new.last ≤ 221) }
+    ensures least { 32 ≤ form.new.last }
 {
+    if E::Lines::has_gps_alone() {
+        return;
+    }
     if satellite > form.last {
         *form = form_from(form.epoch, listed, satellite);
     }
@@ -383,7 +401,7 @@ pub(crate) fn push_rows<E: FileEntry>(
     let mut form = form_from(epoch, listed, 1);
     let mut at = CellPlaces { msm: 0, legacy: 0 };
     'satellites: while let Some(satellite) = next_satellite(msm, legacy, at) {
-        renew_form(&mut form, listed, satellite);
+        renew_form::<E>(&mut form, listed, satellite);
         lines.open_line(form.codes.len())?;
         at = fill_line(phases, &form, satellite, msm, legacy, at, lines);
         lines.close_line(satellite)?;

@@ -2,7 +2,7 @@
 
 ghost use Rattle.std.specs.Prelude.{◌≡◌, IfOk};
 ghost use Rattle.rtk_bits.specs.Bits.{bits};
-ghost use Rattle.rtk_message.specs.AnyDecoded.{DecodesBy};
+ghost use Rattle.rtk_message.specs.AnyDecoded.{DecodesBy, number_of};
 ghost use Rattle.rtk_convert.specs.FrameClass.{IsDatedMessage, IsClassOfReading, system_of, class_of_fault};
 ghost use Rattle.rtk_setup.specs.Setup.{taken_by, takes};
 ghost use Rattle.rtk_convert.specs.Steps.ReadMessage.{IsRead, IsReadMessage};
@@ -67,14 +67,14 @@ fn dated_message<'a>(setup: &Setup, message: &'a AnyMessage) -> DatedRef<'a>
     DatedRef::of_any(message, Some(epoch))
 }
 
-// Returns whether the setup takes messages of a number that was read. A 1004 is read whatever the codes
-// are, and taken with codes of GPS alone.
+// Returns whether the setup takes a message that was read. A 1004 is read whatever the codes are, and taken
+// if one of them is of GPS. The number is asked last, since with a code of GPS all that is read is taken.
 #[inline(always)]
-fn is_taken(setup: &Setup, number: u16) -> bool
-    requires { IsRead setup.now number }
-    ensures { result ≡ takes setup.now number }
+fn is_taken(setup: &Setup, message: &AnyMessage) -> bool
+    requires { IsRead setup.now (number_of message.now) }
+    ensures { result ≡ takes setup.now (number_of message.now) }
 {
-    number != LEGACY || setup.takes_gps()
+    setup.takes_gps() || message.number() != LEGACY
 }
 
 // Returns whether the setup takes messages of a number.
@@ -108,6 +108,9 @@ fn class_of_fault<'a>(setup: &Setup, fault: AnyFault) -> FrameClass<'a>
 
 /// Returns the class of a payload that is read so, which is a message that the class borrows, or a
 /// fault.
+///
+/// It is inlined, so that the class of a message is told by branches and not by a value in memory.
+#[inline(always)]
 pub(crate) fn classify<'a>(
     setup: &Setup,
     reading: &'a Result<AnyMessage, AnyFault>,
@@ -117,7 +120,7 @@ pub(crate) fn classify<'a>(
 {
     match reading {
         Ok(message) => {
-            if !is_taken(setup, message.number()) {
+            if !is_taken(setup, message) {
                 return FrameClass::OtherMessage;
             }
             if message.station() != setup.station() {

@@ -1,6 +1,6 @@
 //! The text of a record, whose lines are written code by code.
 
-ghost use Rattle.std.specs.Prelude.{◌≡◌, ℕ, ◌≤◌, false, List, [], ◌∷◌, ◌++◌, replicate, slice_set, OnOk};
+ghost use Rattle.std.specs.Prelude.{◌≡◌, ℕ, ◌≤◌, false, IsTrue, List, [], ◌∷◌, ◌++◌, replicate, slice_set, OnOk};
 ghost use Rattle.rtk_obs.specs.SatelliteIndex.{IsSatelliteIndex};
 ghost use Rattle.rtk_rinex.specs.declared.epoch_table.Observed.{Observed};
 ghost use Rattle.rtk_rinex.specs.declared.epoch_table.SatelliteRow.{SatelliteRow};
@@ -66,6 +66,10 @@ pub(crate) trait RowLines: Drop + Sized {
     fn text(&self) -> &[u8]
         ensures { result.now ≡ text_of self.now };
 
+    /// Returns whether satellites of GPS alone can have a line.
+    fn has_gps_alone() -> bool
+        ensures { IsTrue result → greatest ≤ 32 };
+
     /// Does nothing. A row without a written observation has no line.
     fn blank_rows_are_left_out()
         ensures { (lines : Self) (rows : List SatelliteRow) (row : SatelliteRow) → has_line row ≡ false
@@ -88,10 +92,12 @@ impl RowLines for RecordLines {
         RecordLines::new(alloc)
     }
 
+    #[inline(always)]
     fn restart(&mut self) {
         RecordLines::restart(self);
     }
 
+    #[inline(always)]
     fn open_line(&mut self, codes: usize) -> Result<(), AllocError> {
         RecordLines::open_line(self, codes)
     }
@@ -101,17 +107,24 @@ impl RowLines for RecordLines {
         RecordLines::put_code(self, place, observed);
     }
 
+    #[inline(always)]
     fn close_line(&mut self, satellite: u8) -> Result<(), AllocError> {
         RecordLines::close_line(self, satellite);
         Ok(())
     }
 
+    #[inline(always)]
     fn finish(&mut self, time: GpsMs) {
         RecordLines::finish(self, time);
     }
 
+    #[inline(always)]
     fn text(&self) -> &[u8] {
         RecordLines::text(self)
+    }
+
+    fn has_gps_alone() -> bool {
+        true
     }
 
     fn blank_rows_are_left_out() {}
@@ -173,6 +186,10 @@ impl RowLines for SignalLines {
 
     fn text(&self) -> &[u8] {
         self.lines.text()
+    }
+
+    fn has_gps_alone() -> bool {
+        false
     }
 
     fn blank_rows_are_left_out() {}

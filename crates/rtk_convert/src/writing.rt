@@ -47,7 +47,8 @@ fn with_header(
 /// Writes the text of the record of a closed epoch, if it has one, and answers whether it has one.
 ///
 /// The header and the first record go out as one text. So a header without a record is only
-/// written when the conversion ends.
+/// written when the conversion ends. It is inlined, since most records are one write.
+#[inline(always)]
 pub(crate) fn write_record<O: Sink>(
     alloc: Global,
     setup: &Setup,

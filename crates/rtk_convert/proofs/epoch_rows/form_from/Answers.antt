@@ -2,7 +2,7 @@ use Rattle.std.proofs.Common.{◌≡◌, ◌∙◌, ◌≤◌, ℕ, ap, sym, sub
 use Rattle.rtk_message.specs.declared.system.System.{System}
 use Rattle.rtk_obs.specs.SatelliteIndex.{system_at}
 use Rattle.rtk_convert.proofs.CodesLemmas.{codes-apart, codes-to, few-are}
-use Rattle.rtk_convert.proofs.SystemLemmas.{last_of, not-after-last, same-to-last}
+use Rattle.rtk_convert.proofs.SystemLemmas.{last_of, not-after-gps, not-after-last, same-to-last}
 use Rattle.rtk_convert.proofs.epoch_rows.form_from.Goals as goal
 
 pub columns_of-requires-clause-few : goal.columns_of-requires-clause-few
@@ -22,3 +22,6 @@ returns-clause-last c =
     let is : c.system-system.result ≡ system_at c.args.satellite = c.system-system.ensures ∙ ap system_at c.in-Some.ensures.1 in
     let l = not-after-last c.args.satellite c.requires.satellite in
     rw (c.last_satellite.ensures, is) l
+
+pub returns-clause-least : goal.returns-clause-least
+returns-clause-least c = rw c.last_satellite.ensures (not-after-gps c.system-system.result)

@@ -39,6 +39,7 @@ satellites-init g c =
       };
       epoch = c.form_from-form.ensures.epoch ∙ c.epoch-epoch.ensures;
       within = c.form_from-form.ensures.last.1;
+      least = c.form_from-form.ensures.least;
       columns = c.form_from-form.ensures.columns;
     }
 
@@ -56,6 +57,13 @@ renew_form-requires-clause-satellite g c =
     let rise-m = laws.rise _ c.msm_cells-msm.ensures.rises in
     let rise-l = laws.rise _ c.legacy_left-legacy.ensures.rises in
     next-satellite ranges-m ranges-l c.in-Some.ensures.some
+
+pub renew_form-requires-clause-within : goal.renew_form-requires-clause-within
+renew_form-requires-clause-within g c =
+    let f = g.E.FileEntry.signal_of in
+    let laws = c.cells_are_signals.ensures in
+    next-has (λ (s : ℕ). s ≤ g.E.Lines.RowLines.greatest) (all-map f _ (λ (e : SignalEntry). e.satellite ≤ g.E.Lines.RowLines.greatest) laws.lines _ c.msm_cells-msm.ensures.range)
+    (all-map f _ (λ (e : SignalEntry). e.satellite ≤ g.E.Lines.RowLines.greatest) laws.lines _ c.legacy_left-legacy.ensures.range) c.in-Some.ensures.some
 
 pub renew_form-requires-clause-codes : goal.renew_form-requires-clause-codes
 renew_form-requires-clause-codes g c =
@@ -82,6 +90,9 @@ renew_form-requires-clause-columns g c = c.satellites.invariant.columns
 
 pub renew_form-requires-clause-last : goal.renew_form-requires-clause-last
 renew_form-requires-clause-last g c = c.satellites.invariant.within
+
+pub renew_form-requires-clause-least : goal.renew_form-requires-clause-least
+renew_form-requires-clause-least g c = c.satellites.invariant.least
 
 pub open_line-requires-clause-few : goal.open_line-requires-clause-few
 open_line-requires-clause-few g c = c.renew_form.ensures.codes.few
@@ -319,6 +330,7 @@ satellites-preserved g c =
       };
       epoch = formed;
       within = c.renew_form.ensures.last.1;
+      least = c.renew_form.ensures.least;
       columns = c.renew_form.ensures.columns;
     }
 

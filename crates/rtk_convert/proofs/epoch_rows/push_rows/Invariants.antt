@@ -10,6 +10,7 @@ invariant-satellites g l = record {
       l.form.last l.form.codes.now (g.E.FileEntry.places l.phases) l.lines;
   epoch : l.form.epoch ≡ l.fn.set.epoch;
   within : l.form.last ≤ 221;
+  least : 32 ≤ l.form.last;
   columns : ArePlaces l.form.codes.now l.form.columns;
 }
 
