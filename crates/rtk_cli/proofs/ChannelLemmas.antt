@@ -1,16 +1,13 @@
 -- The channels that a text writes.
-use Rattle.std.proofs.Common.{◌≡◌, ◌≢◌, ◌⊎◌, ℕ, zero, suc, ◌+◌, ◌-◌, ◌/◌, ◌%◌, ◌<◌, ◌≤◌, ◌==◌, ℤ, pos, negsuc, ◌≤ℤ◌, Bool, true, false, List, [], ◌∷◌, ◌++◌, length, map, get_or, slice_index_or, unsigned_abs, Option, None, Some, inl, inr, arith, refl, sym, ap, ◌∙◌, subst, is_some, nat_lt, if◌then◌else◌}
-use Rattle.std.specs.Prelude.{All, AllPairs, MatchOption}
+use Rattle.std.proofs.Common.{◌≡◌, ◌≢◌, ℕ, suc, ◌+◌, ◌-◌, ◌/◌, ◌%◌, ◌<◌, ◌≤◌, ◌==◌, ℤ, Bool, true, false, List, [], ◌∷◌, length, get_or, slice_index_or, Option, None, Some, inl, inr, arith, refl, sym, ap, ◌∙◌, subst, is_some, if◌then◌else◌}
+use Rattle.std.specs.Prelude.{MatchOption}
 use Rattle.std.specs.Borrow.{Bor}
 use Rattle.std.proofs.lemmas.Bool.{cases_lt, lt-ltb, le-ltb, cases_eq}
-use Rattle.std.proofs.lemmas.Int.{ints}
-use Rattle.std.proofs.lemmas.List.Elements.{All-nil}
 use Rattle.std.proofs.lemmas.List.Splits.{length-slice_split}
-use Rattle.rtk_obs.specs.Carriers.{IsChannel, IsSlot, channel_at}
-use Rattle.rtk_rinex.specs.Columns.{is_negative}
+use Rattle.rtk_obs.specs.Carriers.{IsSlot, channel_at}
 use Rattle.rtk_cli.specs.declared.channel_list.SlotChannel.{SlotChannel}
 use Rattle.rtk_cli.specs.Steps.Parts.{marked_parts, marked_parts_after}
-use Rattle.rtk_cli.specs.Steps.ChannelList.{slot_word, channel_word, IsSlotChannel, slot_parts, ListsSlots, is_none_word, WritesIf, WritesSlots, AreSlotsUnlike, AreChannelsOf}
+use Rattle.rtk_cli.specs.Steps.ChannelList.{slot_word, slot_parts, AreSlotsUnlike, AreChannelsOf}
 
 -- ---- the words of slots
 
@@ -97,20 +94,6 @@ pub set-twice : (slots : List SlotChannel) (i : ℕ) (p : SlotChannel) (channels
 set-twice slots i p channels sets at within slot some unlike =
     let none : channel_at channels p.slot ≡ None = sets.others p.slot slot (λ j d lt e. unlike j i d lt within (e ∙ ap (λ (q : SlotChannel). q.slot) (sym (at d)))) in
     let bad : false ≡ true = sym (ap (λ (o : Option ℤ). is_some o) none) ∙ some in cc
-
--- ---- the text of slots
-
--- a text that is not the word lists slots, or nothing
-pub lists-only : {V : Type 0} (items : V → List SlotChannel) (text : List ℕ) (r : Option V) → is_none_word text ≡ false
-    → MatchOption r ((listed : List SlotChannel) → ¬ (ListsSlots text listed)) (λ v. ListsSlots text (items v))
-    → MatchOption r ((listed : List SlotChannel) → ¬ (WritesSlots text listed)) (λ v. WritesSlots text (items v))
-lists-only items text None other none = λ listed says. none listed (subst (λ (b : Bool). WritesIf b text listed) other says)
-lists-only items text (Some v) other lists = subst (λ (b : Bool). WritesIf b text (items v)) (sym other) lists
-
--- what a text writes are slots and channels that there are
-pub all-good : (b : Bool) (text : List ℕ) (listed : List SlotChannel) → WritesIf b text listed → All IsSlotChannel listed
-all-good true text listed none = subst (λ (l : List SlotChannel). All IsSlotChannel l) (sym none) (All-nil IsSlotChannel)
-all-good false text listed lists = lists.0
 
 -- ---- the parts of a word
 

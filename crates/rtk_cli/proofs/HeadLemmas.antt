@@ -1,8 +1,8 @@
 -- The head of a file by the words of `convert`.
-use Rattle.std.proofs.Common.{◌≡◌, ℕ, true, false, ℤ, List, Option, None, Some, inl, inr, refl, sym, ap, ◌∙◌, subst}
+use Rattle.std.proofs.Common.{◌≡◌, ℕ, ℤ, List, Option, Some, inl, refl, sym, subst}
 use Rattle.std.specs.Borrow.{Bor}
 use Rattle.rtk_obs.specs.declared.any_code.AnyCode.{AnyCode}
-use Rattle.rtk_rinex.specs.MixedHead.{GlonassView, MixedHeadView, IsMixedList, TellsGlonass, IsMixedHeadFault, has_glonass}
+use Rattle.rtk_rinex.specs.MixedHead.{GlonassView, MixedHeadView, IsMixedList, TellsGlonass, IsMixedHeadFault}
 use Rattle.rtk_rinex.specs.declared.mixed_head_fault.MixedHeadFault.{MixedHeadFault}
 use Rattle.rtk_rinex.specs.declared.mixed_head_fault.MixedHeadFault.TheVariants as fault
 use Rattle.rtk_cli.specs.declared.options.ConvertOptions.{ConvertOptions}

@@ -1,11 +1,9 @@
 -- The kinds that a text writes.
 use Rattle.std.proofs.Common.{◌≡◌, ◌≢◌, ℕ, ◌+◌, true, false, List, [], ◌∷◌, ◌++◌, map, drop, get_or, Option, None, Some, refl, sym, ap, ◌∙◌}
 use Rattle.std.specs.Prelude.{MatchOption}
-use Rattle.rtk_message.specs.declared.system.System.{System}
 use Rattle.rtk_message.specs.declared.msm_kind.MsmKind.{MsmKind}
 use Rattle.rtk_message.specs.declared.msm_type.MsmType.{MsmType}
 use Rattle.rtk_message.specs.Systems.{digit_of}
-use Rattle.rtk_obs.specs.SatelliteIndex.{letter_of}
 use Rattle.rtk_setup.specs.Setup.{all_of, with_kind}
 use Rattle.rtk_setup.specs.declared.system_kinds.SystemKinds.{SystemKinds}
 use Rattle.rtk_cli.specs.Steps.Parts.{marked_parts}
@@ -16,17 +14,6 @@ use Rattle.rtk_cli.proofs.PartLemmas.{one-word, last-word, no-word}
 pub one-exception : (kinds : SystemKinds) (done : List MsmType) (t : MsmType) → with_kind (with_exceptions kinds done) t.system t.kind ≡ with_exceptions kinds (done ++ t ∷ [])
 one-exception kinds [] t = refl
 one-exception kinds (d ∷ done) t = one-exception (with_kind kinds d.system d.kind) done t
-
--- ---- the word of an exception
-
-pub read-exception : (first second : ℕ) (t : MsmType) → first ≡ letter_of t.system → second ≡ 48 + digit_of t.kind → first ∷ second ∷ [] ≡ exception_word t
-read-exception first second t letter digit = ap (λ (x : ℕ). x ∷ second ∷ []) letter ∙ ap (λ (x : ℕ). letter_of t.system ∷ x ∷ []) digit
-
-pub no-exception-letter : (first second : ℕ) → ((s : System) → first ≢ letter_of s) → (t : MsmType) → first ∷ second ∷ [] ≢ exception_word t
-no-exception-letter first second none t same = none t.system (ap (λ (x : List ℕ). get_or x 0 0) same)
-
-pub no-exception-digit : (first second : ℕ) → ((k : MsmKind) → second ≢ 48 + digit_of k) → (t : MsmType) → first ∷ second ∷ [] ≢ exception_word t
-no-exception-digit first second none t same = none t.kind (ap (λ (x : List ℕ). get_or x 1 0) same)
 
 -- ---- the exceptions of a text
 

@@ -1,7 +1,6 @@
 mod ChannelLemmas
 mod ChoiceLemmas
 mod CodeListLemmas
-mod CodeWordLemmas
 mod FaultLineLemmas
 mod HeadLemmas
 mod KindLemmas

@@ -12,8 +12,8 @@ use Rattle.rtk_cli.proofs.convert_words.convert_job.Goals as goal
 -- the reference has another form
 pub returns-in_err-moment-clause-refused : goal.returns-in_err-moment-clause-refused
 returns-in_err-moment-clause-refused c =
-    exit-by (IsFirstCause c.args.options.now _) Near c.in_err-moment.field-0.0 c.from_residual-in_err-moment.result
-    c.in_err-moment.ensures.cause.0 c.from_residual-in_err-moment.ensures.1 (inl c.in_err-moment.ensures.cause.1)
+    exit-by (IsFirstCause c.args.options.now _) Near c.in_err-moment.field-0.0 c.from_residual.result
+    c.in_err-moment.ensures.cause.0 c.from_residual.ensures.1 (inl c.in_err-moment.ensures.cause.1)
 
 -- the time of making has another form
 pub returns-in_err-made-clause-refused : goal.returns-in_err-made-clause-refused

@@ -15,8 +15,8 @@ returns-then-is_due-clause-refused c =
 -- the channels are bad
 pub returns-in_err-channels-clause-refused : goal.returns-in_err-channels-clause-refused
 returns-in_err-channels-clause-refused c =
-    exit-also (λ (cause : BadWords). (cause ≡ Channels) × HasNoChannels c.in-Some.text.now) (IsGlonassCause c.args.options.now c.args.listed.now) c.in_err-channels.field-0.0 c.from_residual-in_err-channels.result
-    c.from_residual-in_err-channels.ensures.1 (bad-channels c.args.options.now c.args.listed.now c.in-Some.text c.in-Some.is) c.in_err-channels.ensures.refused
+    exit-also (λ (cause : BadWords). (cause ≡ Channels) × HasNoChannels c.in-Some.text.now) (IsGlonassCause c.args.options.now c.args.listed.now) c.in_err-channels.field-0.0 c.from_residual.result
+    c.from_residual.ensures.1 (bad-channels c.args.options.now c.args.listed.now c.in-Some.text c.in-Some.is) c.in_err-channels.ensures.refused
 
 -- the channels are of no code
 pub returns-then-not-is_due-clause-refused : goal.returns-then-not-is_due-clause-refused
