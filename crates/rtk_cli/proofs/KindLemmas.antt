@@ -71,7 +71,7 @@ general-alone text word k kinds split is once are = (k, [], split ∙ ap (λ (t 
 pub general-first : (text word next : List ℕ) (k : MsmKind) (all : SystemKinds) (r : Option SystemKinds) → marked_parts 44 text ≡ word ∷ marked_parts 44 next → word ≡ (48 + digit_of k) ∷ [] → has_letters_once text ≡ true
     → all ≡ all_of k
     → MatchOption r ((exceptions : List MsmType) → marked_parts 44 next ≢ map exception_word exceptions)
-        (λ changed. (exceptions : List MsmType) × (marked_parts 44 next ≡ map exception_word exceptions) × (changed ≡ with_exceptions all exceptions))
+    (λ changed. (exceptions : List MsmType) × (marked_parts 44 next ≡ map exception_word exceptions) × (changed ≡ with_exceptions all exceptions))
     → MatchOption r ((kinds : SystemKinds) → ¬ (WritesKinds text kinds)) (λ kinds. WritesKinds text kinds)
 general-first text word next k all None split is once of_all none = λ kinds (j, exceptions, writes, o, are).
     none exceptions (ap (λ (t : List (List ℕ)). drop 1 t) (sym split ∙ writes))

@@ -129,11 +129,7 @@ pub(crate) fn any_codes_said(alloc: Global, text: &str) -> Result<Vec<AnyCode>, 
 }
 
 // Puts the codes of the system of a letter behind those that are listed.
-fn put_codes_of(
-    listed: &mut Vec<AnyCode>,
-    letter: u8,
-    codes: &[AnyCode],
-) -> Result<(), AllocError>
+fn put_codes_of(listed: &mut Vec<AnyCode>, letter: u8, codes: &[AnyCode]) -> Result<(), AllocError>
     ensures { OnOk result (listed.new.items ≡ listed.old.items ++ codes_of letter codes.now) }
 {
     for code in codes {
@@ -145,10 +141,7 @@ fn put_codes_of(
 }
 
 /// The codes in the order of a file: system by system, and those of a system as they stand.
-pub(crate) fn in_file_order(
-    alloc: Global,
-    codes: &[AnyCode],
-) -> Result<Vec<AnyCode>, AllocError>
+pub(crate) fn in_file_order(alloc: Global, codes: &[AnyCode]) -> Result<Vec<AnyCode>, AllocError>
     // An error comes only if memory is refused: tests/system/calls, rows `job of convert`.
     ensures { IfOk result (λ listed. listed.items ≡ in_file_order codes.now) }
 {

@@ -198,10 +198,7 @@ fn with_command<'a>(
 }
 
 /// The whole command line. If `takes_lists`, `--msm` of `convert` takes texts.
-pub fn program_command<'a>(
-    alloc: Global,
-    takes_lists: bool,
-) -> Result<Command<'a>, AllocError> {
+pub fn program_command<'a>(alloc: Global, takes_lists: bool) -> Result<Command<'a>, AllocError> {
     let program = program_alone(alloc)?
         .no_binary_name(true)
         .subcommand_required(true);

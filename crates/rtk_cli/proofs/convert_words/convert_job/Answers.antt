@@ -75,7 +75,10 @@ returns-then-not-are_links-clause-refused c =
     let head : HasHead c.args.options.now = (
       marker,
       (
-        c.as_slice.result.now, c.in_ok-made.made, c.in_ok-moment.moment, c.in_ok-head.head,
+        c.as_slice.result.now,
+        c.in_ok-made.made,
+        c.in_ok-moment.moment,
+        c.in_ok-head.head,
         subst (ListsCodes c.args.options.now.codes.now) (sym c.as_slice.ensures.value) c.in_ok-codes.ensures.listed,
         subst (λ (t : List ℕ). IsHeadOf c.args.options.now t c.as_slice.result.now c.in_ok-made.made c.in_ok-moment.moment c.in_ok-head.head) c.in_ok-marker.ensures.marker c.in_ok-head.ensures.said,
       ),
@@ -97,7 +100,10 @@ returns-in_err-near-clause-refused c =
     let head : HasHead c.args.options.now = (
       marker,
       (
-        c.as_slice.result.now, c.in_ok-made.made, c.in_ok-moment.moment, c.in_ok-head.head,
+        c.as_slice.result.now,
+        c.in_ok-made.made,
+        c.in_ok-moment.moment,
+        c.in_ok-head.head,
         subst (ListsCodes c.args.options.now.codes.now) (sym c.as_slice.ensures.value) c.in_ok-codes.ensures.listed,
         subst (λ (t : List ℕ). IsHeadOf c.args.options.now t c.as_slice.result.now c.in_ok-made.made c.in_ok-moment.moment c.in_ok-head.head) c.in_ok-marker.ensures.marker c.in_ok-head.ensures.said,
       ),
