@@ -1,4 +1,4 @@
-use Rattle.std.proofs.Common.{◌≤◌, arith}
+use Rattle.std.proofs.Common.{arith}
 use Rattle.rtk_convert.proofs.epoch_rows.renew_form.Goals as goal
 
 pub returns-then-has_gps_alone-clause-codes : goal.returns-then-has_gps_alone-clause-codes
