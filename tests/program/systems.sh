@@ -266,7 +266,7 @@ channels_tell() {
 }
 noon='  2024     5    17    12     0    0.0000000'
 at_noon='> 2024 05 17 12 00  0.0000000  0  1'
-without_phase='R10  20079294.057 6                          37.500'
+without_phase='R10  20079294.057 6                        37.500'
 python3 "$here/framed.py" $R10_2P >glonass.rtcm
 of_glonass '  1 R10 -5' '    18' "$noon" "$at_noon" 'R10  20079294.057 6  83309237.891 6        37.500' >want; channels_tell - - >told
 convert R2P --msm 7 --channels 10:-5 glonass.rtcm;               leaves channel_of_the_message 0 want told
