@@ -50,7 +50,9 @@ fn system_of(message: &AnyMessage) -> System
     }
 }
 
-// Returns a message with its epoch, which is the moment of its clock that is nearest to the reference.
+// Returns a message with its epoch, which is the moment of its clock that is nearest to the reference. It is
+// inlined, since there is one call, for each message.
+#[inline(always)]
 fn dated_message<'a>(setup: &Setup, message: &'a AnyMessage) -> DatedRef<'a>
     requires { IsReadMessage setup.now message.now }
     ensures { IsDatedMessage setup.now message.now result }
