@@ -74,7 +74,7 @@ def adopt(rinex: Path, folder: Path, name: Name) -> Optional[BinaryIO]:
         is_empty = target.name.endswith(".captures") and target.is_file() and target.stat().st_size == 0
         if found is None or found.span != name.span or path.name.endswith((".live", ".live.report")) or not path.is_file():
             continue
-        if target.exists() and not is_empty:
+        if os.path.lexists(target) and not is_empty:
             continue
         make_folder(folder)
         if path.name == f"{name}.captures":
