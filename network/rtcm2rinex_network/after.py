@@ -14,6 +14,7 @@ from typing import Iterable
 
 from .ends import Again, Refused
 from .places import form_of
+from .placing import write_whole
 from .settings import Settings
 
 TOLD = 200  # characters of what the program told
@@ -35,7 +36,7 @@ def note_after(settings: Settings, paths: Iterable[Path]) -> None:
     """Notes that the program is to be called for these files."""
     if settings.get("AFTER"):
         for path in paths:
-            note_of(path).write_text("")
+            write_whole(note_of(path), "")
 
 
 def call_after(settings: Settings, paths: Iterable[Path]) -> None:

@@ -10,6 +10,7 @@ from pathlib import Path
 from typing import Optional
 
 from .ends import Again, Refused
+from .placing import is_other
 from .settings import HOUR, Settings
 from .times import stamp_of
 
@@ -53,6 +54,8 @@ class Keeper:
                 if self.file >= 0:
                     os.close(self.file)
                 path = self.folder / f"{stamp_of(hour)}.rtcm"
+                if is_other(path):
+                    raise Again(f"{path} is no regular file")
                 self.file, self.hour = os.open(path, os.O_WRONLY | os.O_CREAT | os.O_APPEND, 0o644), hour
             write_all(self.file, piece)
         except OSError as fault:

@@ -18,6 +18,7 @@ from .ends import DONE, REFUSED, Again, Ended, Refused, Usage, say
 from .keeping import PIECE, Keeper, gps_hour, keep_input, write_all
 from .names import LINK, Name, capture_name, read_name
 from .places import folder_with, form_of
+from .placing import write_whole
 from .program import find_program
 from .rinex import read_header
 from .settings import HERE, HOUR, Settings, read_settings
@@ -76,9 +77,17 @@ class Live(threading.Thread):
         while True:
             try:
                 self.convert()
+            except Ended as fault:
+                self.note(str(fault))
             except OSError:
                 pass
             time.sleep(1)
+
+    def note(self, fault: str) -> None:
+        """Tells why a conversion ended, unless the last one ended so too."""
+        if fault and fault != self.fault:
+            self.tell(f"the live conversion ended: {fault}")
+        self.fault = fault
 
     def span_of_now(self) -> Span:
         """The span that it is."""
@@ -91,8 +100,8 @@ class Live(threading.Thread):
         live = self.job.live_file(span)
         report = live.with_name(f"{live.name}.report")
         self.remove_old(span)
-        live.write_bytes(b"")
-        report.write_bytes(b"")
+        write_whole(live, "")
+        write_whole(report, "")
         wait = str(self.job.settings.number("WAIT", 60))
         known = [str(HERE / "position-first"), self.job.row.station, wait, *map(str, self.captures_before(span.begin))]
         with open(live, "ab") as file, open(report, "ab") as told:
@@ -105,10 +114,7 @@ class Live(threading.Thread):
         first.stdin.close()
         first.wait()
         last.wait()
-        fault = report.read_text(errors="replace").strip().split("\n")[-1] if last.returncode > 0 else ""
-        if fault and fault != self.fault:
-            self.tell(f"the live conversion ended: {fault}")
-        self.fault = fault
+        self.note(report.read_text(errors="replace").strip().split("\n")[-1] if last.returncode > 0 else "")
 
     def feed(self, pipe: int, span: Span, live: Path, report: Path) -> None:
         """Writes the captures of the span into the conversion, until the span or the conversion is over."""

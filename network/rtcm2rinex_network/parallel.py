@@ -9,6 +9,7 @@ from pathlib import Path
 from typing import Dict, Iterator, List, Sequence, Tuple
 
 from .ends import Refused, Usage
+from .placing import is_other
 from .program import find_program
 from .settings import HERE, Settings, read_settings
 from .span import SCRIPT
@@ -41,8 +42,8 @@ def with_parallel(words: Sequence[str]) -> int:
 def empty(log: str) -> None:
     """Begins the log anew."""
     try:
-        Path(log).write_text("")
-        if Path(log).is_file():
+        if not is_other(Path(log)):
+            Path(log).write_text("")
             return
     except OSError:
         pass

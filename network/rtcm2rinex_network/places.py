@@ -81,7 +81,7 @@ def adopt(rinex: Path, folder: Path, name: Name) -> Optional[BinaryIO]:
         is_empty = target.name.endswith(".captures") and target.is_file() and target.stat().st_size == 0
         if not read_name(plain_name(path.name)) or path.name.endswith((".live", ".live.report")) or not path.is_file():
             continue
-        if target.exists() and not is_empty:
+        if os.path.lexists(target) and not is_empty:
             continue
         make_folder(folder)
         if path.name == f"{name}.captures":

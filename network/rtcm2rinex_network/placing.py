@@ -36,6 +36,17 @@ def is_free(path: Path) -> bool:
         return True
 
 
+def is_other(path: Path) -> bool:
+    """Whether something else than a file has this name, as a folder, a pipe or a device. A link counts as what it leads to."""
+    return path.exists() and not path.is_file()
+
+
+def refuse_taken(path: Path) -> None:
+    """Refuses a name that no file may get."""
+    if not is_free(path):
+        raise Refused(f"{path} is no regular file, and is not replaced")
+
+
 def sync(path: Path) -> None:
     """Waits until a file or folder is on the disk."""
     number = os.open(path, os.O_RDONLY)
@@ -46,10 +57,11 @@ def sync(path: Path) -> None:
 
 
 def write_whole(path: Path, text: str) -> None:
-    """Writes a file that gets its name once it is whole."""
-    if not is_free(path):
-        raise Refused(f"{path} is no regular file, and is not replaced")
+    """Writes a file that gets its name once it is whole. It is a new file, so no link leads it elsewhere that others put there."""
+    refuse_taken(path)
     new = path.with_name(f".{path.name}.{os.getpid()}")
+    new.unlink(missing_ok=True)
+    new.touch(exist_ok=False)
     try:
         new.write_text(text, encoding="utf-8", errors="surrogateescape")
         os.replace(new, path)
@@ -71,6 +83,7 @@ def put(new: Path, path: Path) -> None:
             shutil.copyfileobj(file, archive)
         new = packed
     if not has_bytes_of(new, path):
+        refuse_taken(path)
         sync(new)
         os.replace(new, path)
 

@@ -56,8 +56,8 @@ def convert_span(settings: Settings, words: Sequence[str]) -> str:
     if not is_listed(job) and not has_own(job, captures):
         raise NoCaptures(f"no captures for {job.name}")
     for path in (record, job.path, job.path.with_name(f"{job.name}.report")):
-        if path.is_dir():
-            raise Refused(f"{path} is a folder")
+        if path.exists() and not path.is_file():
+            raise Refused(f"{path} is no regular file, and is not replaced")
     make_folder(job.folder)
     with locked(record), noted(job):
         if not os.access(job.folder, os.W_OK):
