@@ -377,9 +377,6 @@ fn fill_line<E: FileEntry>(
 /// A cell is compared with the last phase of its satellite and code, however old that is, also if
 /// its code is not listed. Of a satellite and code the cell of an MSM stands, else that of a 1004. If
 /// memory is refused nothing is said of the lines and the last phases.
-///
-/// It is inlined, since a conversion spends most of its time here, and has one pointer to its state then.
-#[inline(always)]
 pub(crate) fn push_rows<E: FileEntry>(
     phases: &mut E::Phases,
     set: &GatheredSet<E>,
