@@ -7,6 +7,7 @@ mod KindLemmas
 mod LinkLemmas
 mod MomentTextLemmas
 mod NameListLemmas
+mod OrderLemmas
 mod PartLemmas
 mod RefusedLemmas
 mod SaidLemmas

@@ -4,22 +4,25 @@
 ghost use Rattle.std.specs.Prelude.{◌≡◌, ◌≤◌, Ok, None, true, false, IfOk, IfErr, IsOk, IsTrue};
 ghost use Rattle.rtk_convert.specs.Failure.{IsRunFault};
 ghost use Rattle.rtk_streams.specs.declared.exit_status.TheConstants.{FAILED, NOT_VALID};
+ghost use Rattle.rtk_cli.specs.Said.{IsSaid};
 
 use crate::auto_converting::convert_joined;
 use crate::auto_labelling::label_beside;
 use crate::auto_looking::{look_at_files, made_at};
+use crate::auto_parting::put_parting_of;
 use crate::auto_reading::survey_captures;
 use crate::auto_refusing::{fail_differing, fail_output, keep_named, quoted, say_written};
 use crate::auto_rereading::{CaptureRead, captures_at, files_of_links, name_at, put_grown};
+use crate::auto_saying::{names_of_links, put_same_by_hand};
+use crate::capture_order::in_order_of_names;
 use crate::converting::{Converted, conversion_status};
 use crate::watching::Watched;
 use crate::words::AutoWords;
 use rtk_convert::{Counts, Setup, Station};
 use rtk_label::Label;
 use rtk_plan::{
-    Captures, Conflicts, Known, Plan, PlanFault, Ways, WrittenFile, equipment_in_captures,
-    label_wanted, plan_of, put_command, put_counts, put_file, put_known, put_label_command,
-    what_is_known,
+    Captures, Known, Plan, PlanFault, Refusal, Reported, Ways, WrittenFile, equipment_in_captures,
+    label_wanted, plan_of, put_counts, put_file, put_known, put_label_command, what_is_known,
 };
 use rtk_rinex::CreationTime;
 use rtk_streams::{
@@ -40,33 +43,28 @@ fn tell<W: Write>(report: &mut Unbroken<W>, lines: &[u8]) {
     let _told = report.write_all(lines);
 }
 
-// Says why the captures have no plan.
-fn fail_plan<R: Eprint, W: Write>(rt: &R, report: &mut Unbroken<W>, fault: PlanFault) -> u8
+// Says why the captures of these names have no plan. A capture that is to be parted is read again, to find the
+// byte.
+fn fail_plan<R: Files + Input + Eprint + AllocGlobal, W: Write>(
+    rt: &R,
+    report: &mut Unbroken<W>,
+    fault: PlanFault,
+    names: &[&str],
+) -> u8
     ensures { result ≤ NOT_VALID }
 {
-    let PlanFault::Refused { refusal, list } = fault else {
+    let PlanFault::Refused { refusal, mut list } = fault else {
         return fail(rt, ToolFault::OutOfMemory);
     };
+    if let Refusal::TwoDates { capture, frame } = refusal {
+        let name = names.get(capture).copied().unwrap_or("");
+        if let Err(status) = put_parting_of(rt, &mut list, name, frame) {
+            return status;
+        }
+    }
     let _told = eprintln!(rt; "rtcm2rinex: {refusal}");
     tell(report, list.as_slice());
     NOT_VALID
-}
-
-// The names of the captures of each link.
-fn names_of_links<'a>(
-    alloc: Global,
-    links: &[Vec<usize>],
-    names: &[&'a str],
-) -> Result<Vec<Vec<&'a str>>, AllocError> {
-    let mut all = Vec::new(alloc);
-    for link in links {
-        let mut captures = Vec::new(alloc);
-        for place in link {
-            captures.push(names.get(*place).copied().unwrap_or(""))?;
-        }
-        all.push(captures)?;
-    }
-    Ok(all)
 }
 
 // The captures of each link, as they were read.
@@ -96,8 +94,8 @@ fn said_after<R: Files + AllocGlobal>(
     if !is_reported {
         put_counts(&mut lines, &outcome.counts)?;
     }
-    put_file(&mut lines, known, &outcome.file, outcome.conflicts)?;
-    put_known(&mut lines, known, &outcome.counts)?;
+    put_file(&mut lines, known, &outcome.file, &outcome.reported)?;
+    put_known(&mut lines, known, &outcome.counts, &outcome.reported)?;
     put_grown(rt, &mut lines, links)?;
     Ok(lines)
 }
@@ -135,8 +133,8 @@ struct Outcome {
     counts: Counts,
     /// What the file has.
     file: WrittenFile,
-    /// How many conflicts the report lists.
-    conflicts: u64,
+    /// What the report lists.
+    reported: Reported,
     /// Standard error took all that was said.
     is_heard: bool,
 }
@@ -174,7 +172,7 @@ fn convert_to<R: Files + Eprint + AllocGlobal, O: Write + Drop, W: Write + Drop>
 {
     let differing: Cell<Option<usize>> = Cell::new(None);
     let out = Watched::new(out, WrittenFile::new(rt.alloc()));
-    let report = Watched::new(Quiet::new(report, !is_reported), Conflicts::new());
+    let report = Watched::new(Quiet::new(report, !is_reported), Reported::new());
     let converted = convert_again(
         rt,
         work.setup,
@@ -198,7 +196,7 @@ fn convert_to<R: Files + Eprint + AllocGlobal, O: Write + Drop, W: Write + Drop>
 // Says how a conversion went.
 fn finish<R: Files + Eprint + AllocGlobal, O: Write + Drop, W: Write + Drop>(
     rt: &R,
-    converted: Converted<Watched<O, WrittenFile>, Watched<Quiet<Unbroken<W>>, Conflicts>>,
+    converted: Converted<Watched<O, WrittenFile>, Watched<Quiet<Unbroken<W>>, Reported>>,
     known: &Known,
     links: &[Vec<CaptureRead<'_>>],
     is_reported: bool,
@@ -214,15 +212,15 @@ fn finish<R: Files + Eprint + AllocGlobal, O: Write + Drop, W: Write + Drop>(
     let Ok(written) = converted.out.into_parts() else {
         return Err(fail(rt, ToolFault::OutOfMemory));
     };
-    let Ok(reported) = converted.report.into_parts() else {
+    let Ok(listed) = converted.report.into_parts() else {
         return Err(fail(rt, ToolFault::OutOfMemory));
     };
     let (out, file) = written;
-    let (report, conflicts) = reported;
+    let (report, reported) = listed;
     let mut outcome = Outcome {
         counts,
         file,
-        conflicts: conflicts.count(),
+        reported,
         is_heard: true,
     };
     let Ok(lines) = said_after(rt, &outcome, known, links, is_reported) else {
@@ -379,11 +377,12 @@ fn work_of<'a>(
     plan: Plan,
     ways: &Ways<'_>,
     lines: &mut Vec<u8>,
-) -> Result<Work<'a>, AllocError> {
-    let named = names_of_links(alloc, plan.links.as_slice(), captures.names)?;
+) -> Result<Work<'a>, AllocError>
+    ensures { IfOk result (λ work. IsSaid lines.old.items lines.new.items work.setup work.links.items) }
+{
     let links = captures_of_links(alloc, plan.links.as_slice(), captures.names, digests)?;
-    lines.extend_from_slice(b" the same by hand:\n")?;
-    put_command(lines, &plan.setup, named.as_slice())?;
+    let named = names_of_links(alloc, links.as_slice())?;
+    put_same_by_hand(lines, &plan.setup, named.as_slice())?;
     let (station, near) = (plan.setup.station(), plan.setup.near());
     let told = equipment_in_captures(alloc, captures.surveys, station, near)?;
     put_label_command(alloc, lines, &told, ways.output)?;
@@ -398,7 +397,7 @@ fn work_of<'a>(
 }
 
 // The conversion of captures that were surveyed, once it is said what it is.
-fn begin_planned<'a, R: Eprint + AllocGlobal, W: Write>(
+fn begin_planned<'a, R: Files + Input + Eprint + AllocGlobal, W: Write>(
     rt: &R,
     report: &mut Unbroken<W>,
     words: &AutoWords<'_>,
@@ -419,7 +418,7 @@ fn begin_planned<'a, R: Eprint + AllocGlobal, W: Write>(
     );
     let plan = match plan {
         Ok(plan) => plan,
-        Err(fault) => return Err(fail_plan(rt, report, fault)),
+        Err(fault) => return Err(fail_plan(rt, report, fault, captures.names)),
     };
     let mut lines = Vec::new(rt.alloc());
     let Ok(work) = work_of(rt.alloc(), captures, digests, plan, ways, &mut lines) else {
@@ -427,20 +426,6 @@ fn begin_planned<'a, R: Eprint + AllocGlobal, W: Write>(
     };
     tell(report, lines.as_slice());
     Ok(work)
-}
-
-// The captures by the bytes of their names, so that the order in which they are given makes no difference; or as
-// they are given.
-fn in_order_of_names<'a>(
-    alloc: Global,
-    names: &[&'a str],
-    as_given: bool,
-) -> Result<Vec<&'a str>, AllocError> {
-    let mut ordered = Vec::from_slice(alloc, names)?;
-    if !as_given {
-        ordered.sort()?;
-    }
-    Ok(ordered)
 }
 
 // Looks at the files, surveys the captures, plans their conversion, and says it. The surveys are let go
