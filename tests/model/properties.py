@@ -280,7 +280,7 @@ def two_dates_text(now: int, texts: list[bytes], station: int | None, at: int, b
     number = finding.station_of(captures, station)
     told = [distinct(finding.counting(finding.tellings(now, it, number), number)) for it in captures]
     lines = [date_text(it.fields, it.first, name_of(place)) for place, of in enumerate(told) for it in of if len(of) > 1]
-    kept = [place for place, it in enumerate(captures) if it.of_station(number)]
+    kept = [place for place, it in enumerate(captures) if it.is_of_station(number)]
     name = name_of(kept[at])
     lines += [f" {name}: the second date begins at byte {byte}; these commands part it there:"]
     lines += [f"head -c {byte} {name} >{name}.1", f"tail -c +{byte + 1} {name} >{name}.2"]

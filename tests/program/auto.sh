@@ -138,7 +138,7 @@ two="$noon until 2024-05-17T12:00:01 by"
 one_command="$(command $noon)"
 says "$two 1013" "$one_command one" '3 1 0 0 2 0 0 0 2'
 auto one
-# pins: span_line, span_line_if_any, file_lines, time_text, code_names, value_words, convert_words, command_text, no_position_line
+# pins: span_line, span_line_if_any, file_lines, time_text, code_names, value_words, convert_words, command_text, same_by_hand, no_position_line
 leaves one 0 one.rnx want_err; as_said one one.rnx
 cp want_err one.err
 # written NAME: standard error of `auto -o NAME one`
@@ -207,6 +207,7 @@ finds 'one position' "$two 1013" "cat position one | $one_command stdin" '4 1 0 
 # a capture that begins with another station, before the one that tells which station is converted
 finds 'positions one' "$two 1013" "cat positions one | $one_command stdin" '5 1 0 1 3 0 0 0 2' 0 '' ' no-epoch positions'
 # Captures without an epoch, and those of the same time, go by their names.
+# pins: by_bytes
 finds 'positions one position' "$two 1013" "cat position positions one | $one_command stdin" '6 1 0 1 3 1 0 0 2' 0 '' ' no-epoch position\n no-epoch positions'
 position=$no_position
 # The first 1005 has zeros, and the header too, though a position follows.
@@ -232,6 +233,18 @@ finds '--msm 7 stray' "$noon until $noon by 1013" "$(command $noon 1C,2W ' --msm
 finds of_1077 "$two 1013" "$(command $noon 1C ' --msm 7') of_1077" "$counts" 0 '' ' not in the file: Doppler of 1077, 2 messages'
 finds '--msm 4 --codes 1C of_1077' "$two 1013" "$(command $noon 1C) of_1077" '3 3 0 0 0 0 0 0 0' 3 '' \
     ' not in the file: GPS 1077, 2 messages\nrtcm2rinex: no record came; the file is a header alone'
+# Two copies with two epochs of 1077 are two links, so the 1074 has most epochs on one link, which are three.
+cp of_1077 of_1077_2
+finds 'of_1074 of_1077_2 of_1077' "$noon until 2024-05-17T12:00:02 by 1013" "$(command $noon 1C) of_1077 of_1077_2 of_1074" '10 7 0 0 3 0 0 0 3' 0 '' \
+    ' not in the file: GPS 1077, 4 messages'
+# Captures that follow one another are one link, with four epochs of 1077.
+finds 'of_1077_later of_1074 of_1077' "$noon until 2024-05-17T12:00:03 by 1013" "mkdir joined &&
+cat of_1077 of_1077_later >joined/1.rtcm &&
+$(command $noon 1C ' --msm 7') joined/1.rtcm of_1074" '10 6 0 0 4 0 0 0 4' 0 '' \
+    ' not in the file: GPS 1074, 3 messages\n not in the file: Doppler of 1077, 4 messages'
+rm -r joined
+finds with_others "$two 1013" "$one_command with_others" '7 5 0 0 2 0 0 0 2' 0 one.rnx \
+    ' not in the file: GPS 1003, 1 messages\n not in the file: GLONASS 1012, 2 messages\n not in the file: GLONASS 1087, 1 messages'
 finds '--codes 5X one' "$two 1013" "$(command $noon 5X) one" '3 1 0 0 2 0 0 0 0' 3 '' \
     'rtcm2rinex: no record came; the file is a header alone'
 # pins: skipped_line

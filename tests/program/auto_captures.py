@@ -113,6 +113,11 @@ CAPTURES = {
     "week_place": week(2314 % 1024, NOON) + place(),
     "stray": date(43_200) + epochs(NOON) + cell_of(NOON, 1077) + cell_of(NOON, 1074) + cell_of(NOON + 1, 1074),
     "of_1077": date(43_200) + cell_of(NOON, 1077) + cell_of(NOON + 1, 1077),
+    # three epochs of 1074 at the time of these two, and two of 1077 after them
+    "of_1074": date(43_200) + cell_of(NOON, 1074) + cell_of(NOON + 1, 1074) + cell_of(NOON + 2, 1074),
+    "of_1077_later": date(43_202) + cell_of(NOON + 2, 1077) + cell_of(NOON + 3, 1077),
+    # messages of other systems, and one of GPS, that are not converted
+    "with_others": ONE + b"".join(frame_of((it << 4).to_bytes(2, "big")) for it in (1087, 1012, 1003, 1012)),
     "falls": date(43_200) + epochs(NOON + 1, NOON, NOON + 2),
     "few": date(43_200) + epochs(NOON, satellites=(5, 7)) + b"".join(
         capture(legacy_of(1000 * (NOON + it), [{**SATELLITE, "satellite": 5, "l2_range": -(1 << 13), "l2_offset": -(1 << 19)}]))

@@ -16,7 +16,8 @@ names_of_links links = map (λ link. names_of link.items) links
 abbrev pub names_in : {A : Type 0} → List (Vec (Bor (List ℕ)) A) → List (List (Bor (List ℕ)))
 names_in links = map (λ link. link.items) links
 
--- a text more: the command of a conversion with this setup, of links with these names
+-- formula
+-- what is said first: the command of a conversion with this setup, of links with these names
 abbrev pub same_by_hand : {A : Type 0} → SetupView → List (Vec (Bor (List ℕ)) A) → List ℕ
 same_by_hand setup named = codes " the same by hand:\n" ++ command_text (convert_words setup) named
 
