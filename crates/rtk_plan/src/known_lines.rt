@@ -58,6 +58,21 @@ fn code_of_system(system: System, place: usize) -> Option<Code>
     }
 }
 
+// Appends the line of a code, if there is one and it has few phases.
+fn put_few_phases_if_any(
+    lines: &mut Vec<u8>,
+    phases: &CapturePhases<'_>,
+    code: Option<Code>,
+) -> Result<(), AllocError>
+    ensures { OnOk result (lines.new.items ≡ lines.old.items
+        ++ spec.few_phases_line_if_any phases.now.surveys.now phases.now.station phases.now.msm code) }
+{
+    match code {
+        Some(code) => put_few_phases_of(lines, phases, code),
+        None => Ok(()),
+    }
+}
+
 // Appends the line of a listed code, if it is one of GPS and has few phases.
 fn put_few_phases_at(
     lines: &mut Vec<u8>,
@@ -67,10 +82,9 @@ fn put_few_phases_at(
     ensures { OnOk result (lines.new.items ≡ lines.old.items
         ++ spec.few_phases_line_at phases.now.surveys.now phases.now.station phases.now.msm listed) }
 {
-    match code_of_system(listed.system(), listed.place()) {
-        Some(code) => put_few_phases_of(lines, phases, code),
-        None => Ok(()),
-    }
+    let code = code_of_system(listed.system(), listed.place());
+    put_few_phases_if_any(lines, phases, code)?;
+    Ok(())
 }
 
 // Appends the codes that have few phases.
