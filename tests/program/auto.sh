@@ -19,7 +19,7 @@ unfinished() { ls | grep '^file' >>err; rm -f file*; }
 while IFS='|' read -r want words lines <&3; do
     eval "auto -o file.rnx $words"
     unfinished
-    # pins: words_and_name, look_text, looks_like, unpacker, unpacking, unpacking_by, count_line_of, unread_line, unread_gps, unread_glonass_to_sbas, unread_qzss_to_navic, all_unread, station_line, epochs_text, epochs_heard, number_and_station, date_message_text, is_told_later, Parting.apart_ms, Parting.is_break, parted_frame, parting_text, part_command, to_come_line, is_to_come, from_until, reach_line, msm_words, system_words, held_line, read_of_station, position_line, coordinate_after_blank, Lists.coordinate, Lists.metres, Lists.four_decimals
+    # pins: words_and_name, look_text, looks_like, unpacker, unpacking, unpacking_by, count_line_of, unread_line, unread_gps, unread_glonass_to_sbas, unread_qzss_to_navic, all_unread, station_line, epochs_text, epochs_heard, number_and_station, date_message_text, is_told_later, Parting.apart_ms, is_time_break, parted_frame, parting_text, part_command, to_come_line, is_to_come, from_until, reach_line, msm_words, system_words, held_line, read_of_station, position_line, coordinate_after_blank, coordinate_text, metres_text, point_and_decimals
     expect "refused_$(echo "$words" | tr ' ' _)" "$want" '' "rtcm2rinex: $(printf '%b' "$lines")"
 done 3<<'ROWS'
 1|nowhere|cannot open nowhere
@@ -215,7 +215,7 @@ position=$no_position
 finds zeros "$noon until $noon by 1013" "$one_command zeros" '4 1 0 0 2 0 1 0 1' 0 '' ' conflict 1: later copies differ from the first, which the file has'
 finds 'same.01 same.00' "$two 1013" "$one_command same.00 same.01" '6 2 0 0 4 0 0 0 2' 0 ''
 finds '--links-as-given same.01 same.00' "$two 1013" "$one_command same.01 same.00" '6 2 0 0 4 0 0 0 2' 0 ''
-# pins: step_ms, greatest_step_ms, WrittenFile.gap_line, more_gaps_line
+# pins: step_ms, greatest_step_ms, written_gap_line, more_gaps_line
 finds gaps "$noon until 2024-05-17T12:16:19 by 1013" "$one_command gaps" '28 1 0 0 27 0 0 0 27' 0 '' \
     ' gap 2024-05-17T12:13:57 until 2024-05-17T12:15:18\n gap 2024-05-17T12:12:36 until 2024-05-17T12:13:56\n gap 2024-05-17T12:11:16 until 2024-05-17T12:12:35\n gap 2024-05-17T12:09:57 until 2024-05-17T12:11:15\n gap 2024-05-17T12:08:39 until 2024-05-17T12:09:56\n gap 2024-05-17T12:07:22 until 2024-05-17T12:08:38\n gap 2024-05-17T12:06:06 until 2024-05-17T12:07:21\n gap 2024-05-17T12:04:51 until 2024-05-17T12:06:05\n gap 2024-05-17T12:03:37 until 2024-05-17T12:04:50\n gap 2024-05-17T12:02:24 until 2024-05-17T12:03:36\n more-gaps 2'
 finds slow "$noon until 2024-05-17T12:11:30 by 1013" "$one_command slow" '6 1 0 0 5 0 0 0 5' 0 '' ' gap 2024-05-17T12:06:00 until 2024-05-17T12:11:30'

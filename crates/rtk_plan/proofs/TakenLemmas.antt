@@ -8,9 +8,9 @@ use Rattle.std.proofs.lemmas.List.{length-set, length-append, length-map}
 use Rattle.std.proofs.lemmas.List.Sums.{sum_by-cons, sum_by-append}
 use Rattle.rtk_plan.specs.Joining.{given_at, comes_before, put_in_order, in_order_after, in_order, link_place, ends_with, links_after, links_of}
 use Rattle.rtk_plan.specs.Kept.{is_heard, is_heard_at, places_from, kept_captures, empty_captures}
-use Rattle.rtk_plan.specs.KnownLines.{skipped_line, skipped_lines, epochs_lines, not_taken, last_lines, late_count_line, known_lines}
+use Rattle.rtk_plan.specs.KnownLines.{skipped_line, skipped_lines, epochs_lines, not_taken, lines_behind_late, late_count_line, known_lines}
 use Rattle.rtk_plan.specs.Linking.{places_of, kept_in_order, captures_of_link, is_nonempty, joined_links, links_found, one_place, links_as_given, AreLinksOf}
-use Rattle.rtk_plan.specs.Laws.{times, own_places, times_taken, IsPartOf, EachIsTakenOnce, EachIsLeftOutOnce, LeftOutIsTold}
+use Rattle.rtk_plan.specs.Laws.{times, own_places, times_taken, IsInText, EachIsTakenOnce, EachIsLeftOutOnce, LeftOutIsTold}
 use Rattle.rtk_plan.specs.Reach.{placed_if_any}
 use Rattle.rtk_plan.specs.declared.joining.Ordered.{Ordered}
 use Rattle.rtk_survey.specs.declared.placing.Placed.{Placed}
@@ -303,14 +303,14 @@ each-left-out-once cs place lt = empty-take cs place lt
 
 -- ---- what is left out is told
 
-here : (f : ℕ → List ℕ) (x : ℕ) (xs : List ℕ) (p : ℕ) → x ≡ p → IsPartOf (f p) (flat_map f (x ∷ xs))
+here : (f : ℕ → List ℕ) (x : ℕ) (xs : List ℕ) (p : ℕ) → x ≡ p → IsInText (f p) (flat_map f (x ∷ xs))
 here f x xs p same = ([], flat_map f xs, ap (λ (n : ℕ). f n ++ flat_map f xs) same)
 
-later : (f : ℕ → List ℕ) (x : ℕ) (xs : List ℕ) (part : List ℕ) → IsPartOf part (flat_map f xs) → IsPartOf part (flat_map f (x ∷ xs))
+later : (f : ℕ → List ℕ) (x : ℕ) (xs : List ℕ) (part : List ℕ) → IsInText part (flat_map f xs) → IsInText part (flat_map f (x ∷ xs))
 later f x xs part is =
     (f x ++ is.0, is.1, ap (λ (t : List ℕ). f x ++ t) is.2 ∙ sym (append_assoc (f x) (is.0 ++ part) is.1) ∙ ap (λ (t : List ℕ). t ++ is.1) (sym (append_assoc (f x) is.0 part)))
 
-line-of : (f : ℕ → List ℕ) (xs : List ℕ) (p : ℕ) → 0 < times p xs → IsPartOf (f p) (flat_map f xs)
+line-of : (f : ℕ → List ℕ) (xs : List ℕ) (p : ℕ) → 0 < times p xs → IsInText (f p) (flat_map f xs)
 line-of f [] p some = let none : times p [] ≡ 0 = refl in absurd (omega (arith, some, none))
 line-of f (x ∷ xs) p some = elim (cases_eq x p) [
   | inl same ↦ here f x xs p same
@@ -320,14 +320,14 @@ line-of f (x ∷ xs) p some = elim (cases_eq x p) [
       later f x xs (f p) (line-of f xs p (omega (arith, some, first, none)))
 ]
 
-before-and-after : (a t b part : List ℕ) → IsPartOf part t → IsPartOf part ((a ++ t) ++ b)
+before-and-after : (a t b part : List ℕ) → IsInText part t → IsInText part ((a ++ t) ++ b)
 before-and-after a t b part is =
     let before : List ℕ = is.0 in
     let after : List ℕ = is.1 in
     (a ++ before, after ++ b, ap (λ (u : List ℕ). (a ++ u) ++ b) is.2 ∙ simp append_assoc)
 
 pub left-out-told : LeftOutIsTold
-unfolding last_lines known_lines
+unfolding lines_behind_late known_lines
 left-out-told names ss plan known late by_stray place lasts some =
     let skipped : List ℕ = skipped_lines names plan.captures.items plan.skipped.items in
     let epochs : List ℕ = epochs_lines names plan.captures.items (places_of plan.links.items) in

@@ -116,8 +116,8 @@ abbrev pub stray_lines : List (Bor (List ℕ)) → ℕ → List ℕ → List ℕ
 stray_lines names epoch places = flat_map (λ place. stray_line epoch (name_at names place)) places
 
 -- everything before the line of late messages
-unfoldable pub first_lines : List (Bor (List ℕ)) → List CaptureSurvey → Plan → Equipment → List ℕ
-first_lines names ss plan told =
+unfoldable pub lines_before_late : List (Bor (List ℕ)) → List CaptureSurvey → Plan → Equipment → List ℕ
+lines_before_late names ss plan told =
     undated_lines plan.span.source names plan.captures.items
     ++ all_other_dates names plan.setup.station plan.setup.near ss
     ++ few_phases_lines ss plan.setup.station plan.setup.kinds.gps plan.setup.head.listed
@@ -162,8 +162,8 @@ epochs_lines names cs links = flat_map (epochs_lines_of names cs) links
 unfoldable pub not_taken : List CaptureSurvey → ℕ → MsmKind → List ℕ
 not_taken ss station kind = msm_lines kind ss station ++ doppler_line kind ss station ++ sbas_line ss station ++ all_unread ss
 
-unfoldable pub last_lines : List (Bor (List ℕ)) → List CaptureSurvey → Plan → List ℕ
-last_lines names ss plan =
+unfoldable pub lines_behind_late : List (Bor (List ℕ)) → List CaptureSurvey → Plan → List ℕ
+lines_behind_late names ss plan =
     skipped_lines names plan.captures.items plan.skipped.items
     ++ epochs_lines names plan.captures.items (places_of plan.links.items)
     ++ not_taken ss plan.setup.station plan.setup.kinds.gps

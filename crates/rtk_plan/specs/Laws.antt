@@ -3,7 +3,7 @@ use Rattle.std.specs.Prelude.{◌≡◌, ◌<◌, ℕ, ◌%◌, ◌==◌, Bool, 
 use Rattle.std.specs.Borrow.{Bor}
 use Rattle.rtk_setup.specs.Setup.{SetupView}
 use Rattle.rtk_survey.specs.declared.survey.CaptureSurvey.{CaptureSurvey}
-use Rattle.rtk_plan.specs.KnownLines.{skipped_line, last_lines, known_lines}
+use Rattle.rtk_plan.specs.KnownLines.{skipped_line, lines_behind_late, known_lines}
 use Rattle.rtk_plan.specs.Kept.{is_heard_at, empty_captures}
 use Rattle.rtk_plan.specs.Linking.{AreLinksOf}
 use Rattle.rtk_plan.specs.Plan.{captures_of, IsNearOf, AreStrays, IsSetupFor}
@@ -56,11 +56,11 @@ EachIsLeftOutOnce = (cs : List StationCapture) (place : ℕ) → place < length 
 
 -- ---- what is told
 
-abbrev pub IsPartOf : List ℕ → List ℕ → Type 0
-IsPartOf part text = (before : List ℕ) × (after : List ℕ) × (text ≡ before ++ part ++ after)
+abbrev pub IsInText : List ℕ → List ℕ → Type 0
+IsInText part text = (before : List ℕ) × (after : List ℕ) × (text ≡ before ++ part ++ after)
 
 -- a capture that is left out has its line in what a person is told of the conversion
 abbrev pub LeftOutIsTold : Type 0
 LeftOutIsTold = (names : List (Bor (List ℕ))) (ss : List CaptureSurvey) (plan : Plan) (known : Known) (late by_stray place : ℕ)
-    → known.last.items ≡ last_lines names ss plan → 0 < times place plan.skipped.items
-    → IsPartOf (skipped_line names plan.captures.items place) (known_lines known late by_stray)
+    → known.last.items ≡ lines_behind_late names ss plan → 0 < times place plan.skipped.items
+    → IsInText (skipped_line names plan.captures.items place) (known_lines known late by_stray)

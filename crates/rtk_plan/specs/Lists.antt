@@ -238,22 +238,22 @@ held_lines ss = flat_map (held_line ss) (range_with_len 0 4096)
 
 -- formula
 -- a point and four digits: the part of a whole metre, of a number of 0.0001 m
-abbrev pub four_decimals : ℕ → List ℕ
-four_decimals n = 46 ∷ (48 + n / 1000 % 10) ∷ (48 + n / 100 % 10) ∷ (48 + n / 10 % 10) ∷ (48 + n % 10) ∷ []
+abbrev pub point_and_decimals : ℕ → List ℕ
+point_and_decimals n = 46 ∷ (48 + n / 1000 % 10) ∷ (48 + n / 100 % 10) ∷ (48 + n / 10 % 10) ∷ (48 + n % 10) ∷ []
 
 -- formula
 -- a length in 0.0001 m, in metres
-unfoldable pub metres : ℕ → List ℕ
-metres n = decimal (n / 10_000) ++ four_decimals n
+unfoldable pub metres_text : ℕ → List ℕ
+metres_text n = decimal (n / 10_000) ++ point_and_decimals n
 
 -- formula
 -- a coordinate in 0.0001 m, in metres
-unfoldable pub coordinate : ℤ → List ℕ
-coordinate x = sign_text (is_negative x) ++ metres (unsigned_abs x)
+unfoldable pub coordinate_text : ℤ → List ℕ
+coordinate_text x = sign_text (is_negative x) ++ metres_text (unsigned_abs x)
 
 -- formula
 abbrev pub coordinate_after_blank : ℤ → List ℕ
-coordinate_after_blank x = codes " " ++ coordinate x
+coordinate_after_blank x = codes " " ++ coordinate_text x
 
 abbrev pub coordinates : ReferencePoint → List ℕ
 coordinates p = coordinate_after_blank p.x ++ coordinate_after_blank p.y ++ coordinate_after_blank p.z

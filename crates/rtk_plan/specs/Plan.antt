@@ -16,7 +16,7 @@ use Rattle.rtk_plan.specs.declared.station_capture.StationCapture.{StationCaptur
 use Rattle.rtk_plan.specs.declared.reach.Base.{Base}
 use Rattle.rtk_plan.specs.declared.reach.Base.TheVariants.{Given, Told}
 use Rattle.rtk_plan.specs.StationCaptures.{capture_of}
-use Rattle.rtk_plan.specs.Sources.{span_of}
+use Rattle.rtk_plan.specs.Sources.{dated_span_of}
 use Rattle.rtk_plan.specs.Stray.{strays}
 use Rattle.rtk_plan.specs.Values.{most_epochs, codes_in_captures}
 use Rattle.rtk_plan.specs.declared.wanted.Wanted.{Wanted}
@@ -79,7 +79,7 @@ AreStrays given cs places =
 -- the first and the last epoch of the station, and by what the captures are dated
 abbrev pub IsSpanOf : Option ℕ → List StationCapture → ℕ → DatedSpan → Type 0
 IsSpanOf given cs station span =
-    (base : Base) × IsBaseOf given cs base × ((reach : Placed) × IsReachOf base cs reach × (span ≡ span_of cs base station reach))
+    (base : Base) × IsBaseOf given cs base × ((reach : Placed) × IsReachOf base cs reach × (span ≡ dated_span_of cs base station reach))
 
 -- what captures tell of a station, one after another
 abbrev pub captures_of : List CaptureSurvey → ℕ → List StationCapture

@@ -58,13 +58,13 @@ abbrev pub listed_told : List (Bor (List ℕ)) → List StationCapture → List 
 listed_told names cs = lines_by (λ at c. told_line_if c.told (name_at names at)) 0 cs
 
 -- the first and the last epoch of each capture of a station, and how many it has
-abbrev pub epochs_of : ℕ → Option CaptureSurvey → ℕ
-epochs_of station None = 0
-epochs_of station (Some s) = epochs_heard (station_in station s)
+abbrev pub epochs_in_survey : ℕ → Option CaptureSurvey → ℕ
+epochs_in_survey station None = 0
+epochs_in_survey station (Some s) = epochs_heard (station_in station s)
 
 abbrev pub reach_line_if : Option Placed → ℕ → List ℕ → List ℕ
 reach_line_if None epochs name = []
 reach_line_if (Some p) epochs name = reach_line p epochs name
 
 abbrev pub listed_reaches : List (Bor (List ℕ)) → ℕ → List CaptureSurvey → List (Option Placed) → List ℕ
-listed_reaches names station ss placed = lines_by (λ at p. reach_line_if p (epochs_of station (slice_get ss at)) (name_at names at)) 0 placed
+listed_reaches names station ss placed = lines_by (λ at p. reach_line_if p (epochs_in_survey station (slice_get ss at)) (name_at names at)) 0 placed

@@ -46,5 +46,5 @@ source_of cs (Given near) station = Words
 source_of cs (ByCaptures least) station = source_if_any (first_of_moments (first_message None least cs) least cs) station
 
 -- the first and the last epoch of captures with this reach, and by what they are dated
-abbrev pub span_of : List StationCapture → Base → ℕ → Placed → DatedSpan
-span_of cs base station reach = record { from = reach.from; until = reach.until; source = source_of cs base station }
+abbrev pub dated_span_of : List StationCapture → Base → ℕ → Placed → DatedSpan
+dated_span_of cs base station reach = record { from = reach.from; until = reach.until; source = source_of cs base station }

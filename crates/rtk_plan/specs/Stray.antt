@@ -11,14 +11,14 @@ abbrev pub next_before : ℕ → ℕ → Option ℕ → Option ℕ
 next_before until greatest None = None
 next_before until greatest (Some next) = Some (until - (greatest - next))
 
-abbrev pub next_greatest : Span → Placed → Option ℕ
-next_greatest s p = next_before p.until s.greatest s.next_greatest
+abbrev pub placed_next_greatest : Span → Placed → Option ℕ
+placed_next_greatest s p = next_before p.until s.greatest s.next_greatest
 
 -- the greatest epoch of a capture before a moment that none of its epochs is after
 abbrev pub greatest_before : ℕ → Option Span → Option Placed → Option ℕ
 greatest_before until None placed = None
 greatest_before until (Some s) None = None
-greatest_before until (Some s) (Some p) = if nat_lt p.until until then Some p.until else next_greatest s p
+greatest_before until (Some s) (Some p) = if nat_lt p.until until then Some p.until else placed_next_greatest s p
 
 abbrev pub greater_of : Option ℕ → Option ℕ → Option ℕ
 greater_of None more = more

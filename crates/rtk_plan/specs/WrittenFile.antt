@@ -6,8 +6,8 @@ use Rattle.rtk_plan.specs.SaidCommand.{time_text}
 use Rattle.rtk_plan.specs.declared.written_file.Step.{Step}
 use Rattle.rtk_plan.specs.declared.written_file.WrittenFile.{WrittenFile}
 
-abbrev pub is_marked : Bool → Bool
-is_marked mark = mark
+abbrev pub is_satellite_mark : Bool → Bool
+is_satellite_mark mark = mark
 
 -- ---- epochs
 
@@ -45,11 +45,11 @@ is_gap greatest s = nat_lt greatest (step_ms s)
 
 -- formula
 -- the line of a gap
-abbrev pub gap_line : Step → List ℕ
-gap_line s = codes " gap " ++ time_text s.from ++ codes " until " ++ time_text s.until ++ codes "\n"
+abbrev pub written_gap_line : Step → List ℕ
+written_gap_line s = codes " gap " ++ time_text s.from ++ codes " until " ++ time_text s.until ++ codes "\n"
 
-abbrev pub gap_line_if : ℕ → Step → List ℕ
-gap_line_if greatest s = if is_gap greatest s then gap_line s else []
+abbrev pub written_gap_line_if : ℕ → Step → List ℕ
+written_gap_line_if greatest s = if is_gap greatest s then written_gap_line s else []
 
 abbrev pub count_if_longer : ℕ → ℕ → ℕ → ℕ
 count_if_longer greatest step count = if nat_lt greatest step then count else 0
@@ -65,7 +65,7 @@ more_gaps_line more = if more == 0 then [] else codes " more-gaps " ++ decimal m
 
 abbrev pub gap_lines_with : ℕ → List Step → List (ℕ × ℕ) → List ℕ
 gap_lines_with greatest longest es =
-    flat_map (gap_line_if greatest) longest ++ more_gaps_line (gap_count greatest es - count_of (is_gap greatest) longest)
+    flat_map (written_gap_line_if greatest) longest ++ more_gaps_line (gap_count greatest es - count_of (is_gap greatest) longest)
 
 -- the gaps among the longest steps, which are listed, and how many more there are
 abbrev pub gap_lines : WrittenFile → List ℕ

@@ -198,7 +198,7 @@ impl StationCaptures<'_, '_, '_> {
 
     // How many epochs of the station a capture has.
     fn epochs(&self, place: usize) -> u64
-        ensures { result ≡ spec.epochs_of self.now.station (slice_get self.now.all.surveys.now place) }
+        ensures { result ≡ spec.epochs_in_survey self.now.station (slice_get self.now.all.surveys.now place) }
     {
         match self.all.surveys.get(place) {
             Some(survey) => epochs_heard(survey.contents.stations.get(&self.station)),

@@ -266,7 +266,7 @@ fn dating_by(
     ensures strays { IfOk result (λ d. (reach : Placed) × IsReachOf base captured.now.captures.now reach
         × (d.strays.items ≡ strays captured.now.captures.now (map (placed_if_any base) captured.now.captures.now) reach.until)) }
     ensures span { IfOk result (λ d. (reach : Placed) × IsReachOf base captured.now.captures.now reach
-        × (d.span ≡ sources.span_of captured.now.captures.now base captured.now.station reach)) }
+        × (d.span ≡ sources.dated_span_of captured.now.captures.now base captured.now.station reach)) }
     ensures refused { IfErr result (IfRefused (IsReachCause base captured.now.captures.now)) }
 {
     let captures = captured.captures;

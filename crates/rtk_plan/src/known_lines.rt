@@ -194,7 +194,7 @@ fn late_on_links(reported: &Reported, links: &[usize]) -> u64
 }
 
 // Appends what a person should know before the line of late messages.
-#[tactic(auto, unfolding(crate::specs::KnownLines::first_lines))]
+#[tactic(auto, unfolding(crate::specs::KnownLines::lines_before_late))]
 fn put_first_lines(
     lines: &mut Vec<u8>,
     captures: &Captures<'_, '_>,
@@ -202,7 +202,7 @@ fn put_first_lines(
     told: &Equipment,
 ) -> Result<(), AllocError>
     ensures { OnOk result (lines.new.items ≡ lines.old.items
-        ++ spec.first_lines captures.now.names.now captures.now.surveys.now plan.now told.now) }
+        ++ spec.lines_before_late captures.now.names.now captures.now.surveys.now plan.now told.now) }
 {
     let setup = &plan.setup;
     let phases = CapturePhases {
@@ -235,14 +235,14 @@ fn put_not_taken(
 }
 
 // Appends what a person should know behind the line of late messages.
-#[tactic(auto, unfolding(crate::specs::KnownLines::last_lines))]
+#[tactic(auto, unfolding(crate::specs::KnownLines::lines_behind_late))]
 fn put_last_lines(
     lines: &mut Vec<u8>,
     captures: &Captures<'_, '_>,
     plan: &Plan,
 ) -> Result<(), AllocError>
     ensures { OnOk result (lines.new.items ≡ lines.old.items
-        ++ spec.last_lines captures.now.names.now captures.now.surveys.now plan.now) }
+        ++ spec.lines_behind_late captures.now.names.now captures.now.surveys.now plan.now) }
 {
     let (setup, told) = (&plan.setup, plan.captures.as_slice());
     put_skipped(lines, captures, told, plan.skipped.as_slice())?;
@@ -260,8 +260,8 @@ pub fn what_is_known(
     plan: &Plan,
     told: &Equipment,
 ) -> Result<Known, AllocError>
-    ensures first { IfOk result (λ known. known.first.items ≡ spec.first_lines captures.now.names.now captures.now.surveys.now plan.now told.now) }
-    ensures last { IfOk result (λ known. known.last.items ≡ spec.last_lines captures.now.names.now captures.now.surveys.now plan.now) }
+    ensures first { IfOk result (λ known. known.first.items ≡ spec.lines_before_late captures.now.names.now captures.now.surveys.now plan.now told.now) }
+    ensures last { IfOk result (λ known. known.last.items ≡ spec.lines_behind_late captures.now.names.now captures.now.surveys.now plan.now) }
     ensures window { IfOk result (λ known. known.window ≡ plan.now.setup.window) }
     ensures source { IfOk result (λ known. known.source ≡ plan.now.span.source) }
     ensures strays { IfOk result (λ known. known.stray_links.items ≡ spec.links_with_strays (places_of plan.now.links.items) plan.now.strays.items) }

@@ -12,16 +12,16 @@ use std::alloc::AllocError;
 
 // A point and four digits: the part of a whole metre.
 fn decimals_of(magnitude: u64) -> [u8; 5]
-    ensures { result ≡ spec.four_decimals magnitude }
+    ensures { result ≡ spec.point_and_decimals magnitude }
 {
     let digit = |place: u64| b'0' + (magnitude / place % 10) as u8;
     [b'.', digit(1000), digit(100), digit(10), digit(1)]
 }
 
 // Appends a length, whose unit is 0.0001 m, in metres.
-#[tactic(auto, unfolding(crate::specs::Lists::metres))]
+#[tactic(auto, unfolding(crate::specs::Lists::metres_text))]
 fn put_metres(lines: &mut Vec<u8>, length: u64) -> Result<(), AllocError>
-    ensures { OnOk result (lines.new.items ≡ lines.old.items ++ spec.metres length) }
+    ensures { OnOk result (lines.new.items ≡ lines.old.items ++ spec.metres_text length) }
 {
     put_number(lines, length / 10_000)?;
     lines.extend_from_slice(&decimals_of(length))
@@ -29,9 +29,9 @@ fn put_metres(lines: &mut Vec<u8>, length: u64) -> Result<(), AllocError>
 
 // Appends a coordinate in metres.
 // By reference: a signed field that is read and passed by value has no range for the prover.
-#[tactic(auto, unfolding(crate::specs::Lists::coordinate))]
+#[tactic(auto, unfolding(crate::specs::Lists::coordinate_text))]
 fn put_coordinate(lines: &mut Vec<u8>, value: &i64) -> Result<(), AllocError>
-    ensures { OnOk result (lines.new.items ≡ lines.old.items ++ spec.coordinate value.now) }
+    ensures { OnOk result (lines.new.items ≡ lines.old.items ++ spec.coordinate_text value.now) }
 {
     if *value < 0 {
         lines.push(b'-')?;

@@ -10,8 +10,8 @@ use std::alloc::{AllocError, Global};
 const DAY_MS: u64 = 86_400_000;
 
 // The greatest epoch but one of a capture, with its date.
-fn next_greatest(span: Span, placed: Placed) -> Option<u64>
-    ensures { result ≡ spec.next_greatest span placed }
+fn placed_next_greatest(span: Span, placed: Placed) -> Option<u64>
+    ensures { result ≡ spec.placed_next_greatest span placed }
 {
     let next = span.next_greatest?;
     let apart = span.greatest.ms().saturating_sub(next.ms());
@@ -28,7 +28,7 @@ fn greatest_before(until: u64, span: Option<Span>, placed: Option<Placed>) -> Op
     if placed.until < until {
         Some(placed.until)
     } else {
-        next_greatest(span, placed)
+        placed_next_greatest(span, placed)
     }
 }
 

@@ -208,7 +208,7 @@ impl WrittenFile {
 
     /// How many satellites of GPS it has.
     pub fn satellites(&self) -> usize
-        ensures { result ≡ count_by spec.is_marked self.now.satellites }
+        ensures { result ≡ count_by spec.is_satellite_mark self.now.satellites }
     {
         count_marks(&self.satellites)
     }
@@ -259,7 +259,7 @@ impl WrittenFile {
 
 // How many of these are marked.
 fn count_marks(marks: &[bool]) -> usize
-    ensures { result ≡ count_by spec.is_marked marks.now }
+    ensures { result ≡ count_by spec.is_satellite_mark marks.now }
 {
     marks.iter().filter(|mark| **mark).count()
 }
@@ -272,7 +272,7 @@ fn count_if_longer(greatest: u64, step: u64, count: u64) -> u64
 
 // Appends the line of a gap.
 fn put_gap(lines: &mut Vec<u8>, gap: &Step) -> Result<(), AllocError>
-    ensures { OnOk result (lines.new.items ≡ lines.old.items ++ spec.gap_line gap.now) }
+    ensures { OnOk result (lines.new.items ≡ lines.old.items ++ spec.written_gap_line gap.now) }
 {
     lines.extend_from_slice(b" gap ")?;
     put_time(lines, gap.from)?;
@@ -283,7 +283,7 @@ fn put_gap(lines: &mut Vec<u8>, gap: &Step) -> Result<(), AllocError>
 
 // Appends the line of a step, if it is longer than this.
 fn put_gap_if(lines: &mut Vec<u8>, step: &Step, greatest: u64) -> Result<(), AllocError>
-    ensures { OnOk result (lines.new.items ≡ lines.old.items ++ spec.gap_line_if greatest step.now) }
+    ensures { OnOk result (lines.new.items ≡ lines.old.items ++ spec.written_gap_line_if greatest step.now) }
 {
     if greatest < step.ms() {
         put_gap(lines, step)
@@ -294,7 +294,7 @@ fn put_gap_if(lines: &mut Vec<u8>, step: &Step, greatest: u64) -> Result<(), All
 
 // Appends the lines of those steps that are longer than this.
 fn put_listed_gaps(lines: &mut Vec<u8>, longest: &[Step], greatest: u64) -> Result<(), AllocError>
-    ensures { OnOk result (lines.new.items ≡ lines.old.items ++ flat_map (spec.gap_line_if greatest) longest.now) }
+    ensures { OnOk result (lines.new.items ≡ lines.old.items ++ flat_map (spec.written_gap_line_if greatest) longest.now) }
 {
     for step in longest {
         put_gap_if(lines, step, greatest)?;

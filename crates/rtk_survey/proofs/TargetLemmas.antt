@@ -165,13 +165,13 @@ parted-message q fs t m frame new p fresh count is parted =
     ∙ ap (λ (x : Parting). with_epochs d.capture.span (with_observation q.present d m).capture.span (shown_count (length fs)) x) is.parting
 
 pub parted-date : (q : Target) (fs : List ReadFrame) (t : TargetSurvey) (m date : Option DateMessage) (frame : ℕ) (p : Parting)
-    → m ≡ date → frame ≡ shown_count (length fs) → IsTargetOf q fs t → p ≡ parting.with_date_if_any t.present t.dates.station t.dates.capture m frame t.parting
-    → p ≡ parting.with_date_if_any q.present (dates_of q.present q.station fs).station (dates_of q.present q.station fs).capture date (shown_count (length fs)) (parting_of q.present q.station fs)
+    → m ≡ date → frame ≡ shown_count (length fs) → IsTargetOf q fs t → p ≡ parting.parting_with_date t.present t.dates.station t.dates.capture m frame t.parting
+    → p ≡ parting.parting_with_date q.present (dates_of q.present q.station fs).station (dates_of q.present q.station fs).capture date (shown_count (length fs)) (parting_of q.present q.station fs)
 parted-date q fs t m date frame p same count is parted =
     let d : TargetDates = dates_of q.present q.station fs in
     parted
-    ∙ ap (λ (x : Option DateMessage). parting.with_date_if_any t.present t.dates.station t.dates.capture x frame t.parting) same
-    ∙ ap (λ (n : ℕ). parting.with_date_if_any n t.dates.station t.dates.capture date frame t.parting) is.present
-    ∙ ap (λ (x : TargetDates). parting.with_date_if_any q.present x.station x.capture date frame t.parting) is.dates
-    ∙ ap (λ (n : ℕ). parting.with_date_if_any q.present d.station d.capture date n t.parting) count
-    ∙ ap (λ (x : Parting). parting.with_date_if_any q.present d.station d.capture date (shown_count (length fs)) x) is.parting
+    ∙ ap (λ (x : Option DateMessage). parting.parting_with_date t.present t.dates.station t.dates.capture x frame t.parting) same
+    ∙ ap (λ (n : ℕ). parting.parting_with_date n t.dates.station t.dates.capture date frame t.parting) is.present
+    ∙ ap (λ (x : TargetDates). parting.parting_with_date q.present x.station x.capture date frame t.parting) is.dates
+    ∙ ap (λ (n : ℕ). parting.parting_with_date q.present d.station d.capture date n t.parting) count
+    ∙ ap (λ (x : Parting). parting.parting_with_date q.present d.station d.capture date (shown_count (length fs)) x) is.parting

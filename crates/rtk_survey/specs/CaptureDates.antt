@@ -130,9 +130,9 @@ counting t = or_else t.own.items (or_else t.weeks.items t.others.items)
 
 -- ---- a capture without an epoch
 
-abbrev pub first_of : List Told → Option Told
-first_of [] = None
-first_of (x ∷ xs) = Some x
+abbrev pub first_telling : List Told → Option Told
+first_telling [] = None
+first_telling (x ∷ xs) = Some x
 
 abbrev pub reference_if_any : Option ℕ → Option ℕ
 reference_if_any None = None
@@ -151,7 +151,7 @@ with_own_moments now station (d ∷ ds) t = with_own_moments now station ds (wit
 
 -- the moment that counts of those that these messages name, chosen as among first epochs
 abbrev pub own_moment_after : ℕ → ℕ → Option Span → List DateMessage → Option Told
-own_moment_after now station None ds = first_of (counting (with_own_moments now station ds no_tellings))
+own_moment_after now station None ds = first_telling (counting (with_own_moments now station ds no_tellings))
 own_moment_after now station (Some s) ds = None
 
 abbrev pub own_moment_of : ℕ → ℕ → CaptureDates → Option Told

@@ -21,8 +21,8 @@ apart_ms a b = (a - b) + (b - a)
 
 -- constant
 -- the next epoch is before the last one, or more than 60 s after it
-abbrev pub is_break : ℕ → ℕ → Bool
-is_break before after = nat_lt after before || nat_lt (before + 60_000) after
+abbrev pub is_time_break : ℕ → ℕ → Bool
+is_time_break before after = nat_lt after before || nat_lt (before + 60_000) after
 
 -- the greater of two steps, of two alike the later
 abbrev pub greater_step : Option EpochStep → EpochStep → EpochStep
@@ -31,7 +31,7 @@ greater_step (Some s) more = if nat_lt more.ms s.ms then s else more
 
 abbrev pub step_with : Option EpochStep → ℕ → ℕ → ℕ → Option EpochStep
 step_with step before after frame =
-    if is_break before after then Some (greater_step step (record { ms = apart_ms before after; frame = frame })) else step
+    if is_time_break before after then Some (greater_step step (record { ms = apart_ms before after; frame = frame })) else step
 
 -- the next epoch; the first one behind the message of the second date is the last that counts
 abbrev pub with_step : ℕ → ℕ → ℕ → Parting → Parting
@@ -58,20 +58,20 @@ with_own is_first frame p = with_own_after p.second is_first frame p
 
 -- a message that tells this first epoch, after others; if two dates were told before an epoch came, no place parts
 -- the capture
-abbrev pub with_told : List Told → ℕ → ℕ → Parting → Parting
-with_told [] first frame p = with_own true frame p
-with_told (x ∷ []) first frame p = with_own (x.first == first) frame p
-with_told (x ∷ y ∷ others) first frame p = p
+abbrev pub parting_with_told : List Told → ℕ → ℕ → Parting → Parting
+parting_with_told [] first frame p = with_own true frame p
+parting_with_told (x ∷ []) first frame p = with_own (x.first == first) frame p
+parting_with_told (x ∷ y ∷ others) first frame p = p
 
-abbrev pub with_first : Option ℕ → CaptureDates → ℕ → Parting → Parting
-with_first None c frame p = p
-with_first (Some first) c frame p = with_told c.told.own.items first frame p
+abbrev pub parting_with_first : Option ℕ → CaptureDates → ℕ → Parting → Parting
+parting_with_first None c frame p = p
+parting_with_first (Some first) c frame p = parting_with_told c.told.own.items first frame p
 
 -- a message more, if it has a date, after this station is known
-abbrev pub with_date_if_any : ℕ → Option ℕ → CaptureDates → Option DateMessage → ℕ → Parting → Parting
-with_date_if_any now None c m frame p = p
-with_date_if_any now (Some station) c None frame p = p
-with_date_if_any now (Some station) c (Some m) frame p = with_first (first_by_own now station c m) c frame p
+abbrev pub parting_with_date : ℕ → Option ℕ → CaptureDates → Option DateMessage → ℕ → Parting → Parting
+parting_with_date now None c m frame p = p
+parting_with_date now (Some station) c None frame p = p
+parting_with_date now (Some station) c (Some m) frame p = parting_with_first (first_by_own now station c m) c frame p
 
 -- ---- the place
 

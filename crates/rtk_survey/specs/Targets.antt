@@ -128,7 +128,7 @@ equipment_times_of now named (f ∷ before) =
 
 abbrev pub parting_with_reading : ℕ → TargetDates → ℕ → Parting → Result AnyMessage AnyFault → List ℕ → Parting
 parting_with_reading now d frame p (Ok m) payload = with_epochs d.capture.span (with_observation now d m).capture.span frame p
-parting_with_reading now d frame p (Err fault) payload = parting.with_date_if_any now d.station d.capture (date_in (bits payload)) frame p
+parting_with_reading now d frame p (Err fault) payload = parting.parting_with_date now d.station d.capture (date_in (bits payload)) frame p
 
 -- what frames tell, by the present, if this station is named, or none
 abbrev pub parting_of : ℕ → Option ℕ → List ReadFrame → Parting

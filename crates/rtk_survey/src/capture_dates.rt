@@ -1,7 +1,7 @@
 //! The epochs of a station in a capture, and what the capture tells of the first of them.
 
 ghost use Rattle.std.specs.Prelude.{◌≡◌};
-ghost use Rattle.rtk_survey.specs.CaptureDates.{no_dates, with_tellings, with_waiting, with_epoch_time, with_date, first_by_own, with_own_moments, first_of, own_moment_of};
+ghost use Rattle.rtk_survey.specs.CaptureDates.{no_dates, with_tellings, with_waiting, with_epoch_time, with_date, first_by_own, with_own_moments, first_telling, own_moment_of};
 
 use crate::date_message::DateMessage;
 use crate::span::Span;
@@ -42,8 +42,8 @@ fn take_own_moments(named: &mut Tellings, now: GpsMs, station: u16, messages: &[
     }
 }
 
-fn first_of(told: &[Told]) -> Option<Told>
-    ensures { result ≡ first_of told.now }
+fn first_telling(told: &[Told]) -> Option<Told>
+    ensures { result ≡ first_telling told.now }
 {
     told.first().copied()
 }
@@ -102,7 +102,7 @@ impl CaptureDates {
         }
         let mut named = Tellings::new();
         take_own_moments(&mut named, now, station, self.waiting.as_slice());
-        first_of(named.counting())
+        first_telling(named.counting())
     }
 
     /// The first epoch that a message tells, if it is a 1013 or a 1029 of this station and an epoch came.

@@ -39,8 +39,8 @@ fn apart_ms(a: GpsMs, b: GpsMs) -> u64
     a.ms().saturating_sub(b.ms()) + b.ms().saturating_sub(a.ms())
 }
 
-fn is_break(before: GpsMs, after: GpsMs) -> bool
-    ensures { result ≡ spec.is_break before after }
+fn is_time_break(before: GpsMs, after: GpsMs) -> bool
+    ensures { result ≡ spec.is_time_break before after }
 {
     after.ms() < before.ms() || before.ms() + LONGEST_STEP_MS < after.ms()
 }
@@ -58,7 +58,7 @@ fn greater_step(step: Option<EpochStep>, more: EpochStep) -> EpochStep
 fn step_with(step: Option<EpochStep>, before: GpsMs, after: GpsMs, frame: u64) -> Option<EpochStep>
     ensures { result ≡ spec.step_with step before after frame }
 {
-    if is_break(before, after) {
+    if is_time_break(before, after) {
         let ms = apart_ms(before, after);
         Some(greater_step(step, EpochStep { ms, frame }))
     } else {
@@ -115,7 +115,7 @@ impl Parting {
     // A 1013 or a 1029 of the station that tells this first epoch, after others. If two dates were told before an
     // epoch came, no place parts the capture.
     fn take_told(&mut self, own: &[Told], first: u64, frame: u64)
-        ensures { self.new ≡ spec.with_told own.now first frame self.old }
+        ensures { self.new ≡ spec.parting_with_told own.now first frame self.old }
     {
         match own {
             [] => self.take_own(true, frame),
@@ -133,7 +133,7 @@ impl Parting {
         message: Option<DateMessage>,
         frame: u64,
     )
-        ensures { self.new ≡ spec.with_date_if_any now station capture.now message frame self.old }
+        ensures { self.new ≡ spec.parting_with_date now station capture.now message frame self.old }
     {
         let (Some(station), Some(message)) = (station, message) else {
             return;

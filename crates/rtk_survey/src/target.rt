@@ -249,7 +249,7 @@ impl TargetSurvey {
     // A message more, if it has a date.
     fn take_date(&mut self, message: Option<DateMessage>, frame: u64)
         ensures dates { self.new.dates ≡ spec.with_date_if_any self.old.present self.old.dates message }
-        ensures parting { self.new.parting ≡ parting.with_date_if_any self.old.present self.old.dates.station self.old.dates.capture message frame self.old.parting }
+        ensures parting { self.new.parting ≡ parting.parting_with_date self.old.present self.old.dates.station self.old.dates.capture message frame self.old.parting }
         ensures to_come { self.new.to_come ≡ spec.first_to_come self.old.present self.old.to_come message }
         ensures others { (self.new.present ≡ self.old.present) × (self.new.phases ≡ self.old.phases) × (self.new.equipment ≡ self.old.equipment) }
     {
