@@ -4,6 +4,7 @@ mod CodeListLemmas
 mod FaultLineLemmas
 mod HeadLemmas
 mod KindLemmas
+mod LabelPassingLemmas
 mod LinkLemmas
 mod MomentTextLemmas
 mod NameListLemmas

@@ -4,6 +4,7 @@ pub mod ConvertsBytes
 pub mod CodeLines
 pub mod FaultLines
 pub mod JoinedLinks
+pub mod LabelPassing
 pub mod Said
 pub mod SurveysText
 pub mod Watched

@@ -7,7 +7,7 @@ ghost use Rattle.rtk_streams.specs.declared.exit_status.TheConstants.{FAILED, NO
 ghost use Rattle.rtk_cli.specs.Said.{IsSaid};
 
 use crate::auto_converting::convert_joined;
-use crate::auto_labelling::label_beside;
+use crate::auto_labelling::Labelled;
 use crate::auto_looking::{look_at_files, made_at};
 use crate::auto_parting::put_parting_of;
 use crate::auto_reading::survey_captures;
@@ -232,10 +232,10 @@ fn finish<R: Files + Eprint + AllocGlobal, O: Write + Drop, W: Write + Drop>(
     Ok((out, outcome))
 }
 
-// Converts to a file beside this name. If that is not whole, it is let go.
+// Converts to a file beside this name, with its label. If that is not whole, it is let go.
 fn convert_beside<R: Files + Eprint + AllocGlobal, W: Write + Drop>(
     rt: &R,
-    work: Work<'_>,
+    mut work: Work<'_>,
     report: Unbroken<W>,
     name: &str,
     is_reported: bool,
@@ -246,10 +246,11 @@ fn convert_beside<R: Files + Eprint + AllocGlobal, W: Write + Drop>(
         Ok(beside) => beside,
         Err(fault) => return Err(fail_output(rt, name, fault)),
     };
-    match convert_to(rt, work, beside.file, report, is_reported) {
+    let file = Labelled::new(beside.file, work.label.take());
+    match convert_to(rt, work, file, report, is_reported) {
         Ok((file, outcome)) => Ok((
             Beside {
-                file,
+                file: file.into_inner(),
                 name: beside.name,
             },
             outcome,
@@ -261,44 +262,26 @@ fn convert_beside<R: Files + Eprint + AllocGlobal, W: Write + Drop>(
     }
 }
 
-// The file that gets the name: the one that was converted, or that one with the label.
-fn whole_beside<R: Files + Input + Eprint + AllocGlobal>(
-    rt: &R,
-    label: Option<Label>,
-    plain: Beside<R::File>,
-    name: &str,
-) -> Result<Beside<R::File>, u8>
-    ensures plain { label ≡ None → result ≡ Ok plain }
-    ensures status { IfErr result (λ status. status ≤ NOT_VALID) }
-{
-    match label {
-        Some(label) => label_beside(rt, &label, plain, name),
-        None => Ok(plain),
-    }
-}
-
 // The file that was converted has no record, so it does not replace the one that has the name.
 fn keep_status<R: Files + Eprint + AllocGlobal, F: Drop>(
     rt: &R,
-    plain: Beside<F>,
+    whole: Beside<F>,
     name: &str,
     outcome: &Outcome,
 ) -> u8
     ensures { result ≤ NOT_VALID }
 {
-    let_go(rt, plain.name.as_str());
+    let_go(rt, whole.name.as_str());
     if !outcome.is_heard {
         return FAILED;
     }
     keep_named(rt, name)
 }
 
-// Gives a file that was converted its name, once it has its label; or else says why not. A file without a record
-// replaces none.
-fn name_converted<R: Files + Input + Eprint + AllocGlobal>(
+// Gives a file that was converted its name, or else says why not. A file without a record replaces none.
+fn name_converted<R: Files + Eprint + AllocGlobal>(
     rt: &R,
-    label: Option<Label>,
-    plain: Beside<R::File>,
+    whole: Beside<R::File>,
     outcome: &Outcome,
     name: &str,
     force: bool,
@@ -306,9 +289,8 @@ fn name_converted<R: Files + Input + Eprint + AllocGlobal>(
     ensures { IfErr result (λ status. status ≤ NOT_VALID) }
 {
     if force && outcome.counts.epochs == 0 && is_there(rt, name) {
-        return Err(keep_status(rt, plain, name, outcome));
+        return Err(keep_status(rt, whole, name, outcome));
     }
-    let whole = whole_beside(rt, label, plain, name)?;
     match name_whole(rt, whole.file, whole.name.as_str(), name, force) {
         Ok(()) => Ok(()),
         Err(fault) => Err(fail_output(rt, name, fault)),
@@ -326,12 +308,11 @@ fn named_status<R: Eprint>(rt: &R, outcome: &Outcome, name: &str) -> u8
     status
 }
 
-// Converts to a file beside this name, which gets the name once it is whole, or once the file with its
-// label is.
+// Converts to a file beside this name, which gets the name once it is whole.
 #[inline(never)]
-fn convert_to_file<R: Files + Input + Eprint + AllocGlobal, W: Write + Drop>(
+fn convert_to_file<R: Files + Eprint + AllocGlobal, W: Write + Drop>(
     rt: &R,
-    mut work: Work<'_>,
+    work: Work<'_>,
     report: Unbroken<W>,
     name: &str,
     ways: &Ways<'_>,
@@ -342,12 +323,11 @@ fn convert_to_file<R: Files + Input + Eprint + AllocGlobal, W: Write + Drop>(
     let Ok(shown) = quoted(rt.alloc(), name) else {
         return fail(rt, ToolFault::OutOfMemory);
     };
-    let label = work.label.take();
-    let (plain, outcome) = match convert_beside(rt, work, report, name, ways.report) {
+    let (whole, outcome) = match convert_beside(rt, work, report, name, ways.report) {
         Ok(done) => done,
         Err(status) => return status,
     };
-    match name_converted(rt, label, plain, &outcome, name, ways.force) {
+    match name_converted(rt, whole, &outcome, name, ways.force) {
         Ok(()) => named_status(rt, &outcome, shown.as_str()),
         Err(status) => status,
     }

@@ -54,7 +54,7 @@ pub use auto_converting::convert_joined;
 pub use auto_reading::survey_through;
 pub use converting::{Converted, conversion_status, convert_through};
 pub use jobs::job;
-pub use laws::order_makes_no_difference;
+pub use laws::{files_pass_labelled, order_makes_no_difference};
 pub use rtk_commands::{CHECK_LIMIT, SHOW_LIMIT, check_file, show, show_line};
 pub use rtk_streams::ToolFault;
 pub use running::run_program;

@@ -1,5 +1,5 @@
 -- The laws of src/laws.rt.
-use Rattle.std.proofs.Common.{◌≡◌, ◌<◌, ℕ, List, [], ◌++◌, length, take, drop, codes, ap, sym, arith, refl, ◌∙◌, append_assoc, subst, inl, inr}
+use Rattle.std.proofs.Common.{◌≡◌, ◌<◌, ◌≤◌, ℕ, List, [], ◌++◌, length, take, drop, codes, ap, sym, arith, refl, ◌∙◌, append_assoc, subst, inl, inr}
 use Rattle.std.specs.Prelude.{flat_map}
 use Rattle.std.proofs.lemmas.List.{take_at, drop_at, drop-drop}
 use Rattle.rtk_rinex.specs.CheckTable.{OneTable}
@@ -12,7 +12,7 @@ use Rattle.rtk_rinex.specs.Table.{WellFormedTable, table_text}
 use Rattle.rtk_rinex.specs.MixedTable.{mixed_table_text}
 use Rattle.rtk_label.specs.Fields.{marker_number_line}
 use Rattle.rtk_label.specs.Labelled.{LabelView, IsLabel, IsFor, blank_label, top_lines, middle_lines, front_lines, mixed_front_lines}
-use Rattle.rtk_label.specs.LabelLaws.{BlankIsFile, FrontIsChanged, LabelsAreTold, RecordsStay, MixedLabelsAreTold, MixedFrontIsChanged, MixedRecordsStay, MixedLabelLaws}
+use Rattle.rtk_label.specs.LabelLaws.{BlankIsFile, FilesAreLong, FrontIsChanged, LabelsAreTold, RecordsStay, MixedLabelsAreTold, MixedFrontIsChanged, MixedRecordsStay, MixedLabelLaws}
 use Rattle.rtk_label.proofs.FileParts.{FileParts, AreFileParts, text_of_parts, parts_of, mixed_parts_of}
 use Rattle.rtk_label.specs.Steps.Shown.{IsNumberIn, IsRead}
 use Rattle.rtk_label.proofs.PieceLemmas.{same_parts}
@@ -165,3 +165,10 @@ mixed-told l m t u is good for other wt wu e =
 
 pub mixed-laws : MixedLabelLaws
 mixed-laws = record { blank = blank_mixed_text; told = mixed-told; front = mixed-front; records = mixed-records }
+
+pub files-long : FilesAreLong
+files-long =
+    record {
+      gps = λ t good. subst (λ (text : List ℕ). 810 ≤ length text) (sym (plain_parts t)) (length-labelled blank_label (parts_of t) blank_is_label (parts-good t good));
+      mixed = λ t good. subst (λ (text : List ℕ). 810 ≤ length text) (sym (mixed_plain_parts t)) (length-labelled blank_label (mixed_parts_of t) blank_is_label (mixed_parts-good t good));
+    }

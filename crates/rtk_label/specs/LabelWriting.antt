@@ -30,6 +30,12 @@ abbrev pub WritesFirstOfFront : List ℕ → LabelView → Option (List ℕ) →
 WritesFirstOfFront text l before after =
     (t : WellFormedTable) → IsWellFormedTable t → text ≡ table_text t → TakesPart before after (front_lines l t.head t.site)
 
+-- the lines that a label makes of the first 729 bytes of a text: if the text of a table begins with these bytes, its text
+-- with the label is these lines and the rest of it
+pub record IsFilledFront (l : LabelView) (front lines : List ℕ) : Type 0 where
+  pub gps : (t : WellFormedTable) → IsWellFormedTable t → take 729 (table_text t) ≡ front → labelled_text l t ≡ lines ++ drop 729 (table_text t)
+  pub mixed : (t : MixedTable) → IsMixedTable t → take 729 (mixed_table_text t) ≡ front → labelled_mixed_text l t ≡ lines ++ drop 729 (mixed_table_text t)
+
 -- if the plain text is that of a table, the text is that of this table with the label
 abbrev pub WasLabelled : List ℕ → List ℕ → LabelView → Type 0
 WasLabelled text plain l = (t : WellFormedTable) → IsWellFormedTable t → plain ≡ table_text t → (text ≡ labelled_text l t) × IsFor l t.site

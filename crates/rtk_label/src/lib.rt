@@ -52,6 +52,7 @@
 
 mod columns;
 mod fields;
+mod filling;
 mod front;
 mod label;
 mod label_fault;
@@ -60,10 +61,11 @@ mod laws;
 mod unlabelled;
 
 pub use columns::PLAIN_FRONT;
+pub use filling::Filling;
 pub use label::{Label, LabelParts};
 pub use label_fault::LabelFault;
 pub use labelled_file::{
     is_for, is_for_mixed, write_front, write_front_mixed, write_labelled, write_labelled_mixed,
 };
-pub use laws::{blank_is_file, front_is_changed, labels_are_told, mixed_label_laws, records_stay};
+pub use laws::{blank_is_file, files_are_long, front_is_changed, labels_are_told, mixed_label_laws, records_stay};
 pub use unlabelled::{Unlabelled, unlabel};

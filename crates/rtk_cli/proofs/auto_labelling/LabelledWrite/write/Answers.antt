@@ -1,0 +1,12 @@
+use Rattle.std.proofs.Common.{None, Some, sym, ◌∙◌}
+use Rattle.rtk_cli.proofs.LabelPassingLemmas.{passed-on, by-filling}
+use Rattle.rtk_cli.proofs.auto_labelling.LabelledWrite.write.Goals as goal
+
+pub returns-in-Some-clause-fills : goal.returns-in-Some-clause-fills
+returns-in-Some-clause-fills g c =
+    by-filling g.W.Write.contents c.args.self.now c.fill.new.self (Some c.in-Some.filling) c.fill.result c.args.buf.now (sym c.take.ensures.value ∙ c.in-Some.is) c.fill.ensures.fills
+
+pub returns-in-None-clause-fills : goal.returns-in-None-clause-fills
+returns-in-None-clause-fills g c =
+    by-filling g.W.Write.contents c.args.self.now (record { inner = c.write.new.self; filling = c.take.new.self }) None c.write.result c.args.buf.now (sym c.take.ensures.value ∙ c.in-None.is)
+    (passed-on g.W.Write.contents c.args.self.now.inner (record { inner = c.write.new.self; filling = c.take.new.self }) c.write.result c.args.buf.now c.take.ensures.after c.write.ensures.bytes)
