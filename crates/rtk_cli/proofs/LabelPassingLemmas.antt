@@ -67,7 +67,7 @@ module _ {W : Type 0} (contents : W → Option (List ℕ)) where
       → contents inner ≡ Some before → filling_front f ++ (part ++ concat parts) ≡ text
       → MatchOption o (LinesAreWritten contents f inner mid part) (λ g. LinesWait f g inner mid part) → FillsParts contents mid new parts
       → ((g : Filling) → mid.filling ≡ Some g → filling_label g ≡ l → length (filling_front g) < 729 → contents mid.inner ≡ Some before → filling_front g ++ concat parts ≡ text
-          → contents new.inner ≡ Some (before ++ whole))
+      → contents new.inner ≡ Some (before ++ whole))
       → contents new.inner ≡ Some (before ++ whole)
   behind l text whole fits mid new f inner before part parts None none label is same wrote steps more =
       let front : List ℕ = filling_front f ++ part in

@@ -35,11 +35,7 @@ impl Filling {
         ensures label { filling_label self.new ≡ filling_label self.old }
     {
         let count = part.len().min(self.front.remaining_capacity());
-        if self
-            .front
-            .try_extend_from_slice(&part[..count])
-            .is_err()
-        {
+        if self.front.try_extend_from_slice(&part[..count]).is_err() {
             unreachable!();
         }
         count

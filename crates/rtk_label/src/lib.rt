@@ -67,5 +67,8 @@ pub use label_fault::LabelFault;
 pub use labelled_file::{
     is_for, is_for_mixed, write_front, write_front_mixed, write_labelled, write_labelled_mixed,
 };
-pub use laws::{blank_is_file, files_are_long, front_is_changed, labels_are_told, mixed_label_laws, records_stay};
+pub use laws::{
+    blank_is_file, files_are_long, front_is_changed, labels_are_told, mixed_label_laws,
+    records_stay,
+};
 pub use unlabelled::{Unlabelled, unlabel};
