@@ -7,8 +7,8 @@ text_if_any None = []
 text_if_any (Some text) = text.now
 
 -- the name of the capture at a place
-abbrev pub name_at : List (Bor (List ℕ)) → ℕ → List ℕ
-name_at names place = text_if_any (slice_get names place)
+abbrev pub capture_name : List (Bor (List ℕ)) → ℕ → List ℕ
+capture_name names place = text_if_any (slice_get names place)
 
 -- the lines of the entries of a list by their places, of which the first is this one
 abbrev pub lines_by : {A : Type 0} → (ℕ → A → List ℕ) → ℕ → List A → List ℕ

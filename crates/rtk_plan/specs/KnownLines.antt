@@ -16,7 +16,7 @@ use Rattle.rtk_survey.specs.declared.equipment.Equipment.{Equipment}
 use Rattle.rtk_survey.specs.declared.span.Span.{Span}
 use Rattle.rtk_survey.specs.declared.survey.CaptureSurvey.{CaptureSurvey}
 use Rattle.rtk_survey.specs.declared.tellings.Told.{Told}
-use Rattle.rtk_plan.specs.CaptureNames.{name_at, lines_by}
+use Rattle.rtk_plan.specs.CaptureNames.{capture_name, lines_by}
 use Rattle.rtk_plan.specs.FewPhases.{has_few_phases}
 use Rattle.rtk_plan.specs.Linking.{places_of}
 use Rattle.rtk_plan.specs.Lists.{date_line, undated_line, stray_line, capture_line, name_line, msm_lines, doppler_line, sbas_line, all_unread}
@@ -62,7 +62,7 @@ other_dates_if_any station near (Some s) survey name = other_dates station near 
 -- those of captures with these names
 abbrev pub all_other_dates : List (Bor (List ℕ)) → ℕ → ℕ → List CaptureSurvey → List ℕ
 all_other_dates names station near ss =
-    lines_by (λ at s. other_dates_if_any station near (dates_in station s).span s (name_at names at)) 0 ss
+    lines_by (λ at s. other_dates_if_any station near (dates_in station s).span s (capture_name names at)) 0 ss
 
 -- a capture has epochs, and tells no date
 abbrev pub is_undated : StationCapture → Bool
@@ -72,7 +72,7 @@ abbrev pub undated_line_if : StationCapture → List ℕ → List ℕ
 undated_line_if c name = if is_undated c then undated_line name else []
 
 abbrev pub all_undated : List (Bor (List ℕ)) → List StationCapture → List ℕ
-all_undated names cs = lines_by (λ at c. undated_line_if c (name_at names at)) 0 cs
+all_undated names cs = lines_by (λ at c. undated_line_if c (capture_name names at)) 0 cs
 
 -- the captures that are dated near the others, unless words date all of them
 abbrev pub undated_lines : DateSource → List (Bor (List ℕ)) → List StationCapture → List ℕ
@@ -113,7 +113,7 @@ few_phases_lines ss station kind cs = flat_map (few_phases_line_at ss station ki
 
 -- the captures at these places, which have the stray epoch
 abbrev pub stray_lines : List (Bor (List ℕ)) → ℕ → List ℕ → List ℕ
-stray_lines names epoch places = flat_map (λ place. stray_line epoch (name_at names place)) places
+stray_lines names epoch places = flat_map (λ place. stray_line epoch (capture_name names place)) places
 
 -- everything before the line of late messages
 unfoldable pub lines_before_late : List (Bor (List ℕ)) → List CaptureSurvey → Plan → Equipment → List ℕ
@@ -133,7 +133,7 @@ skipped_line_of (Some c) name = capture_line (codes " skipped ") name c.look
 -- formula
 -- a capture that is left out
 abbrev pub skipped_line : List (Bor (List ℕ)) → List StationCapture → ℕ → List ℕ
-skipped_line names cs place = skipped_line_of (slice_get cs place) (name_at names place)
+skipped_line names cs place = skipped_line_of (slice_get cs place) (capture_name names place)
 
 abbrev pub skipped_lines : List (Bor (List ℕ)) → List StationCapture → List ℕ → List ℕ
 skipped_lines names cs places = flat_map (skipped_line names cs) places
@@ -149,7 +149,7 @@ epochs_line_of None name = []
 epochs_line_of (Some c) name = epochs_line c.span name
 
 abbrev pub epochs_line_at : List (Bor (List ℕ)) → List StationCapture → ℕ → List ℕ
-epochs_line_at names cs place = epochs_line_of (slice_get cs place) (name_at names place)
+epochs_line_at names cs place = epochs_line_of (slice_get cs place) (capture_name names place)
 
 -- those of the captures of a link, and of all links
 abbrev pub epochs_lines_of : List (Bor (List ℕ)) → List StationCapture → List ℕ → List ℕ

@@ -1,7 +1,7 @@
 //! The captures that were read, and how a refusal lists them.
 
 ghost use Rattle.std.specs.Prelude.{◌≡◌, ◌++◌, flat_map, slice_get, IfOk, OnOk};
-ghost use Rattle.rtk_plan.specs.CaptureNames.{name_at};
+ghost use Rattle.rtk_plan.specs.CaptureNames.{capture_name};
 ghost use Rattle.rtk_plan.specs.Lists.{date_line, held_lines};
 ghost use Rattle.rtk_plan.specs.RefusalLists as spec;
 
@@ -105,7 +105,7 @@ fn put_reach_if(
 impl<'n> Captures<'_, 'n> {
     /// The name of a capture.
     pub(crate) fn name(&self, place: usize) -> &'n str
-        ensures { result.now ≡ name_at self.now.names.now place }
+        ensures { result.now ≡ capture_name self.now.names.now place }
     {
         if place < self.names.len() {
             self.names[place]
