@@ -48,6 +48,15 @@ impl<W: Write> Labelled<W> {
         Ok(count)
     }
 
+    // Hands on a part of the text.
+    fn pass_on(&mut self, buf: &[u8]) -> io::Result<usize>
+        ensures bound { WritesAtMost result buf.now }
+        ensures bytes { WriteAppends (W.contents self.old.inner) (W.contents self.new.inner) result buf.now }
+        ensures filling { self.new.filling ≡ self.old.filling }
+    {
+        self.inner.write(buf)
+    }
+
     // Takes what the lines that wait lack, and writes them once they are whole.
     fn fill(&mut self, filling: Filling, buf: &[u8]) -> io::Result<usize>
         requires { self.old.filling ≡ None }
@@ -74,7 +83,7 @@ impl<W: Write> Write for Labelled<W> {
     {
         match self.filling.take() {
             Some(filling) => self.fill(filling, buf),
-            None => self.inner.write(buf),
+            None => self.pass_on(buf),
         }
     }
 

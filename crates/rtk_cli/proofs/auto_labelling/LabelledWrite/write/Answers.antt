@@ -8,5 +8,5 @@ returns-in-Some-clause-fills g c =
 
 pub returns-in-None-clause-fills : goal.returns-in-None-clause-fills
 returns-in-None-clause-fills g c =
-    by-filling g.W.Write.contents c.args.self.now (record { inner = c.write.new.self; filling = c.take.new.self }) None c.write.result c.args.buf.now (sym c.take.ensures.value ∙ c.in-None.is)
-    (passed-on g.W.Write.contents c.args.self.now.inner (record { inner = c.write.new.self; filling = c.take.new.self }) c.write.result c.args.buf.now c.take.ensures.after c.write.ensures.bytes)
+    by-filling g.W.Write.contents c.args.self.now c.pass_on.new.self None c.pass_on.result c.args.buf.now (sym c.take.ensures.value ∙ c.in-None.is)
+    (passed-on g.W.Write.contents c.args.self.now.inner c.pass_on.new.self c.pass_on.result c.args.buf.now (c.pass_on.ensures.filling ∙ c.take.ensures.after) c.pass_on.ensures.bytes)
