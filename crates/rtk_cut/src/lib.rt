@@ -64,6 +64,7 @@
 
 mod counts;
 mod epoch_file;
+mod extent;
 mod fault;
 mod gps_file;
 mod laws;
@@ -75,6 +76,7 @@ mod part_writer;
 mod slips;
 
 pub use counts::CutCounts;
+pub use extent::{Extent, extent_of_mixed_part, extent_of_part};
 pub use fault::CutFault;
 pub use laws::{
     epochs_are_of_files, others_stay, own_step_gives_file, parts_are_tables, parts_are_written,
