@@ -1,4 +1,5 @@
 pub mod Fields
+pub mod TimeLines
 pub mod Labelled
 pub mod LabelFault
 pub mod LabelLaws
