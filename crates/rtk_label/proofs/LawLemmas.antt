@@ -23,7 +23,7 @@ use Rattle.rtk_label.proofs.FrontLemmas.{type_line}
 use Rattle.rtk_label.proofs.NumberLemmas.{no_number, length-number, number_cut}
 use Rattle.rtk_label.proofs.PlainLemmas.{blank_is_label, top_in, label_in}
 use Rattle.rtk_label.proofs.TableLemmas.{length-top, length-middle, blank_text, blank_mixed_text, label_parts, plain_parts, parts-good, long-after, mixed_label_parts, mixed_plain_parts, mixed_parts-good, mixed_long-after, length-labelled}
-use Rattle.rtk_label.proofs.PartedLemmas.{is_plain, length-type, first_of_middle}
+use Rattle.rtk_label.proofs.PartedLemmas.{after-front, is_plain, length-type, first_of_middle}
 
 pub blank-is_file : BlankIsFile
 blank-is_file t = blank_text t
@@ -36,16 +36,6 @@ mixed-records l t = record { records = flat_map mixed_record_text t.epochs; plai
 
 glue_front : (a n m x : List ℕ) → ((a ++ n) ++ m) ++ x ≡ a ++ (n ++ (m ++ x))
 glue_front a n m x = simp append_assoc
-
--- what stands after the first nine lines
-after-front : (p : FileParts) → AreFileParts p → drop 729 (text_of_parts blank_label p) ≡ p.rest
-after-front p good =
-    let top : List ℕ = top_lines p.letter [] p.marker p.made in
-    let middle : List ℕ = middle_lines blank_label p.site in
-    let a = length-top p.letter [] p.marker p.made (omega arith) good.marker in
-    let b = length-middle blank_label p.site blank_is_label good.site in
-    let below : drop 243 (text_of_parts blank_label p) ≡ middle ++ p.rest = drop_at top (middle ++ p.rest) 243 a in
-    sym (drop-drop 486 243 (text_of_parts blank_label p)) ∙ ap (drop 486) below ∙ drop_at middle p.rest 486 b
 
 front-of_parts : (l : LabelView) (p : FileParts) (plain front : List ℕ) → AreFileParts p → plain ≡ text_of_parts blank_label p
     → (top_lines p.letter l.run_by p.marker p.made ++ marker_number_line l.marker_number) ++ middle_lines l p.site ≡ front → text_of_parts l p ≡ front ++ drop 729 plain

@@ -1,5 +1,5 @@
 -- The lines that follow from the records: how wide they are, and that they are told by their labels.
-use Rattle.std.proofs.Common.{◌≡◌, ◌≢◌, ◌<◌, ◌≤◌, ◌⊎◌, ℕ, zero, suc, ◌+◌, ◌-◌, ◌*◌, ◌/◌, ◌%◌, ◌^◌, Bool, true, false, List, [], ◌∷◌, ◌++◌, length, take, drop, get_or, codes, decimal, pos, Option, None, Some, if◌then◌else◌, nat_lt, ap, sym, arith, refl, ◌∙◌, append_assoc, length-append, inl, inr}
+use Rattle.std.proofs.Common.{◌≡◌, ◌≢◌, ◌<◌, ◌≤◌, ◌⊎◌, ℕ, zero, suc, ◌+◌, ◌-◌, ◌*◌, ◌/◌, ◌%◌, ◌^◌, Bool, true, false, List, [], ◌∷◌, ◌++◌, length, take, drop, get_or, codes, decimal, pos, Option, None, Some, if◌then◌else◌, nat_lt, ap, sym, arith, refl, ◌∙◌, append_assoc, length-append, subst, inl, inr}
 use Rattle.std.specs.Prelude.{IfSome, Decides}
 use Rattle.std.proofs.lemmas.Bool.Decides.{nat_tests}
 use Rattle.std.proofs.lemmas.Fmt.{length-decimal-le}
@@ -165,14 +165,16 @@ len_of is = if is then 81 else 0
 -- a text begins with this piece or with what comes after it, as a test of its label says
 piece-len : (label piece more text : List ℕ) (b : Bool) → Decides b (BeginsWith label text) → IsPiece label piece → ¬ (BeginsWith label more) → text ≡ piece ++ more
     → len_of b ≡ length piece
-piece-len label piece more text true told (inl none) no e = absurd (no (rw (sym (e ∙ ap (λ (x : List ℕ). x ++ more) none)) (told.0 refl)))
+piece-len label piece more text true told (inl none) no e =
+    absurd (no (subst (λ (x : List ℕ). BeginsWith label x) (e ∙ ap (λ (x : List ℕ). x ++ more) none) (told.0 refl)))
 piece-len label piece more text false told (inl none) no e = sym (ap length none)
 piece-len label piece more text true told (inr line) no e = sym line.0
-piece-len label piece more text false told (inr line) no e = absurd (clash false refl (told.1 (rw e (line.1 more))))
+piece-len label piece more text false told (inr line) no e =
+    absurd (clash false refl (told.1 (subst (λ (x : List ℕ). BeginsWith label x) (sym e) (line.1 more))))
 
 -- what comes after the interval has no line of that label
 no-interval-after : (piece more : List ℕ) → IsPiece last_label piece → HasNoTimeLine more → ¬ (BeginsWith interval_label (piece ++ more))
-no-interval-after piece more (inl none) no begins = no.0 (rw none at begins)
+no-interval-after piece more (inl none) no begins = no.0 (subst (λ (x : List ℕ). BeginsWith interval_label (x ++ more)) none begins)
 no-interval-after piece more (inr line) no begins = apart interval_label last_label (piece ++ more) interval-apart begins (line.1 more)
 
 -- an absent line is the line of nothing

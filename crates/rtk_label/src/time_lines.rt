@@ -202,7 +202,9 @@ pub(crate) struct ToldLines {
 
 /// Reads the time lines at the begin of a text. Their labels alone say which they are.
 pub(crate) fn told_lines(text: &[u8]) -> ToldLines
-    ensures { AreTold text.now result.times result.lines.items }
+    ensures told { AreTold text.now result.times result.lines.items }
+    ensures few { length result.lines.items ≤ 162 }
+    ensures within { length result.lines.items ≤ length text.now }
 {
     let interval = begins_with(text, INTERVAL_END);
     let first = len_if(interval);
