@@ -1,6 +1,6 @@
 -- The command `compare`: what it makes of two texts, of which each is that of a table with a label, perhaps a blank one,
 -- and with time lines, perhaps none.
-use Rattle.std.specs.Prelude.{◌≡◌, ◌<◌, ◌+◌, ◌^◌, ◌⊎◌, ℕ, Bool, true, false, List, [], ◌++◌, length}
+use Rattle.std.specs.Prelude.{◌≡◌, ◌<◌, ◌+◌, ◌^◌, ◌⊎◌, ℕ, Bool, true, false, List, [], ◌++◌, length, Option, MatchOption}
 use Rattle.rtk_rinex.specs.MixedTable.{MixedTable, IsMixedTable, mixed_table_text}
 use Rattle.rtk_rinex.specs.MixedCheckTable.{IsMixedFault}
 use Rattle.rtk_rinex.specs.declared.check_fault.CheckFault.{CheckFault}
@@ -38,6 +38,12 @@ IsNoLabelledText text = (t : MixedTable) (l : LabelView) → IsLabelledText text
 -- these are the time lines of the table of any systems whose text this is
 abbrev pub HaveMixedLines : List ℕ → TimeLines → List ℕ → Type 0
 HaveMixedLines plain w lines = (t : MixedTable) → IsMixedTable t → plain ≡ mixed_table_text t → lines ≡ lines_of_epochs w t.epochs
+
+-- the first of these time lines that is not that of the table whose text is left, if there is one
+abbrev pub TellsWrongMixedLine : List ℕ → ℕ → TimeLines → List ℕ → Option ℕ → Type 0
+TellsWrongMixedLine plain from w lines told =
+    (t : MixedTable) → IsMixedTable t → plain ≡ mixed_table_text t
+    → MatchOption told (lines ≡ lines_of_epochs w t.epochs) (IsWrongLine from lines (lines_of_epochs w t.epochs))
 
 -- the text was parted into a label, time lines and the text of a table, and the lines are those of its records
 pub record IsPartedMixed (text plain : List ℕ) (label : LabelView) : Type 0 where

@@ -1,6 +1,6 @@
 -- A text with a label, perhaps a blank one, and with time lines, perhaps none, that is a file without them. A text is
 -- that of one file with one label and one choice of lines at most.
-use Rattle.std.specs.Prelude.{◌≡◌, ◌+◌, ◌^◌, ◌<◌, ◌⊎◌, ℕ, List, [], length}
+use Rattle.std.specs.Prelude.{◌≡◌, ◌+◌, ◌^◌, ◌<◌, ◌⊎◌, ℕ, List, [], length, Option, MatchOption}
 use Rattle.rtk_rinex.specs.declared.check_fault.CheckFault.{CheckFault}
 use Rattle.rtk_rinex.specs.declared.check_fault.Cause.TheVariants.{HeaderLine}
 use Rattle.rtk_label.specs.Fields.{marker_number_line}
@@ -48,6 +48,11 @@ pub record IsFaultWithLabel (text : List ℕ) (fault : CheckFault) : Type 0 wher
   pub from_is : from ≡ length (marker_number_line label.marker_number) + length lines
   pub size : length plain + from ≡ length text
   pub fault_is : IsFaultOfPlain plain from lines fault ⊎ IsFaultOfLines plain from times lines fault
+
+-- the first of these time lines that is not that of the file whose text is left, if there is one
+abbrev pub TellsWrongLine : List ℕ → ℕ → TimeLines → List ℕ → Option ℕ → Type 0
+TellsWrongLine plain from w lines told =
+    (f : FileTable) → IsFileTable f → plain ≡ file_text f → MatchOption told (lines ≡ file_lines w f) (IsWrongLine from lines (file_lines w f))
 
 -- the text was parted into a label, time lines and the text of a file, and the lines are those of its records
 pub record IsPartedTable (text plain : List ℕ) (label : LabelView) (times : TimeLines) : Type 0 where

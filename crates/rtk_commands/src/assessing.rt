@@ -8,6 +8,7 @@ ghost use Rattle.rtk_commands.specs.WithLabel.{MakesOfFile, WritesOfTable};
 use crate::any_table::AnyTable;
 use crate::file_answer::FileAnswer;
 use crate::file_command::FileCommand;
+use crate::no_table::NoTable;
 use crate::rendered::{Rendered, write_rendered};
 use crate::with_label::table_with_label;
 use rtk_frame::Sink;
@@ -29,13 +30,14 @@ fn numbers_of_file(alloc: Global, table: &AnyTable<'_>, form: Form) -> Result<Re
     }
 }
 
-// The numbers of a text, without the label that it has.
+// The numbers of a text, without the label and the time lines that it has.
 fn numbers_of(alloc: Global, text: &mut [u8], form: Form) -> Result<Rendered, AllocError>
     ensures { IfOk result (λ numbers. WritesOfTable (TellsTable form) text.old numbers.answer numbers.bytes.items) }
 {
-    match table_with_label(text) {
+    match table_with_label(alloc, text) {
         Ok(file) => numbers_of_file(alloc, &file.table, form),
-        Err(fault) => Ok(Rendered::refusal(alloc, fault)),
+        Err(NoTable::Refused(fault)) => Ok(Rendered::refusal(alloc, fault)),
+        Err(NoTable::OutOfMemory) => Err(AllocError),
     }
 }
 

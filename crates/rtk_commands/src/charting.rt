@@ -9,6 +9,7 @@ ghost use Rattle.rtk_commands.specs.WithLabel.{MakesOfFile, WritesOfTable};
 use crate::any_table::AnyTable;
 use crate::file_answer::FileAnswer;
 use crate::file_command::FileCommand;
+use crate::no_table::NoTable;
 use crate::rendered::{Rendered, write_rendered};
 use crate::with_label::table_with_label;
 use rtk_chart::{Choice, chosen_svg, chosen_text, is_there};
@@ -74,14 +75,15 @@ fn picture_of_file(
     }
 }
 
-// The picture of a text, without the label that it has.
+// The picture of a text, without the label and the time lines that it has.
 fn picture_of_text(alloc: Global, text: &mut [u8], chart: &Chart) -> Result<Rendered, AllocError>
     requires { ForSome chart.now.width IsWidth }
     ensures { IfOk result (λ picture. WritesOfTable (DrawsTable chart.now) text.old picture.answer picture.bytes.items) }
 {
-    match table_with_label(text) {
+    match table_with_label(alloc, text) {
         Ok(file) => picture_of_file(alloc, &file.table, chart),
-        Err(fault) => Ok(Rendered::refusal(alloc, fault)),
+        Err(NoTable::Refused(fault)) => Ok(Rendered::refusal(alloc, fault)),
+        Err(NoTable::OutOfMemory) => Err(AllocError),
     }
 }
 

@@ -6,6 +6,7 @@ ghost use Rattle.rtk_compare.specs.Differences.{HasFindings};
 ghost use Rattle.rtk_commands.specs.CompareInput.{IsPartedMixed, lines_of_labels, ComparesTexts};
 
 use crate::file_command::CHECK_LIMIT;
+use crate::no_table::NoTable;
 use crate::with_label::{LabelledMixed, mixed_with_label};
 use rtk_compare::{Findings, Form, answer_text, compare, compare_labels};
 use rtk_label::Label;
@@ -30,7 +31,8 @@ pub struct Compare {
 pub enum Compared {
     /// The text of the differences. Is something lost or changed?
     Told { worse: bool, text: Vec<u8> },
-    /// Without its label the old text is no file of `check`. This is its first fault.
+    /// Without its label and its time lines the old text is no file of `check`, or these lines are not those of its
+    /// records. This is its first fault.
     OldRefused(CheckFault),
     /// This is the first fault of the new text.
     NewRefused(CheckFault),
@@ -66,7 +68,7 @@ impl Compare {
         Ok(Compared::Told { worse, text })
     }
 
-    /// Compares two texts, whose labels are taken from them in their places.
+    /// Compares two texts, whose labels and time lines are taken from them in their places.
     pub fn texts(
         &self,
         alloc: Global,
@@ -75,13 +77,15 @@ impl Compare {
     ) -> Result<Compared, AllocError>
         ensures { IfOk result (λ compared. ComparesTexts self.now old.old new.old compared) }
     {
-        let old = match mixed_with_label(old) {
+        let old = match mixed_with_label(alloc, old) {
             Ok(file) => file,
-            Err(fault) => return Ok(Compared::OldRefused(fault)),
+            Err(NoTable::Refused(fault)) => return Ok(Compared::OldRefused(fault)),
+            Err(NoTable::OutOfMemory) => return Err(AllocError),
         };
-        let new = match mixed_with_label(new) {
+        let new = match mixed_with_label(alloc, new) {
             Ok(file) => file,
-            Err(fault) => return Ok(Compared::NewRefused(fault)),
+            Err(NoTable::Refused(fault)) => return Ok(Compared::NewRefused(fault)),
+            Err(NoTable::OutOfMemory) => return Err(AllocError),
         };
         self.files(alloc, &old, &new)
     }

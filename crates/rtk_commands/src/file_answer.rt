@@ -13,8 +13,8 @@ pub enum FileAnswer {
     Cut(CutCounts),
     /// The line of `check` is written that says no.
     NotValid,
-    /// Nothing is written: without its label the text is no file of `check`. This is its first fault,
-    /// and the line is that of the text as it was read.
+    /// Nothing is written: without its label and its time lines the text is no file of `check`, or these lines are
+    /// not those of its records. This is its first fault, and the line is that of the text as it was read.
     Refused(CheckFault),
     /// Nothing is written: the label has an antenna height, and the stream told one.
     Height,

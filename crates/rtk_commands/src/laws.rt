@@ -10,8 +10,9 @@ ghost use Rattle.rtk_message.specs.declared.msm_kind.MsmKind.TheVariants.{Msm4};
 ghost use Rattle.rtk_commands.specs.CheckLaws.{ValidTellsNumbers, FaultTextTellsFault, YesTellsNumbers, NoTellsFault, NoLineSaysBoth};
 ghost use Rattle.rtk_commands.specs.Shown.{IsLineOf, AreLinesBy, AreLinesOf};
 ghost use Rattle.rtk_commands.specs.ShownByKind.{IsLineOfKind};
-ghost use Rattle.rtk_commands.specs.WrittenLaws.{LineFollows, PictureFollows, NumbersFollow, PartFollows, LabelFollows};
+ghost use Rattle.rtk_commands.specs.WrittenLaws.{LineFollows, PictureFollows, NumbersFollow, PartFollows, LabelFollows, NothingGivesFile};
 
+use rtk_label::{blank_is_file, front_is_changed, mixed_label_laws};
 use rtk_rinex::{one_fault, one_mixed_fault, text_of_a_mixed_table, text_of_a_table};
 
 /// A payload has one line, in `show` and by each kind of MSM.
@@ -58,11 +59,16 @@ pub fn one_line_tells_one_answer()
 
 /// What `check`, `chart`, `quality`, `cut` and `label` are said to have written stands right after what the
 /// writer held, with nothing before, between or after it, however long it is; and it is of the whole
-/// text.
+/// text. With a blank label and no time line it is the file itself.
 pub fn written_follows()
     ensures line { LineFollows }
     ensures picture { PictureFollows }
     ensures numbers { NumbersFollow }
     ensures part { PartFollows }
     ensures label { LabelFollows }
-{}
+    ensures nothing { NothingGivesFile }
+{
+    blank_is_file();
+    front_is_changed();
+    mixed_label_laws();
+}

@@ -1,19 +1,17 @@
 //! A text that is a file without the label and the time lines that it has, perhaps a blank one and none.
 
-ghost use Rattle.std.specs.Prelude.{◌≡◌, ℕ, length, IfOk, IfErr};
-ghost use Rattle.rtk_rinex.specs.MixedTable.{MixedTable, IsMixedTable, mixed_table_text};
-ghost use Rattle.rtk_rinex.specs.declared.check_fault.Cause.TheVariants.{HeaderLine};
-ghost use Rattle.rtk_label.specs.LabelWriting.{IsWrongLine};
-ghost use Rattle.rtk_commands.specs.FileTable.{FileTable, IsFileTable, file_text, text_of, HasItsLetter, HaveLines, file_lines, lines_of_epochs};
-ghost use Rattle.rtk_commands.specs.CompareInput.{IsPartedMixed, HaveMixedLines, GivesNoMixed};
-ghost use Rattle.rtk_commands.specs.WithLabel.{IsPartedTable, GivesNone};
+ghost use Rattle.std.specs.Prelude.{◌≡◌, ◌+◌, ◌<◌, ◌^◌, IfOk, IfErr};
+ghost use Rattle.rtk_label.specs.LabelWriting.{line_in_text};
+ghost use Rattle.rtk_commands.specs.FileTable.{text_of, HasItsLetter};
+ghost use Rattle.rtk_commands.specs.CompareInput.{IsPartedMixed, TellsWrongMixedLine, GivesNoMixed};
+ghost use Rattle.rtk_commands.specs.WithLabel.{IsPartedTable, TellsWrongLine, GivesNone};
 
 use crate::any_table::{AnyTable, check_any};
-use crate::due_lines::mixed_lines;
+use crate::due_lines::{lines_of_file, lines_of_mixed};
 use crate::no_table::NoTable;
 use rtk_label::{Label, TimeLines, Unlabelled, unlabel};
 use rtk_rinex::{Cause, CheckFault, MixedTextTable, check_mixed_text};
-use std::alloc::Global;
+use std::alloc::{AllocError, Global};
 
 /// A file without its label and its time lines, and which these are.
 #[derive(Drop)]
@@ -25,7 +23,8 @@ pub(crate) struct LabelledTable<'a> {
 
 // The fault of a text, by that of what is left of it.
 fn fault_in_text(unlabelled: &Unlabelled, fault: CheckFault) -> CheckFault
-    ensures line { fault.line + unlabelled.now.from < 2 ^ 64 → result.line ≡ line_in_text unlabelled.now.from unlabelled.now.lines.items fault.line }
+    ensures line { fault.line + unlabelled.now.from < 2 ^ 64
+        → result.line ≡ line_in_text unlabelled.now.from unlabelled.now.lines.items fault.line }
     ensures cause { result.cause ≡ fault.cause }
 {
     CheckFault {
@@ -34,22 +33,17 @@ fn fault_in_text(unlabelled: &Unlabelled, fault: CheckFault) -> CheckFault
     }
 }
 
-// The first time line of a text that is not as it is due, or memory was refused.
+// The number of the first time line of a text that is not as it is due.
 fn wrong_line(
     alloc: Global,
     unlabelled: &Unlabelled,
     table: &AnyTable<'_>,
-) -> Result<Option<usize>, NoTable>
+) -> Result<Option<usize>, AllocError>
     requires { HasItsLetter table.now }
-    ensures none { IfOk result (λ line. IfNone line (HaveLines (text_of table.now) unlabelled.now.times unlabelled.now.lines.items)) }
-    ensures some { IfOk result (λ line. IfSome line (λ n. (f : FileTable) → IsFileTable f → text_of table.now ≡ file_text f
-        → IsWrongLine unlabelled.now.from unlabelled.now.lines.items (file_lines unlabelled.now.times f) n)) }
-    ensures memory { IfErr result (λ fault. fault ≡ OutOfMemory) }
+    ensures { IfOk result (TellsWrongLine (text_of table.now) unlabelled.now.from unlabelled.now.times unlabelled.now.lines.items) }
 {
-    match table.own_lines(alloc, unlabelled.times) {
-        Ok(due) => Ok(unlabelled.wrong_line(due.as_slice())),
-        Err(_) => Err(NoTable::OutOfMemory),
-    }
+    let due = lines_of_file(alloc, table, unlabelled.times)?;
+    Ok(unlabelled.wrong_line(due.as_slice()))
 }
 
 /// The table of a text, whose label and time lines are taken from it in its place. Else the first fault, with
@@ -68,17 +62,20 @@ pub(crate) fn table_with_label<'a>(
         Ok(table) => table,
         Err(fault) => return Err(NoTable::Refused(fault_in_text(&unlabelled, fault))),
     };
-    match wrong_line(alloc, &unlabelled, &table) {
-        Ok(None) => Ok(LabelledTable {
+    let wrong = match wrong_line(alloc, &unlabelled, &table) {
+        Ok(wrong) => wrong,
+        Err(_) => return Err(NoTable::OutOfMemory),
+    };
+    match wrong {
+        None => Ok(LabelledTable {
             label: unlabelled.label,
             times: unlabelled.times,
             table,
         }),
-        Ok(Some(line)) => Err(NoTable::Refused(CheckFault {
+        Some(line) => Err(NoTable::Refused(CheckFault {
             line,
             cause: Cause::HeaderLine,
         })),
-        Err(fault) => Err(fault),
     }
 }
 
@@ -94,16 +91,11 @@ fn wrong_mixed_line(
     alloc: Global,
     unlabelled: &Unlabelled,
     table: &MixedTextTable<'_>,
-) -> Result<Option<usize>, NoTable>
-    ensures none { IfOk result (λ line. IfNone line (HaveMixedLines table.now.text unlabelled.now.times unlabelled.now.lines.items)) }
-    ensures some { IfOk result (λ line. IfSome line (λ n. (t : MixedTable) → IsMixedTable t → table.now.text ≡ mixed_table_text t
-        → IsWrongLine unlabelled.now.from unlabelled.now.lines.items (lines_of_epochs unlabelled.now.times t.epochs) n)) }
-    ensures memory { IfErr result (λ fault. fault ≡ OutOfMemory) }
+) -> Result<Option<usize>, AllocError>
+    ensures { IfOk result (TellsWrongMixedLine table.now.text unlabelled.now.from unlabelled.now.times unlabelled.now.lines.items) }
 {
-    match mixed_lines(alloc, table, unlabelled.times) {
-        Ok(due) => Ok(unlabelled.wrong_line(due.as_slice())),
-        Err(_) => Err(NoTable::OutOfMemory),
-    }
+    let due = lines_of_mixed(alloc, table, unlabelled.times)?;
+    Ok(unlabelled.wrong_line(due.as_slice()))
 }
 
 /// The table of any systems of a text, as `table_with_label` has that of GPS.
@@ -120,15 +112,18 @@ pub(crate) fn mixed_with_label<'a>(
         Ok(table) => table,
         Err(fault) => return Err(NoTable::Refused(fault_in_text(&unlabelled, fault))),
     };
-    match wrong_mixed_line(alloc, &unlabelled, &table) {
-        Ok(None) => Ok(LabelledMixed {
+    let wrong = match wrong_mixed_line(alloc, &unlabelled, &table) {
+        Ok(wrong) => wrong,
+        Err(_) => return Err(NoTable::OutOfMemory),
+    };
+    match wrong {
+        None => Ok(LabelledMixed {
             label: unlabelled.label,
             table,
         }),
-        Ok(Some(line)) => Err(NoTable::Refused(CheckFault {
+        Some(line) => Err(NoTable::Refused(CheckFault {
             line,
             cause: Cause::HeaderLine,
         })),
-        Err(fault) => Err(fault),
     }
 }
