@@ -1,6 +1,7 @@
 mod AfterFrontLemmas
 mod CheckLineLemmas
 mod CompareLemmas
+mod DueLemmas
 mod FileLemmas
 mod FileTableLemmas
 mod KindLemmas

@@ -44,7 +44,7 @@ pub refused_with : (m : LabelView) (w : TimeLines) (lines text plain : List ℕ)
     → from ≡ length (marker_number_line m.marker_number) + length lines → length plain + from ≡ length text
     → (other.line + from < 2 ^ 64 → fault.line ≡ line_in_text from lines other.line) → fault.cause ≡ other.cause → IsRefused text fault
 refused_with m w lines text plain from fault other parted none is from_is size line cause = (
-  λ f good with. none f good (every-file text plain m w lines parted f with.0 with.1 good with.2 with.3 with.4).0,
+  λ f good has. none f good (every-file text plain m w lines parted f has.0 has.1 good has.2 has.3 has.4).0,
   record {
     plain = plain;
     label = m;
@@ -63,8 +63,8 @@ pub refused_by_line : (m : LabelView) (w : TimeLines) (lines text plain : List �
     → TellsWrongLine plain from w lines told → told ≡ Some n → from ≡ length (marker_number_line m.marker_number) + length lines → length plain + from ≡ length text
     → IsRefused text (record { line = n; cause = HeaderLine })
 refused_by_line m w lines text plain from n told parted some tells is from_is size = (
-  λ f good with.
-      let q = every-file text plain m w lines parted f with.0 with.1 good with.2 with.3 with.4 in
+  λ f good has.
+      let q = every-file text plain m w lines parted f has.0 has.1 good has.2 has.3 has.4 in
       (some-wrong plain lines from w told n tells is f good q.0).wrong (sym q.3),
   record {
     plain = plain;

@@ -162,7 +162,7 @@ impl AnyTable<'_> {
     ) -> Result<(), StreamFault>
         requires { HasItsLetter self.now }
         ensures all { OnOk result (WritesFrontAndLines (text_of self.now) label.now lines.now (W.taken out.old) (W.taken out.new)) }
-        ensures first { OnErr result (WritesFirstOfFrontAndLines (text_of self.now) label.now lines.now (W.taken out.old) (W.taken out.new)) }
+        ensures first { WritesFirstOfFrontAndLines (text_of self.now) label.now lines.now (W.taken out.old) (W.taken out.new) }
         ensures write_failed { OnErr result (CountRises (W.failures out.old) (W.failures out.new)) }
         ensures no_failed_write { OnOk result (W.failures out.new ≡ W.failures out.old) }
     {
@@ -179,7 +179,7 @@ impl AnyTable<'_> {
     ) -> Result<(), StreamFault>
         requires { HasItsLetter self.now }
         ensures all { OnOk result (WritesWithLines (text_of self.now) label.now lines.now (W.taken out.old) (W.taken out.new)) }
-        ensures first { OnErr result (WritesFirstWithLines (text_of self.now) label.now lines.now (W.taken out.old) (W.taken out.new)) }
+        ensures first { WritesFirstWithLines (text_of self.now) label.now lines.now (W.taken out.old) (W.taken out.new) }
         ensures write_failed { OnErr result (CountRises (W.failures out.old) (W.failures out.new)) }
         ensures no_failed_write { OnOk result (W.failures out.new ≡ W.failures out.old) }
     {

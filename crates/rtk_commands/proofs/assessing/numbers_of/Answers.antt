@@ -11,8 +11,8 @@ returns-in-Ok c =
     IfOk-weaker c.numbers_of_file.result
     (λ (told : Rendered). MakesOfFile (TellsTable c.args.form) (text_of c.in-Ok.file.table) told.answer told.bytes.items)
     (λ (told : Rendered). WritesOfTable (TellsTable c.args.form) c.args.text.now told.answer told.bytes.items)
-    (λ told tells. made_of_table (TellsTable c.args.form) c.args.text.now (text_of c.in-Ok.file.table) c.in-Ok.file.label told.answer told.bytes.items c.in-Ok.ensures.parted tells)
+    (λ told tells. made_of_table (TellsTable c.args.form) c.args.text.now (text_of c.in-Ok.file.table) c.in-Ok.file.label c.in-Ok.file.times told.answer told.bytes.items c.in-Ok.ensures.parted tells)
     c.numbers_of_file.ensures
 
-pub returns-in-Err : goal.returns-in-Err
-returns-in-Err c = rw (c.refusal.ensures.answer, c.refusal.ensures.bytes) (made_of_refused (TellsTable c.args.form) c.args.text.now c.in-Err.fault c.in-Err.ensures.refused)
+pub returns-in-Refused : goal.returns-in-Refused
+returns-in-Refused c = rw (c.refusal.ensures.answer, c.refusal.ensures.bytes) (made_of_refused (TellsTable c.args.form) c.args.text.now c.in-Refused.fault c.in-Refused.ensures.none)

@@ -11,8 +11,8 @@ returns-in-Ok c =
     IfOk-weaker c.picture_of_file.result
     (λ (drawn : Rendered). MakesOfFile (DrawsTable c.args.chart.now) (text_of c.in-Ok.file.table) drawn.answer drawn.bytes.items)
     (λ (drawn : Rendered). WritesOfTable (DrawsTable c.args.chart.now) c.args.text.now drawn.answer drawn.bytes.items)
-    (λ drawn draws. made_of_table (DrawsTable c.args.chart.now) c.args.text.now (text_of c.in-Ok.file.table) c.in-Ok.file.label drawn.answer drawn.bytes.items c.in-Ok.ensures.parted draws)
+    (λ drawn draws. made_of_table (DrawsTable c.args.chart.now) c.args.text.now (text_of c.in-Ok.file.table) c.in-Ok.file.label c.in-Ok.file.times drawn.answer drawn.bytes.items c.in-Ok.ensures.parted draws)
     c.picture_of_file.ensures
 
-pub returns-in-Err : goal.returns-in-Err
-returns-in-Err c = rw (c.refusal.ensures.answer, c.refusal.ensures.bytes) (made_of_refused (DrawsTable c.args.chart.now) c.args.text.now c.in-Err.fault c.in-Err.ensures.refused)
+pub returns-in-Refused : goal.returns-in-Refused
+returns-in-Refused c = rw (c.refusal.ensures.answer, c.refusal.ensures.bytes) (made_of_refused (DrawsTable c.args.chart.now) c.args.text.now c.in-Refused.fault c.in-Refused.ensures.none)
