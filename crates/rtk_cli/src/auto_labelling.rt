@@ -9,8 +9,8 @@ ghost use Rattle.rtk_streams.specs.Passed.{taken_of};
 ghost use Rattle.rtk_streams.specs.declared.exit_status.TheConstants.{NOT_VALID};
 
 use crate::auto_refusing::fail_output;
-use rtk_commands::{FileAnswer, gathered_through};
-use rtk_label::Label;
+use rtk_commands::{FileAnswer, Labelling, gathered_through};
+use rtk_label::{Label, TimeLines};
 use rtk_streams::{
     Beside, GATHERED, ToolFault, fail, fail_to_open, let_go, make_beside, open_input,
 };
@@ -38,15 +38,15 @@ fn written_label<R: Eprint, W: Drop>(
 // of the reader or of the writer are not known, nothing is said of them.
 fn label_to<R: Eprint + AllocGlobal, S: Read + Drop, W: Write + Drop>(
     rt: &R,
-    label: &Label,
+    labelling: &Labelling,
     reader: S,
     out: W,
 ) -> Result<W, u8>
     ensures labelled { IfOk result (λ file. IfSome (S.remaining reader) (λ text.
-        AnswersText (WritesOfTable (LabelsTable label.now)) Written text (W.contents out) (taken_of (W.contents out) (W.contents file)))) }
+        AnswersText (WritesOfTable (LabelsTable labelling.now.label labelling.now.times)) Written text (W.contents out) (taken_of (W.contents out) (W.contents file)))) }
     ensures status { IfErr result (λ status. status ≤ NOT_VALID) }
 {
-    match gathered_through(rt.alloc(), label, reader, GATHERED, out) {
+    match gathered_through(rt.alloc(), labelling, reader, GATHERED, out) {
         Ok((out, done)) => written_label(rt, out, done),
         Err(fault) => Err(fail(rt, fault)),
     }
@@ -55,7 +55,7 @@ fn label_to<R: Eprint + AllocGlobal, S: Read + Drop, W: Write + Drop>(
 // Labels the file of this name to another one beside FILE. If that is not whole, it is let go.
 fn label_named_beside<R: Files + Input + Eprint + AllocGlobal>(
     rt: &R,
-    label: &Label,
+    labelling: &Labelling,
     plain: &str,
     name: &str,
 ) -> Result<Beside<R::File>, u8>
@@ -68,7 +68,7 @@ fn label_named_beside<R: Files + Input + Eprint + AllocGlobal>(
         Ok(beside) => beside,
         Err(fault) => return Err(fail_output(rt, name, fault)),
     };
-    match label_to(rt, label, reader, beside.file) {
+    match label_to(rt, labelling, reader, beside.file) {
         Ok(file) => Ok(Beside {
             file,
             name: beside.name,
@@ -80,16 +80,21 @@ fn label_named_beside<R: Files + Input + Eprint + AllocGlobal>(
     }
 }
 
-/// Labels a file that is whole, to another one beside FILE; the first is let go.
+/// Labels a file that is whole, to another one beside FILE; the first is let go. The header gets the label alone, and
+/// no time line.
 pub(crate) fn label_beside<R: Files + Input + Eprint + AllocGlobal>(
     rt: &R,
-    label: &Label,
+    label: Label,
     plain: Beside<R::File>,
     name: &str,
 ) -> Result<Beside<R::File>, u8>
     ensures { IfErr result (λ status. status ≤ NOT_VALID) }
 {
-    let labelled = label_named_beside(rt, label, plain.name.as_str(), name);
+    let labelling = Labelling {
+        label,
+        times: TimeLines::none(),
+    };
+    let labelled = label_named_beside(rt, &labelling, plain.name.as_str(), name);
     let_go(rt, plain.name.as_str());
     labelled
 }

@@ -274,7 +274,7 @@ fn whole_beside<R: Files + Input + Eprint + AllocGlobal>(
     ensures status { IfErr result (λ status. status ≤ NOT_VALID) }
 {
     match label {
-        Some(label) => label_beside(rt, &label, plain, name),
+        Some(label) => label_beside(rt, label, plain, name),
         None => Ok(plain),
     }
 }

@@ -14,11 +14,11 @@ use crate::cut_words::part_of;
 use crate::label_words::label_of;
 use crate::options::{
     auto_options, chart_options, convert_options, cut_options, label_options, quality_form,
-    shown_msm,
+    shown_msm, time_lines,
 };
 use crate::words::{Job, WordsFault};
 use clap::{ArgMatches, Command};
-use rtk_commands::Chart;
+use rtk_commands::{Chart, Labelling};
 use rtk_usage::program_command;
 use std::alloc::{AllocError, Global};
 
@@ -98,7 +98,9 @@ fn label_job<'a>(words: &ArgMatches<'a>, file: &'a str) -> Result<Option<Job<'a>
     ensures fault { IfErr result IsWordsFault }
 {
     let label = label_of(&label_options(words))?;
-    Ok(Some(Job::Label { label, file }))
+    let times = time_lines(words);
+    let labelling = Labelling { label, times };
+    Ok(Some(Job::Label { labelling, file }))
 }
 
 fn compare_job<'a>(words: &ArgMatches<'a>) -> Result<Option<Job<'a>>, WordsFault>

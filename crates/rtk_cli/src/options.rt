@@ -14,7 +14,7 @@ ghost use Rattle.rtk_commands.specs.ChartInput.{IsWidth};
 
 use clap::ArgMatches;
 use rtk_convert::{Station, Window};
-use rtk_label::LabelParts;
+use rtk_label::{LabelParts, TimeLines};
 use rtk_message::MsmKind;
 use rtk_plan::Ways;
 use rtk_quality::Form;
@@ -237,5 +237,13 @@ pub(crate) fn label_options<'a>(words: &ArgMatches<'a>) -> LabelParts<'a> {
         height: text_of(words, "delta-height"),
         east: text_of(words, "delta-east"),
         north: text_of(words, "delta-north"),
+    }
+}
+
+/// The time lines that `label` is asked for.
+pub(crate) fn time_lines(words: &ArgMatches<'_>) -> TimeLines {
+    TimeLines {
+        interval: words.get_flag("interval"),
+        last: words.get_flag("last"),
     }
 }

@@ -55,7 +55,7 @@ fn run_job<R: Env + Clock + Files + Input + Print + Eprint + AllocGlobal, W: Wri
         Job::Chart { chart, file } => run_file(rt, &chart, file),
         Job::Quality { form, file } => run_file(rt, &form, file),
         Job::Cut { part, file } => run_file(rt, &part, file),
-        Job::Label { label, file } => run_file(rt, &label, file),
+        Job::Label { labelling, file } => run_file(rt, &labelling, file),
         Job::Compare { command, old, new } => compare_named(rt, command, old, new),
     }
 }

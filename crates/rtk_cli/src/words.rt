@@ -1,9 +1,9 @@
 //! What the words of a command line ask for, and why a command is not done.
 
-use rtk_commands::{Chart, Compare};
+use rtk_commands::{Chart, Compare, Labelling};
 use rtk_convert::Setup;
 use rtk_cut::Part;
-use rtk_label::{Label, LabelFault};
+use rtk_label::LabelFault;
 use rtk_message::MsmKind;
 use rtk_plan::{Wanted, Ways};
 use rtk_quality::Form;
@@ -74,7 +74,7 @@ pub enum Job<'a> {
     },
     /// A file with more fields in its header.
     Label {
-        label: Label,
+        labelling: Labelling,
         file: &'a str,
     },
     /// What a new file lacks of an old one. Standard input is one of them at most.

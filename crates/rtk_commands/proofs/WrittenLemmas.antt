@@ -14,7 +14,7 @@ use Rattle.rtk_commands.specs.ChartInput.{IsPicture, DrawsTable}
 use Rattle.rtk_commands.specs.QualityInput.{TellsTable}
 use Rattle.rtk_commands.specs.FileTable.{FileTable, OfGps, OfSystems, IsFileTable, file_text, file_site, labelled_file}
 use Rattle.rtk_commands.specs.WithLabel.{IsWithLabel}
-use Rattle.rtk_commands.specs.WrittenLaws.{LineFollows, PictureFollows, NumbersFollow, PartFollows, LabelFollows, nothing, NothingGivesFile}
+use Rattle.rtk_commands.specs.WrittenLaws.{LineFollows, PictureFollows, NumbersFollow, PartFollows, LabelFollows, no_times, NothingGivesFile}
 use Rattle.rtk_commands.proofs.FileTableLemmas.{nothing-gives_file}
 
 same-bytes : (first more last : List ℕ) → Some last ≡ Some (first ++ more) → last ≡ first ++ more
@@ -81,7 +81,7 @@ part-follows text first last part counts (bytes, made, same) = elim made [
 ]
 
 pub label-follows : LabelFollows
-label-follows d text first last (bytes, made, same) = elim made [
+label-follows l w text first last (bytes, made, same) = elim made [
   | inl some ↦ elim some.7 [
     | inl wrote ↦ (some.0, some.3, (some.1, some.2, some.4, some.5, some.6), wrote.1, same-bytes first bytes last same ∙ ap (λ (x : List ℕ). first ++ x) wrote.2)
     | inr none ↦ absurd (not-height none.0)
@@ -91,5 +91,5 @@ label-follows d text first last (bytes, made, same) = elim made [
 
 pub nothing-follows : BlankIsFile → FrontIsChanged → MixedLabelLaws → NothingGivesFile
 nothing-follows blank front mixed text first last wrote =
-    let file = label-follows nothing text first last wrote in
+    let file = label-follows blank_label no_times text first last wrote in
     (file.0, file.1, file.2, file.4 ∙ ap (λ (x : List ℕ). first ++ x) (nothing-gives_file blank front mixed file.0 file.1))

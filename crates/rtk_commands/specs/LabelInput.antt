@@ -5,15 +5,14 @@ use Rattle.rtk_label.specs.Labelled.{LabelView, IsFor}
 use Rattle.rtk_label.specs.declared.time_lines.TimeLines.{TimeLines}
 use Rattle.rtk_commands.specs.declared.file_answer.FileAnswer.{FileAnswer}
 use Rattle.rtk_commands.specs.declared.file_answer.FileAnswer.TheVariants.{Written, Height}
-use Rattle.rtk_commands.specs.declared.labelling.Labelling.{Labelling}
 use Rattle.rtk_commands.specs.FileTable.{FileTable, IsFileTable, file_text, file_site, file_front, file_with_lines, labelled_file}
 
 -- the file with a label and time lines in place of those that it has; or this label has a height, and the stream told
 -- one, and nothing is written
-abbrev pub LabelsTable : Labelling → FileTable → TimeLines → LabelView → FileAnswer → List ℕ → Type 0
-LabelsTable d f old_times old answer bytes =
-    ((answer ≡ Written) × IsFor d.label (file_site f) × (bytes ≡ labelled_file d.times d.label f))
-    ⊎ ((answer ≡ Height) × ¬ (IsFor d.label (file_site f)) × (bytes ≡ []))
+abbrev pub LabelsTable : LabelView → TimeLines → FileTable → TimeLines → LabelView → FileAnswer → List ℕ → Type 0
+LabelsTable l w f old_times old answer bytes =
+    ((answer ≡ Written) × IsFor l (file_site f) × (bytes ≡ labelled_file w l f))
+    ⊎ ((answer ≡ Height) × ¬ (IsFor l (file_site f)) × (bytes ≡ []))
 
 -- whether the label is for the file whose text this is
 abbrev pub TellsIsFor : LabelView → List ℕ → Bool → Type 0

@@ -10,7 +10,6 @@ use Rattle.rtk_label.specs.Labelled.{LabelView, IsLabel, IsFor, blank_label}
 use Rattle.rtk_label.specs.declared.time_lines.TimeLines.{TimeLines}
 use Rattle.rtk_commands.specs.declared.charting.Chart.{Chart}
 use Rattle.rtk_commands.specs.declared.file_answer.FileAnswer.TheVariants.{Written, Cut}
-use Rattle.rtk_commands.specs.declared.labelling.Labelling.{Labelling}
 use Rattle.rtk_commands.specs.CheckInput.{SaysVerdict, Tells}
 use Rattle.rtk_commands.specs.ChartInput.{IsPicture, DrawsTable}
 use Rattle.rtk_commands.specs.QualityInput.{TellsTable}
@@ -50,15 +49,14 @@ PartFollows =
 -- the file with a label and time lines
 abbrev pub LabelFollows : Type 0
 LabelFollows =
-    (d : Labelling) (text first last : List ℕ) → WritesAll (WritesOfTable (LabelsTable d) text Written) (Some first) (Some last)
-    → (f : FileTable) × IsFileTable f × IsWithLabel text f × IsFor d.label (file_site f) × (last ≡ first ++ labelled_file d.times d.label f)
+    (l : LabelView) (w : TimeLines) (text first last : List ℕ) → WritesAll (WritesOfTable (LabelsTable l w) text Written) (Some first) (Some last)
+    → (f : FileTable) × IsFileTable f × IsWithLabel text f × IsFor l (file_site f) × (last ≡ first ++ labelled_file w l f)
 
--- a blank label and no time line
-abbrev pub nothing : Labelling
-nothing = record { label = blank_label; times = record { interval = false; last = false } }
+abbrev pub no_times : TimeLines
+no_times = record { interval = false; last = false }
 
--- with these it is the file itself
+-- with a blank label and no time line it is the file itself
 abbrev pub NothingGivesFile : Type 0
 NothingGivesFile =
-    (text first last : List ℕ) → WritesAll (WritesOfTable (LabelsTable nothing) text Written) (Some first) (Some last)
+    (text first last : List ℕ) → WritesAll (WritesOfTable (LabelsTable blank_label no_times) text Written) (Some first) (Some last)
     → (f : FileTable) × IsFileTable f × IsWithLabel text f × (last ≡ first ++ file_text f)

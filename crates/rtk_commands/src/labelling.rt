@@ -31,7 +31,7 @@ impl FileCommand for Labelling {
 
     ghost IsAllowed = { λ _. Unit {0} };
 
-    ghost writes = { λ labelling. WritesOfTable (LabelsTable labelling) };
+    ghost writes = { λ labelling. WritesOfTable (LabelsTable labelling.label labelling.times) };
 
     fn write<W: Sink + Drop>(
         &self,
