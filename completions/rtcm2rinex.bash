@@ -61,7 +61,7 @@ _rtcm2rinex() {
             arguments='files stdin'
             ;;
         label)
-            options='--run-by --marker-number --observer --agency --receiver-number --receiver-type --receiver-version --antenna-number --antenna-type --delta-height --delta-east --delta-north --blank -h --help'
+            options='--run-by --marker-number --observer --agency --receiver-number --receiver-type --receiver-version --antenna-number --antenna-type --delta-height --delta-east --delta-north --interval --last --blank -h --help'
             values='--run-by --marker-number --observer --agency --receiver-number --receiver-type --receiver-version --antenna-number --antenna-type --delta-height --delta-east --delta-north'
             arguments='files stdin'
             ;;

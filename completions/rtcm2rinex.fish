@@ -73,6 +73,8 @@ complete -c rtcm2rinex -n '__fish_seen_subcommand_from label' -l antenna-type -x
 complete -c rtcm2rinex -n '__fish_seen_subcommand_from label' -l delta-height -x -d 'The antenna\'s height above the marker, as +1.5000, if the file tells none'
 complete -c rtcm2rinex -n '__fish_seen_subcommand_from label' -l delta-east -x -d 'How far east of the marker the antenna stands, as -0.0120'
 complete -c rtcm2rinex -n '__fish_seen_subcommand_from label' -l delta-north -x -d 'How far north of the marker the antenna stands, as +0.0000'
+complete -c rtcm2rinex -n '__fish_seen_subcommand_from label' -l interval -d 'A line with the interval of the records, if the file has two'
+complete -c rtcm2rinex -n '__fish_seen_subcommand_from label' -l last -d 'A line with the time of the last observation, if the file has a record'
 complete -c rtcm2rinex -n '__fish_seen_subcommand_from label' -l blank -d 'No field: the file is again as convert wrote it'
 complete -c rtcm2rinex -n '__fish_seen_subcommand_from label' -s h -l help -d 'Print help (see more with \'--help\')'
 complete -c rtcm2rinex -n '__fish_seen_subcommand_from label' -F -a stdin

@@ -143,6 +143,7 @@ Manual: man rtcm2rinex, or docs/MANUAL.md";
 pub(crate) const LABEL: &str = "\
 Which fields:
   Those that are not given are blank, also if an earlier label filled them.
+  A line that is not asked for goes in the same way.
 
 Example:
   rtcm2rinex label --agency 'Survey of Somewhere' --receiver-type 'LEICA GR50' \\
