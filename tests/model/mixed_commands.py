@@ -1,6 +1,7 @@
-"""`check`, `label --blank` and `cut` on mixed files that chance makes, beside the model.
+"""`check`, `label` and `cut` on mixed files that chance makes, beside the model.
 
-    mixed_commands.py PROGRAM COUNT    so many changed files, a third as many labelled ones, and a tenth as many parts
+    mixed_commands.py PROGRAM COUNT    so many changed files, a third as many labelled ones, and a tenth as many parts, and as many
+                                       with lines of their records
 
 The last line is 'N passed, M failed'.
 """
@@ -18,6 +19,7 @@ import mixed_cases
 import mixed_damages
 import mixed_labels
 import mixed_parts
+import time_lines
 from mixed_checker import mixed_fault
 from mixed_tables import some_table
 from parts import part_of
@@ -88,13 +90,29 @@ def cuts(count: int) -> Iterator[Due]:
             yield Due(["cut", *part.words()], text.encode(), 0, due, told)
 
 
+def lines(count: int) -> Iterator[Due]:
+    """Files with lines of their records, and parts of them."""
+    rng = Random(time_lines.SEED)
+    for _ in range(count):
+        text, part = mixed_parts.some_file(rng)
+        asked = rng.choice(((True, False), (False, True), (True, True)))
+        told = time_lines.with_lines(text, *asked)
+        words = [word for word, is_asked in zip(("--interval", "--last"), asked) if is_asked]
+        yield Due(["label", *words], text.encode(), 0, told.encode(), b"")
+        due = part_of(text, part)
+        counted = b"records %d written %d\n" % (counts(text.encode())[0], counts(due.encode())[0])
+        is_refused = part.since is not None and part.until is not None and part.since > part.until
+        if part.words() and not is_refused:
+            yield Due(["cut", *part.words()], told.encode(), 0, time_lines.with_lines(due, *asked).encode(), counted)
+
+
 def main() -> None:
     path, count = str(Path(sys.argv[1]).resolve()), int(sys.argv[2])
     passed, failed = 0, 0
     with tempfile.TemporaryDirectory() as folder:
         chdir(folder)
         program = Program(path)
-        for number, due in enumerate((*checks(count), *labels(count // 3), *cuts(count // 10))):
+        for number, due in enumerate((*checks(count), *labels(count // 3), *cuts(count // 10), *lines(count // 10))):
             differs = ends_with(program.on(due.text, *due.words), due.status, due.out, due.err)
             passed, failed = passed + (not differs), failed + bool(differs)
             if differs and failed <= 5:
