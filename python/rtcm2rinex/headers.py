@@ -11,6 +11,7 @@ from .faults import FormError
 
 CODES = frozenset("1C 1P 1W 1S 1L 1X 2C 2D 2P 2W 2S 2L 2X 5I 5Q 5X".split())
 TYPES = "SYS / # / OBS TYPES"
+INTERVAL, LAST = "INTERVAL", "TIME OF LAST OBS"
 LONGEST = 1000  # bytes of a line; a line of the program has at most 772
 FIRST_DAY, LAST_YEAR = datetime(1980, 1, 6), 2100
 OFFSET = re.compile(r" *([+-][0-9]{1,4}\.[0-9]{4})")
@@ -24,7 +25,8 @@ class Header:
     metres (ECEF), or zeros if the station told none. `antenna_delta` says how far the antenna stands above the marker, and east and
     north of it, in metres. `codes` has the signals in the order of the columns. `first` is the GPS time of the first record.
 
-    The other fields are those that `label` fills in. A field that the file leaves blank is an empty text.
+    The other fields are those that `label` fills in. A field that the file leaves blank is an empty text. `interval`, in seconds, and
+    `last`, a GPS time, are None if the file does not have their lines.
     """
 
     marker: str
@@ -42,6 +44,8 @@ class Header:
     receiver_version: str = ""
     antenna_number: str = ""
     antenna_type: str = ""
+    interval: Optional[float] = None
+    last: Optional[datetime] = None
 
 
 class Lines:
@@ -142,13 +146,14 @@ def read_header(lines: Lines) -> Header:
     lines.want(not antenna[2], "C1 HeaderLine")
     position = read_position(lines)
     delta = read_delta(lines)
-    codes = read_types(lines)
+    interval, last, columns = read_times(lines)
+    codes = read_types(lines, columns)
     lines.fixed("SIGNAL STRENGTH UNIT", "DBHZ")
     first = read_first(lines)
     lines.fixed("SYS / PHASE SHIFT", "G")
     lines.fixed("END OF HEADER", "")
     return Header(marker.rstrip(" "), made, position, delta, codes, first, run_by, marker_number, observer, agency, *receiver,
-        *antenna[:2])
+        *antenna[:2], interval, last)
 
 
 def read_program(lines: Lines) -> Tuple[str, datetime]:
@@ -184,9 +189,24 @@ def read_delta(lines: Lines) -> Tuple[float, float, float]:
     return values[0], values[1], values[2]
 
 
-def read_types(lines: Lines) -> Tuple[str, ...]:
-    """The codes, each of which has the types C, L and S in this order. A line has thirteen types."""
-    columns, _ = lines.header(TYPES)
+def read_times(lines: Lines) -> Tuple[Optional[float], Optional[datetime], str]:
+    """The interval and the time of the last record, if their lines are there, and the columns of the line behind them."""
+    interval, last = None, None
+    columns, label = lines.header(INTERVAL, LAST, TYPES)
+    if label == INTERVAL:
+        found = number_in(columns[:10], 3)
+        if not found or columns[10:] != " " * 50:
+            raise lines.fault("C1 HeaderLine")
+        interval = found / 1000
+        columns, label = lines.header(LAST, TYPES)
+    if label == LAST:
+        last = read_moment(lines, columns)
+        columns, label = lines.header(TYPES)
+    return interval, last, columns
+
+
+def read_types(lines: Lines, columns: str) -> Tuple[str, ...]:
+    """The codes, each of which has the types C, L and S in this order. A line has thirteen types, and the first has these columns."""
     count = digits_in(columns[3:6])
     if columns[:3] != "G  " or count is None or count not in range(3, 49, 3):
         raise lines.fault("C1 HeaderLine")
@@ -203,7 +223,11 @@ def read_types(lines: Lines) -> Tuple[str, ...]:
 
 def read_first(lines: Lines) -> datetime:
     """The GPS time of the first record."""
-    columns, _ = lines.header("TIME OF FIRST OBS")
+    return read_moment(lines, lines.header("TIME OF FIRST OBS")[0])
+
+
+def read_moment(lines: Lines, columns: str) -> datetime:
+    """The GPS time in the columns of the line that was read last."""
     date = [columns[at : at + 6] for at in range(0, 30, 6)]
     time = moment_in(date, columns[30:43]) if all(digits_in(it) is not None for it in date) else None
     if time is None or columns[43:] != f"{'     GPS':17}":
