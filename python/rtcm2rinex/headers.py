@@ -191,7 +191,8 @@ def read_delta(lines: Lines) -> Tuple[float, float, float]:
 
 def read_times(lines: Lines) -> Tuple[Optional[float], Optional[datetime], str]:
     """The interval and the time of the last record, if their lines are there, and the columns of the line behind them."""
-    interval, last = None, None
+    interval: Optional[float] = None
+    last: Optional[datetime] = None
     columns, label = lines.header(INTERVAL, LAST, TYPES)
     if label == INTERVAL:
         found = number_in(columns[:10], 3)
