@@ -130,7 +130,8 @@ def counts_add_up(case: Case) -> Answer:
 def valid_line(text: bytes) -> bytes:
     """What `check` is due to print of a file: its counts."""
     records = text.partition(b"END OF HEADER")[2]
-    return b"valid: %d epochs, %d satellite lines\n" % (records.count(b"\n>"), records.count(b"\nG"))
+    epochs = records.count(b"\n>")
+    return b"valid: %d epochs, %d satellite lines\n" % (epochs, records.count(b"\n") - 1 - epochs)
 
 
 def file_is_valid(case: Case) -> Answer:
