@@ -4,9 +4,11 @@ mod CodeListLemmas
 mod FaultLineLemmas
 mod HeadLemmas
 mod KindLemmas
+mod LabelPassingLemmas
 mod LinkLemmas
 mod MomentTextLemmas
 mod NameListLemmas
+mod OrderLemmas
 mod PartLemmas
 mod RefusedLemmas
 mod SaidLemmas

@@ -1,8 +1,11 @@
+pub mod CaptureOrder
 pub mod Converting
 pub mod ConvertsBytes
 pub mod CodeLines
 pub mod FaultLines
 pub mod JoinedLinks
+pub mod LabelPassing
+pub mod Said
 pub mod SurveysText
 pub mod Watched
 pub mod Words

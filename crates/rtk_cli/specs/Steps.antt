@@ -5,10 +5,12 @@ pub mod CodeList
 pub mod Parts
 pub mod AnyCodeList
 pub mod KindList
+pub mod ShowWords
 pub mod ChannelList
 pub mod Links
 pub mod MomentText
 pub mod ConvertWords
 pub mod ChartWords
 pub mod CutWords
+pub mod KeptWords
 pub mod LabelWords

@@ -9,7 +9,7 @@ use Rattle.rtk_commands.specs.ChartInput.{IsWidth}
 use Rattle.rtk_cli.specs.FaultLines.{TellsCause}
 use Rattle.rtk_cli.specs.declared.words.BadWords.{BadWords}
 use Rattle.rtk_cli.specs.declared.words.Job.{Job}
-use Rattle.rtk_cli.specs.declared.words.Job.TheVariants.{Convert, Chart, Cut, Compare}
+use Rattle.rtk_cli.specs.declared.words.Job.TheVariants.{Convert, Chart, Cut, CutSystems, Compare}
 use Rattle.rtk_cli.specs.declared.words.WordsFault.{WordsFault}
 use Rattle.rtk_cli.specs.declared.words.WordsFault.TheVariants.{Clap, Bad, OutOfMemory}
 
@@ -35,6 +35,7 @@ IsWithinLimits (Convert setup links) =
     IsStation setup.station × IsWindow setup.window × AreLinkNames (map (λ link. link.now) links.items)
 IsWithinLimits (Chart chart file) = ForSome chart.width IsWidth
 IsWithinLimits (Cut part file) = IsStepOrNone part.every
+IsWithinLimits (CutSystems command file) = IsStepOrNone command.part.every
 IsWithinLimits (Compare command old new) = AreComparedNames old.now new.now
 IsWithinLimits _ = Unit {0}
 

@@ -1,95 +1,99 @@
-//! The label of `auto`: a file that is converted is labelled, to another one beside its name.
+//! The label of `auto`: a writer that fills the first lines of a file as they pass.
 
-ghost use Rattle.std.specs.Prelude.{◌≡◌, ◌≤◌, Ok, IfOk, IfErr, IfSome};
-ghost use Rattle.rtk_commands.specs.declared.file_answer.FileAnswer.TheVariants.{Written};
-ghost use Rattle.rtk_commands.specs.FileText.{AnswersText};
-ghost use Rattle.rtk_commands.specs.LabelInput.{LabelsTable};
-ghost use Rattle.rtk_commands.specs.WithLabel.{WritesOfTable};
-ghost use Rattle.rtk_streams.specs.Passed.{taken_of};
-ghost use Rattle.rtk_streams.specs.declared.exit_status.TheConstants.{NOT_VALID};
+ghost use Rattle.std.specs.Prelude.{◌≡◌, None, take, IfOk};
+ghost use Rattle.std.specs.Io.{WritesAtMost};
+ghost use Rattle.std.specs.Io.KnownBytes.{WriteAppends, Appends};
+ghost use Rattle.rtk_cli.specs.LabelPassing.{AwaitsText, FillsText, FillsFirst};
 
-use crate::auto_refusing::fail_output;
-use rtk_commands::{FileAnswer, gathered_through};
-use rtk_label::Label;
-use rtk_streams::{
-    Beside, GATHERED, ToolFault, fail, fail_to_open, let_go, make_beside, open_input,
-};
-use std::fs::Files;
-use std::io::{Read, Write};
+use rtk_label::{Filling, Label};
+use std::io;
+use std::io::Write;
 
-// The writer of a label that is out, else says why it is not. A file that gets no label is not the one
-// that was written.
-fn written_label<R: Eprint, W: Drop>(
-    rt: &R,
-    out: W,
-    done: Result<FileAnswer, ToolFault>,
-) -> Result<W, u8>
-    ensures done { IfOk result (λ file. (done ≡ Ok Written) × (file ≡ out)) }
-    ensures status { IfErr result (λ status. status ≤ NOT_VALID) }
-{
-    match done {
-        Ok(FileAnswer::Written) => Ok(out),
-        Ok(_refused) => Err(fail(rt, ToolFault::Input)),
-        Err(fault) => Err(fail(rt, fault)),
+/// A writer, and the label that the file gets which is written to it. The first nine lines wait until they are
+/// whole. Of its bytes nothing is known, but what each call does to those of the writer behind.
+#[derive(Drop)]
+pub(crate) struct Labelled<W> {
+    inner: W,
+    // The lines that wait, if the file gets a label and they are not written.
+    filling: Option<Filling>,
+}
+
+impl<W> Labelled<W> {
+    /// The writer, before its first call.
+    pub(crate) fn new(inner: W, label: Option<Label>) -> Labelled<W>
+        ensures inner { result.inner ≡ inner }
+        ensures awaits { AwaitsText label result }
+    {
+        match label {
+            Some(label) => Labelled {
+                inner,
+                filling: Some(Filling::new(label)),
+            },
+            None => Labelled {
+                inner,
+                filling: None,
+            },
+        }
+    }
+
+    /// The writer behind. A file has more than nine lines, so none waits any more.
+    pub(crate) fn into_inner(self) -> W
+        ensures { result ≡ self.inner }
+    {
+        self.inner
     }
 }
 
-// Labels what a reader has, to a writer that is handed back, or says why it is not done. Where the bytes
-// of the reader or of the writer are not known, nothing is said of them.
-fn label_to<R: Eprint + AllocGlobal, S: Read + Drop, W: Write + Drop>(
-    rt: &R,
-    label: &Label,
-    reader: S,
-    out: W,
-) -> Result<W, u8>
-    ensures labelled { IfOk result (λ file. IfSome (S.remaining reader) (λ text.
-        AnswersText (WritesOfTable (LabelsTable label.now)) Written text (W.contents out) (taken_of (W.contents out) (W.contents file)))) }
-    ensures status { IfErr result (λ status. status ≤ NOT_VALID) }
-{
-    match gathered_through(rt.alloc(), label, reader, GATHERED, out) {
-        Ok((out, done)) => written_label(rt, out, done),
-        Err(fault) => Err(fail(rt, fault)),
+impl<W: Write> Labelled<W> {
+    // Writes lines, which hold so many bytes of the text.
+    fn write_lines(&mut self, lines: &[u8], count: usize) -> io::Result<usize>
+        ensures wrote { IfOk result (λ n. (n ≡ count) × Appends (W.contents self.old.inner) (W.contents self.new.inner) lines.now) }
+        ensures filling { self.new.filling ≡ self.old.filling }
+    {
+        self.inner.write_all(lines)?;
+        Ok(count)
     }
-}
 
-// Labels the file of this name to another one beside FILE. If that is not whole, it is let go.
-fn label_named_beside<R: Files + Input + Eprint + AllocGlobal>(
-    rt: &R,
-    label: &Label,
-    plain: &str,
-    name: &str,
-) -> Result<Beside<R::File>, u8>
-    ensures { IfErr result (λ status. status ≤ NOT_VALID) }
-{
-    let Some(reader) = open_input(rt, plain) else {
-        return Err(fail_to_open(rt, plain));
-    };
-    let beside = match make_beside(rt, name) {
-        Ok(beside) => beside,
-        Err(fault) => return Err(fail_output(rt, name, fault)),
-    };
-    match label_to(rt, label, reader, beside.file) {
-        Ok(file) => Ok(Beside {
-            file,
-            name: beside.name,
-        }),
-        Err(status) => {
-            let_go(rt, beside.name.as_str());
-            Err(status)
+    // Hands on a part of the text.
+    fn pass_on(&mut self, buf: &[u8]) -> io::Result<usize>
+        ensures bound { WritesAtMost result buf.now }
+        ensures bytes { WriteAppends (W.contents self.old.inner) (W.contents self.new.inner) result buf.now }
+        ensures filling { self.new.filling ≡ self.old.filling }
+    {
+        self.inner.write(buf)
+    }
+
+    // Takes what the lines that wait lack, and writes them once they are whole.
+    fn fill(&mut self, filling: Filling, buf: &[u8]) -> io::Result<usize>
+        requires { self.old.filling ≡ None }
+        ensures bound { WritesAtMost result buf.now }
+        ensures fills { IfOk result (λ n. FillsFirst W.contents filling self.old.inner self.new (take n buf.now)) }
+    {
+        let mut filling = filling;
+        let count = filling.take(buf);
+        match filling.lines() {
+            Some(lines) => self.write_lines(lines.as_slice(), count),
+            None => {
+                self.filling = Some(filling);
+                Ok(count)
+            }
         }
     }
 }
 
-/// Labels a file that is whole, to another one beside FILE; the first is let go.
-pub(crate) fn label_beside<R: Files + Input + Eprint + AllocGlobal>(
-    rt: &R,
-    label: &Label,
-    plain: Beside<R::File>,
-    name: &str,
-) -> Result<Beside<R::File>, u8>
-    ensures { IfErr result (λ status. status ≤ NOT_VALID) }
-{
-    let labelled = label_named_beside(rt, label, plain.name.as_str(), name);
-    let_go(rt, plain.name.as_str());
-    labelled
+impl<W: Write> Write for Labelled<W> {
+    fn write(&mut self, buf: &[u8]) -> io::Result<usize>
+        ensures bound { WritesAtMost result buf.now }
+        ensures bytes { WriteAppends None None result buf.now }
+        ensures fills { IfOk result (λ n. FillsText W.contents self.old self.new (take n buf.now)) }
+    {
+        match self.filling.take() {
+            Some(filling) => self.fill(filling, buf),
+            None => self.pass_on(buf),
+        }
+    }
+
+    fn flush(&mut self) -> io::Result<()> {
+        self.inner.flush()
+    }
 }

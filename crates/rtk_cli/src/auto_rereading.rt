@@ -1,17 +1,15 @@
 //! The captures of a conversion, which are read a second time: as far as they were read at first, and only if
 //! they are as they were.
 
-ghost use Rattle.std.specs.Prelude.{◌≡◌, ◌<◌, length, IfOk};
-ghost use Rattle.std.specs.Io.{ReadsAtMost};
-ghost use Rattle.std.specs.Io.KnownBytes.{ReadConsumes};
+ghost use Rattle.std.specs.Prelude.{◌≡◌, map, IfOk};
+ghost use Rattle.rtk_plan.specs.CaptureNames.{capture_name};
+ghost use Rattle.rtk_cli.specs.Said.{read_names, ReadsPlanned};
 
 use rtk_message::{put_named, put_sh_quoted};
-use rtk_streams::{Digest, Later, is_longer};
+use rtk_streams::{Again, Digest, Later, is_longer};
 use std::alloc::{AllocError, Global};
 use std::cell::Cell;
 use std::fs::Files;
-use std::io;
-use std::io::{Error, Read};
 
 /// A capture that was read: its name, and a digest of its bytes.
 #[derive(Clone, Copy)]
@@ -20,55 +18,52 @@ pub(crate) struct CaptureRead<'a> {
     pub(crate) digest: Digest,
 }
 
-/// A reader that gives again what was read before. It fails at its end if what it gave is not the same, and then
-/// it puts its place, counted over all links, into a cell.
-#[derive(Drop)]
-pub(crate) struct Reread<'a, R> {
-    inner: R,
-    place: usize,
-    before: Digest,
-    given: Digest,
-    differing: &'a Cell<Option<usize>>,
-}
+/// A capture that is read again. Its mark is its place, counted over all links.
+pub(crate) type RereadCapture<'a, R> = Again<'a, Later<'a, R>, usize>;
 
-impl<R: Read> Read for Reread<'_, R> {
-    ghost remaining = { λ reader. R.remaining reader.inner };
-
-    fn read(&mut self, buf: &mut [u8]) -> io::Result<usize>
-        ensures bound { ReadsAtMost result buf.new }
-        ensures bytes { ReadConsumes (R.remaining self.old.inner) (R.remaining self.new.inner) result buf.new }
-        ensures same { IfOk result (λ n. n ≡ 0 → 0 < length buf.new → self.new.given ≡ self.new.before) }
-    {
-        let count = self.inner.read(buf)?;
-        self.given = self.given.followed_by(&buf[..count]);
-        if count == 0 && !buf.is_empty() && self.given != self.before {
-            self.differing.set(Some(self.place));
-            return Err(Error::other("the file has changed"));
-        }
-        Ok(count)
+/// The name of the capture at a place; an empty one if there is none.
+pub(crate) fn capture_name<'a>(names: &[&'a str], place: usize) -> &'a str
+    ensures { result.now ≡ capture_name names.now place }
+{
+    match names.get(place) {
+        Some(name) => *name,
+        None => "",
     }
 }
 
-/// A capture that is read again.
-pub(crate) type RereadCapture<'a, R> = Reread<'a, Later<'a, R>>;
-
-/// The captures of these places.
-pub(crate) fn captures_at<'a>(
+// The captures of these places.
+fn captures_at<'a>(
     alloc: Global,
     places: &[usize],
     names: &[&'a str],
     digests: &[Digest],
-) -> Result<Vec<CaptureRead<'a>>, AllocError> {
+) -> Result<Vec<CaptureRead<'a>>, AllocError>
+    ensures { IfOk result (λ captures. read_names captures.items ≡ map (capture_name names.now) places.now) }
+{
     let mut captures = Vec::new(alloc);
     for place in places {
-        if let (Some(name), Some(digest)) = (names.get(*place), digests.get(*place)) {
-            captures.push(CaptureRead {
-                name: *name,
-                digest: *digest,
-            })?;
-        }
+        captures.push(CaptureRead {
+            name: capture_name(names, *place),
+            digest: digests.get(*place).copied().unwrap_or(Digest::new()),
+        })?;
     }
     Ok(captures)
+}
+
+/// The captures of each link of a plan, as they were read.
+pub(crate) fn captures_of_links<'a>(
+    alloc: Global,
+    links: &[Vec<usize>],
+    names: &[&'a str],
+    digests: &[Digest],
+) -> Result<Vec<Vec<CaptureRead<'a>>>, AllocError>
+    ensures { IfOk result (λ all. ReadsPlanned names.now links.now all.items) }
+{
+    let mut all = Vec::new(alloc);
+    for link in links {
+        all.push(captures_at(alloc, link.as_slice(), names, digests)?)?;
+    }
+    Ok(all)
 }
 
 // The files of captures, one after another.
@@ -82,13 +77,8 @@ fn files_of<'a, R: Files>(
     for link in links {
         for capture in link {
             let place = files.len();
-            files.push(Reread {
-                inner: Later::new(rt, capture.name, capture.digest.bytes()),
-                place,
-                before: capture.digest,
-                given: Digest::new(),
-                differing,
-            })?;
+            let file = Later::new(rt, capture.name, capture.digest.bytes());
+            files.push(Again::new(file, place, capture.digest, differing))?;
         }
     }
     Ok(files)

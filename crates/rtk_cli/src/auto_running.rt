@@ -1,29 +1,36 @@
 //! The command `auto`: it reads the captures, finds what their conversion is told, converts them, and
 //! says how it went.
 
-ghost use Rattle.std.specs.Prelude.{◌≡◌, ◌≤◌, Ok, None, true, false, IfOk, IfErr, IsOk, IsTrue};
+ghost use Rattle.std.specs.Prelude.{◌≡◌, ◌≤◌, IfOk, IfErr, IsOk, IsTrue};
 ghost use Rattle.rtk_convert.specs.Failure.{IsRunFault};
-ghost use Rattle.rtk_streams.specs.declared.exit_status.TheConstants.{FAILED, NOT_VALID};
+ghost use Rattle.rtk_streams.specs.declared.exit_status.TheConstants.{NOT_VALID};
+ghost use Rattle.rtk_cli.specs.Said.{ReadsPlanned, IsSaid};
 
 use crate::auto_converting::convert_joined;
-use crate::auto_labelling::label_beside;
+use crate::auto_labelling::Labelled;
 use crate::auto_looking::{look_at_files, made_at};
+use crate::auto_parting::put_parting_of;
 use crate::auto_reading::survey_captures;
-use crate::auto_refusing::{fail_differing, fail_output, keep_named, quoted, say_written};
-use crate::auto_rereading::{CaptureRead, captures_at, files_of_links, name_at, put_grown};
+use crate::auto_refusing::{fail_differing, fail_output, keep_named, quoted};
+use crate::auto_rereading::{
+    CaptureRead, capture_name, captures_of_links, files_of_links, name_at,
+};
+use crate::auto_saying::{
+    Outcome, done_status, named_status, names_of_links, put_same_by_hand, said_after, tell,
+};
+use crate::capture_order::in_order_of_names;
 use crate::converting::{Converted, conversion_status};
 use crate::watching::Watched;
 use crate::words::AutoWords;
-use rtk_convert::{Counts, Setup, Station};
+use rtk_convert::{Setup, Station};
 use rtk_label::Label;
 use rtk_plan::{
-    Captures, Conflicts, Known, Plan, PlanFault, Ways, WrittenFile, equipment_in_captures,
-    label_wanted, plan_of, put_command, put_counts, put_file, put_known, put_label_command,
-    what_is_known,
+    Captures, Known, Plan, PlanFault, Refusal, Reported, Ways, WrittenFile, equipment_in_captures,
+    label_wanted, plan_of, put_label_command, what_is_known,
 };
 use rtk_rinex::CreationTime;
 use rtk_streams::{
-    Beside, DONE, Digest, FAILED, NOT_VALID, Quiet, ToolFault, Unbroken, fail, is_there, let_go,
+    Beside, Digest, FAILED, NOT_VALID, Quiet, ToolFault, Unbroken, fail, is_there, let_go,
     make_beside, name_whole,
 };
 use rtk_survey::Target;
@@ -35,110 +42,40 @@ use std::io;
 use std::io::Write;
 use std::time::Clock;
 
-// Writes lines to standard error. If nobody reads it the work goes on: its status tells it.
-fn tell<W: Write>(report: &mut Unbroken<W>, lines: &[u8]) {
-    let _told = report.write_all(lines);
-}
-
-// Says why the captures have no plan.
-fn fail_plan<R: Eprint, W: Write>(rt: &R, report: &mut Unbroken<W>, fault: PlanFault) -> u8
+// Says why the captures of these names have no plan. A capture that is to be parted is read again, to find the
+// byte.
+fn fail_plan<R: Files + Input + Eprint + AllocGlobal, W: Write>(
+    rt: &R,
+    report: &mut Unbroken<W>,
+    fault: PlanFault,
+    names: &[&str],
+) -> u8
     ensures { result ≤ NOT_VALID }
 {
     let PlanFault::Refused { refusal, list } = fault else {
         return fail(rt, ToolFault::OutOfMemory);
     };
+    let mut lines = list;
+    if let Refusal::TwoDates { capture, frame } = refusal {
+        let name = capture_name(names, capture);
+        if let Err(status) = put_parting_of(rt, &mut lines, name, frame) {
+            return status;
+        }
+    }
     let _told = eprintln!(rt; "rtcm2rinex: {refusal}");
-    tell(report, list.as_slice());
+    tell(report, lines.as_slice());
     NOT_VALID
 }
 
-// The names of the captures of each link.
-fn names_of_links<'a>(
-    alloc: Global,
-    links: &[Vec<usize>],
-    names: &[&'a str],
-) -> Result<Vec<Vec<&'a str>>, AllocError> {
-    let mut all = Vec::new(alloc);
-    for link in links {
-        let mut captures = Vec::new(alloc);
-        for place in link {
-            captures.push(names.get(*place).copied().unwrap_or(""))?;
-        }
-        all.push(captures)?;
-    }
-    Ok(all)
-}
-
-// The captures of each link, as they were read.
-fn captures_of_links<'a>(
-    alloc: Global,
-    links: &[Vec<usize>],
-    names: &[&'a str],
-    digests: &[Digest],
-) -> Result<Vec<Vec<CaptureRead<'a>>>, AllocError> {
-    let mut all = Vec::new(alloc);
-    for link in links {
-        all.push(captures_at(alloc, link.as_slice(), names, digests)?)?;
-    }
-    Ok(all)
-}
-
-// What is said after the conversion: the counts, unless the report has them, what the file has, and what a
-// person should know.
-fn said_after<R: Files + AllocGlobal>(
-    rt: &R,
-    outcome: &Outcome,
-    known: &Known,
-    links: &[Vec<CaptureRead<'_>>],
-    is_reported: bool,
-) -> Result<Vec<u8>, AllocError> {
-    let mut lines = Vec::new(rt.alloc());
-    if !is_reported {
-        put_counts(&mut lines, &outcome.counts)?;
-    }
-    put_file(&mut lines, known, &outcome.file, outcome.conflicts)?;
-    put_known(&mut lines, known, &outcome.counts)?;
-    put_grown(rt, &mut lines, links)?;
-    Ok(lines)
-}
-
-// The exit status of a conversion that is done.
-fn done_status<R: Eprint>(rt: &R, outcome: &Outcome) -> u8
-    ensures unheard { outcome.now.is_heard ≡ false → result ≡ FAILED }
-    ensures no_epoch { outcome.now.is_heard ≡ true → outcome.now.counts.epochs ≡ 0 → result ≡ NOT_VALID }
-    ensures bound { result ≤ NOT_VALID }
-{
-    if !outcome.is_heard {
-        return FAILED;
-    }
-    if outcome.counts.epochs == 0 {
-        let _told = eprintln!(rt; "rtcm2rinex: no record came; the file is a header alone");
-        return NOT_VALID;
-    }
-    DONE
-}
-
-/// What is known of a conversion before it begins.
+// What is known of a conversion before it begins.
 #[derive(Drop)]
 struct Work<'a> {
     setup: Setup,
-    /// The captures of each link.
+    // The captures of each link.
     links: Vec<Vec<CaptureRead<'a>>>,
     known: Known,
-    /// The label that the file gets.
+    // The label that the file gets.
     label: Option<Label>,
-}
-
-// How a conversion went that is done.
-#[derive(Drop)]
-struct Outcome {
-    counts: Counts,
-    /// What the file has.
-    file: WrittenFile,
-    /// How many conflicts the report lists.
-    conflicts: u64,
-    /// Standard error took all that was said.
-    is_heard: bool,
 }
 
 // Converts captures that are read again. The place of one that is not as it was is put into `differing`.
@@ -174,7 +111,7 @@ fn convert_to<R: Files + Eprint + AllocGlobal, O: Write + Drop, W: Write + Drop>
 {
     let differing: Cell<Option<usize>> = Cell::new(None);
     let out = Watched::new(out, WrittenFile::new(rt.alloc()));
-    let report = Watched::new(Quiet::new(report, !is_reported), Conflicts::new());
+    let report = Watched::new(Quiet::new(report, !is_reported), Reported::new());
     let converted = convert_again(
         rt,
         work.setup,
@@ -198,7 +135,7 @@ fn convert_to<R: Files + Eprint + AllocGlobal, O: Write + Drop, W: Write + Drop>
 // Says how a conversion went.
 fn finish<R: Files + Eprint + AllocGlobal, O: Write + Drop, W: Write + Drop>(
     rt: &R,
-    converted: Converted<Watched<O, WrittenFile>, Watched<Quiet<Unbroken<W>>, Conflicts>>,
+    converted: Converted<Watched<O, WrittenFile>, Watched<Quiet<Unbroken<W>>, Reported>>,
     known: &Known,
     links: &[Vec<CaptureRead<'_>>],
     is_reported: bool,
@@ -214,15 +151,15 @@ fn finish<R: Files + Eprint + AllocGlobal, O: Write + Drop, W: Write + Drop>(
     let Ok(written) = converted.out.into_parts() else {
         return Err(fail(rt, ToolFault::OutOfMemory));
     };
-    let Ok(reported) = converted.report.into_parts() else {
+    let Ok(listed) = converted.report.into_parts() else {
         return Err(fail(rt, ToolFault::OutOfMemory));
     };
     let (out, file) = written;
-    let (report, conflicts) = reported;
+    let (report, reported) = listed;
     let mut outcome = Outcome {
         counts,
         file,
-        conflicts: conflicts.count(),
+        reported,
         is_heard: true,
     };
     let Ok(lines) = said_after(rt, &outcome, known, links, is_reported) else {
@@ -234,10 +171,10 @@ fn finish<R: Files + Eprint + AllocGlobal, O: Write + Drop, W: Write + Drop>(
     Ok((out, outcome))
 }
 
-// Converts to a file beside this name. If that is not whole, it is let go.
+// Converts to a file beside this name, with its label. If that is not whole, it is let go.
 fn convert_beside<R: Files + Eprint + AllocGlobal, W: Write + Drop>(
     rt: &R,
-    work: Work<'_>,
+    mut work: Work<'_>,
     report: Unbroken<W>,
     name: &str,
     is_reported: bool,
@@ -248,10 +185,11 @@ fn convert_beside<R: Files + Eprint + AllocGlobal, W: Write + Drop>(
         Ok(beside) => beside,
         Err(fault) => return Err(fail_output(rt, name, fault)),
     };
-    match convert_to(rt, work, beside.file, report, is_reported) {
+    let file = Labelled::new(beside.file, work.label.take());
+    match convert_to(rt, work, file, report, is_reported) {
         Ok((file, outcome)) => Ok((
             Beside {
-                file,
+                file: file.into_inner(),
                 name: beside.name,
             },
             outcome,
@@ -263,44 +201,10 @@ fn convert_beside<R: Files + Eprint + AllocGlobal, W: Write + Drop>(
     }
 }
 
-// The file that gets the name: the one that was converted, or that one with the label.
-fn whole_beside<R: Files + Input + Eprint + AllocGlobal>(
+// Gives a file that was converted its name, or else says why not. A file without a record replaces none.
+fn name_converted<R: Files + Eprint + AllocGlobal>(
     rt: &R,
-    label: Option<Label>,
-    plain: Beside<R::File>,
-    name: &str,
-) -> Result<Beside<R::File>, u8>
-    ensures plain { label ≡ None → result ≡ Ok plain }
-    ensures status { IfErr result (λ status. status ≤ NOT_VALID) }
-{
-    match label {
-        Some(label) => label_beside(rt, &label, plain, name),
-        None => Ok(plain),
-    }
-}
-
-// The file that was converted has no record, so it does not replace the one that has the name.
-fn keep_status<R: Files + Eprint + AllocGlobal, F: Drop>(
-    rt: &R,
-    plain: Beside<F>,
-    name: &str,
-    outcome: &Outcome,
-) -> u8
-    ensures { result ≤ NOT_VALID }
-{
-    let_go(rt, plain.name.as_str());
-    if !outcome.is_heard {
-        return FAILED;
-    }
-    keep_named(rt, name)
-}
-
-// Gives a file that was converted its name, once it has its label; or else says why not. A file without a record
-// replaces none.
-fn name_converted<R: Files + Input + Eprint + AllocGlobal>(
-    rt: &R,
-    label: Option<Label>,
-    plain: Beside<R::File>,
+    whole: Beside<R::File>,
     outcome: &Outcome,
     name: &str,
     force: bool,
@@ -308,32 +212,23 @@ fn name_converted<R: Files + Input + Eprint + AllocGlobal>(
     ensures { IfErr result (λ status. status ≤ NOT_VALID) }
 {
     if force && outcome.counts.epochs == 0 && is_there(rt, name) {
-        return Err(keep_status(rt, plain, name, outcome));
+        let_go(rt, whole.name.as_str());
+        if !outcome.is_heard {
+            return Err(FAILED);
+        }
+        return Err(keep_named(rt, name));
     }
-    let whole = whole_beside(rt, label, plain, name)?;
     match name_whole(rt, whole.file, whole.name.as_str(), name, force) {
         Ok(()) => Ok(()),
         Err(fault) => Err(fail_output(rt, name, fault)),
     }
 }
 
-// The exit status once a file has its name, which is said last. The name is as sh takes it.
-fn named_status<R: Eprint>(rt: &R, outcome: &Outcome, name: &str) -> u8
-    ensures { result ≤ NOT_VALID }
-{
-    let status = done_status(rt, outcome);
-    if outcome.is_heard {
-        say_written(rt, name, outcome.counts.epochs, outcome.file.satellites());
-    }
-    status
-}
-
-// Converts to a file beside this name, which gets the name once it is whole, or once the file with its
-// label is.
+// Converts to a file beside this name, which gets the name once it is whole.
 #[inline(never)]
-fn convert_to_file<R: Files + Input + Eprint + AllocGlobal, W: Write + Drop>(
+fn convert_to_file<R: Files + Eprint + AllocGlobal, W: Write + Drop>(
     rt: &R,
-    mut work: Work<'_>,
+    work: Work<'_>,
     report: Unbroken<W>,
     name: &str,
     ways: &Ways<'_>,
@@ -344,12 +239,11 @@ fn convert_to_file<R: Files + Input + Eprint + AllocGlobal, W: Write + Drop>(
     let Ok(shown) = quoted(rt.alloc(), name) else {
         return fail(rt, ToolFault::OutOfMemory);
     };
-    let label = work.label.take();
-    let (plain, outcome) = match convert_beside(rt, work, report, name, ways.report) {
+    let (whole, outcome) = match convert_beside(rt, work, report, name, ways.report) {
         Ok(done) => done,
         Err(status) => return status,
     };
-    match name_converted(rt, label, plain, &outcome, name, ways.force) {
+    match name_converted(rt, whole, &outcome, name, ways.force) {
         Ok(()) => named_status(rt, &outcome, shown.as_str()),
         Err(status) => status,
     }
@@ -379,11 +273,14 @@ fn work_of<'a>(
     plan: Plan,
     ways: &Ways<'_>,
     lines: &mut Vec<u8>,
-) -> Result<Work<'a>, AllocError> {
-    let named = names_of_links(alloc, plan.links.as_slice(), captures.names)?;
+) -> Result<Work<'a>, AllocError>
+    ensures setup { IfOk result (λ work. work.setup ≡ plan.setup) }
+    ensures links { IfOk result (λ work. ReadsPlanned captures.now.names.now plan.links.items work.links.items) }
+    ensures said { IfOk result (λ work. IsSaid lines.old.items lines.new.items work.setup work.links.items) }
+{
     let links = captures_of_links(alloc, plan.links.as_slice(), captures.names, digests)?;
-    lines.extend_from_slice(b" the same by hand:\n")?;
-    put_command(lines, &plan.setup, named.as_slice())?;
+    let named = names_of_links(alloc, links.as_slice())?;
+    put_same_by_hand(lines, &plan.setup, named.as_slice())?;
     let (station, near) = (plan.setup.station(), plan.setup.near());
     let told = equipment_in_captures(alloc, captures.surveys, station, near)?;
     put_label_command(alloc, lines, &told, ways.output)?;
@@ -398,7 +295,7 @@ fn work_of<'a>(
 }
 
 // The conversion of captures that were surveyed, once it is said what it is.
-fn begin_planned<'a, R: Eprint + AllocGlobal, W: Write>(
+fn begin_planned<'a, R: Files + Input + Eprint + AllocGlobal, W: Write>(
     rt: &R,
     report: &mut Unbroken<W>,
     words: &AutoWords<'_>,
@@ -419,7 +316,7 @@ fn begin_planned<'a, R: Eprint + AllocGlobal, W: Write>(
     );
     let plan = match plan {
         Ok(plan) => plan,
-        Err(fault) => return Err(fail_plan(rt, report, fault)),
+        Err(fault) => return Err(fail_plan(rt, report, fault, captures.names)),
     };
     let mut lines = Vec::new(rt.alloc());
     let Ok(work) = work_of(rt.alloc(), captures, digests, plan, ways, &mut lines) else {
@@ -427,20 +324,6 @@ fn begin_planned<'a, R: Eprint + AllocGlobal, W: Write>(
     };
     tell(report, lines.as_slice());
     Ok(work)
-}
-
-// The captures by the bytes of their names, so that the order in which they are given makes no difference; or as
-// they are given.
-fn in_order_of_names<'a>(
-    alloc: Global,
-    names: &[&'a str],
-    as_given: bool,
-) -> Result<Vec<&'a str>, AllocError> {
-    let mut ordered = Vec::from_slice(alloc, names)?;
-    if !as_given {
-        ordered.sort()?;
-    }
-    Ok(ordered)
 }
 
 // Looks at the files, surveys the captures, plans their conversion, and says it. The surveys are let go

@@ -26,8 +26,8 @@ fn all_systems(letters: &[u8]) -> bool
     letters.iter().all(|letter| is_system(*letter))
 }
 
-// A text is of letters of systems, and has one.
-fn are_systems(text: &[u8]) -> bool
+/// A text is of letters of systems, and has one.
+pub(crate) fn are_systems(text: &[u8]) -> bool
     ensures { result ≡ are_systems text.now }
 {
     !text.is_empty() && all_systems(text)

@@ -11,15 +11,16 @@ use crate::clap_words::{matches_of, missing_word};
 use crate::compare_words::{compared_files, comparison};
 use crate::convert_words::convert_job;
 use crate::cut_words::part_of;
+use crate::kept_words::kept_said;
 use crate::kind_list::has_kind_list;
 use crate::label_words::label_of;
 use crate::options::{
     auto_options, chart_options, convert_options, cut_options, label_options, quality_form,
-    shown_msm,
+    shown_kinds, time_lines,
 };
 use crate::words::{Job, WordsFault};
 use clap::{ArgMatches, Command};
-use rtk_commands::Chart;
+use rtk_commands::{Chart, KeptPart, Labelling};
 use rtk_usage::program_command;
 use std::alloc::{AllocError, Global};
 
@@ -60,8 +61,8 @@ fn show_job<'a>(words: &ArgMatches<'a>, file: &'a str) -> Option<Job<'a>>
     ensures { IfSome result IsWithinLimits }
 {
     let hex = words.get_flag("hex");
-    match shown_msm(words)? {
-        Some(msm) => Some(Job::ShowMsm { hex, msm, file }),
+    match shown_kinds(words)? {
+        Some(kinds) => Some(Job::ShowMsm { hex, kinds, file }),
         None => Some(Job::Show { hex, file }),
     }
 }
@@ -91,7 +92,12 @@ fn cut_job<'a>(words: &ArgMatches<'a>, file: &'a str) -> Result<Option<Job<'a>>,
         return Ok(None);
     };
     let part = part_of(&options)?;
-    Ok(Some(Job::Cut { part, file }))
+    let Some(text) = options.systems else {
+        return Ok(Some(Job::Cut { part, file }));
+    };
+    let kept = kept_said(text)?;
+    let command = KeptPart { kept, part };
+    Ok(Some(Job::CutSystems { command, file }))
 }
 
 fn label_job<'a>(words: &ArgMatches<'a>, file: &'a str) -> Result<Option<Job<'a>>, WordsFault>
@@ -99,7 +105,9 @@ fn label_job<'a>(words: &ArgMatches<'a>, file: &'a str) -> Result<Option<Job<'a>
     ensures fault { IfErr result IsWordsFault }
 {
     let label = label_of(&label_options(words))?;
-    Ok(Some(Job::Label { label, file }))
+    let times = time_lines(words);
+    let labelling = Labelling { label, times };
+    Ok(Some(Job::Label { labelling, file }))
 }
 
 fn compare_job<'a>(words: &ArgMatches<'a>) -> Result<Option<Job<'a>>, WordsFault>

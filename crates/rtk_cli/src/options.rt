@@ -14,7 +14,7 @@ ghost use Rattle.rtk_commands.specs.ChartInput.{IsWidth};
 
 use crate::kind_list::kinds_of;
 use clap::ArgMatches;
-use rtk_label::LabelParts;
+use rtk_label::{LabelParts, TimeLines};
 use rtk_message::MsmKind;
 use rtk_plan::Ways;
 use rtk_quality::Form;
@@ -86,6 +86,8 @@ pub(crate) struct CutOptions<'a> {
     pub(crate) until: Option<&'a str>,
     /// The step in s.
     pub(crate) every: Option<u32>,
+    /// The letters of the systems that are kept.
+    pub(crate) systems: Option<&'a str>,
 }
 
 // The station of this number; `None` exactly if there is none.
@@ -161,7 +163,7 @@ pub(crate) fn auto_options<'a>(words: &ArgMatches<'a>) -> Option<AutoOptions<'a>
     })
 }
 
-// The kinds that `--msm` of `convert` writes: a number is the kind of all systems.
+// The kinds that `--msm` of `convert` and `show` writes: a number is the kind of all systems.
 fn kinds_said(words: &ArgMatches<'_>) -> Option<SystemKinds> {
     match words.get_one::<u32>("msm") {
         Some(digit) => Some(SystemKinds::all(msm_of(digit)?)),
@@ -184,9 +186,12 @@ pub(crate) fn convert_options<'a>(words: &ArgMatches<'a>) -> Option<ConvertOptio
     })
 }
 
-/// The kind of MSM that `show` reads; `Some(None)` is none that is chosen.
-pub(crate) fn shown_msm(words: &ArgMatches<'_>) -> Option<Option<MsmKind>> {
-    value_if_any(words.get_one::<u32>("msm").map(msm_of))
+/// The kinds of MSM that `show` reads; `Some(None)` are none that are chosen.
+pub(crate) fn shown_kinds(words: &ArgMatches<'_>) -> Option<Option<SystemKinds>> {
+    if words.get_one::<u32>("msm").is_none() && words.get_str("msm").is_none() {
+        return Some(None);
+    }
+    Some(Some(kinds_said(words)?))
 }
 
 // The width of the picture of `chart` in characters; `Some(None)` is a picture in SVG.
@@ -239,6 +244,7 @@ pub(crate) fn cut_options<'a>(words: &ArgMatches<'a>) -> Option<CutOptions<'a>>
         from: words.get_str("from"),
         until: words.get_str("until"),
         every,
+        systems: words.get_str("systems"),
     })
 }
 
@@ -262,5 +268,13 @@ pub(crate) fn label_options<'a>(words: &ArgMatches<'a>) -> LabelParts<'a> {
         height: text_of(words, "delta-height"),
         east: text_of(words, "delta-east"),
         north: text_of(words, "delta-north"),
+    }
+}
+
+/// The time lines that `label` is asked for.
+pub(crate) fn time_lines(words: &ArgMatches<'_>) -> TimeLines {
+    TimeLines {
+        interval: words.get_flag("interval"),
+        last: words.get_flag("last"),
     }
 }

@@ -9,9 +9,10 @@ use crate::auto_running::auto_captures;
 use crate::converting::convert_links;
 use crate::jobs::job;
 use crate::refusing::refuse_words;
+use crate::show_words::messages_of;
 use crate::words::Job;
 use rtk_commands::{Check, compare_named, run_file, show_named, summarize_named};
-use rtk_message::MsmKind;
+use rtk_message::Accepted;
 use rtk_streams::{ToolFault, fail};
 use std::env::Env;
 use std::fs::Files;
@@ -48,14 +49,15 @@ fn run_job<R: Env + Clock + Files + Input + Print + Eprint + AllocGlobal, W: Wri
             auto_captures(rt, report, &options, captures.as_slice())
         }
         Job::Convert { setup, links } => convert_links(rt, report, setup, links.as_slice()),
-        Job::Show { hex, file } => show_named(rt, hex, MsmKind::Msm4, file),
-        Job::ShowMsm { hex, msm, file } => show_named(rt, hex, msm, file),
+        Job::Show { hex, file } => show_named(rt, hex, Accepted::FOUR, file),
+        Job::ShowMsm { hex, kinds, file } => show_named(rt, hex, messages_of(kinds), file),
         Job::Check { file } => run_file(rt, &Check, file),
         Job::Summary { file } => summarize_named(rt, file),
         Job::Chart { chart, file } => run_file(rt, &chart, file),
         Job::Quality { form, file } => run_file(rt, &form, file),
         Job::Cut { part, file } => run_file(rt, &part, file),
-        Job::Label { label, file } => run_file(rt, &label, file),
+        Job::CutSystems { command, file } => run_file(rt, &command, file),
+        Job::Label { labelling, file } => run_file(rt, &labelling, file),
         Job::Compare { command, old, new } => compare_named(rt, command, old, new),
     }
 }

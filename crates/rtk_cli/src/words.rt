@@ -1,15 +1,16 @@
 //! What the words of a command line ask for, and why a command is not done.
 
 use crate::code_lines::{codes_line, short_code_line};
-use rtk_commands::{Chart, Compare};
+use rtk_commands::{Chart, Compare, KeptPart, Labelling};
 use rtk_convert::Setup;
 use rtk_cut::Part;
-use rtk_label::{Label, LabelFault};
-use rtk_message::{MsmKind, System};
+use rtk_label::LabelFault;
+use rtk_message::System;
 use rtk_obs::Code;
 use rtk_plan::{Wanted, Ways};
 use rtk_quality::Form;
 use rtk_rinex::CreationTime;
+use rtk_setup::SystemKinds;
 use std::alloc::AllocError;
 
 /// What the words of `auto` say.
@@ -43,12 +44,12 @@ pub enum Job<'a> {
         hex: bool,
         file: &'a str,
     },
-    /// The lines of a capture, one for each frame, by the MSM of one kind.
+    /// The lines of a capture, one for each frame, by the MSM of chosen kinds.
     ShowMsm {
         /// The capture is hex text.
         hex: bool,
-        /// The MSM of GPS of this kind is read, and no other.
-        msm: MsmKind,
+        /// The MSM of these kinds are read, and no others.
+        kinds: SystemKinds,
         file: &'a str,
     },
     /// Whether a text is one of this project's files.
@@ -74,9 +75,14 @@ pub enum Job<'a> {
         part: Part,
         file: &'a str,
     },
+    /// A part of a file with some of its systems alone.
+    CutSystems {
+        command: KeptPart,
+        file: &'a str,
+    },
     /// A file with more fields in its header.
     Label {
-        label: Label,
+        labelling: Labelling,
         file: &'a str,
     },
     /// What a new file lacks of an old one. Standard input is one of them at most.

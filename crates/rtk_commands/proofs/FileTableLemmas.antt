@@ -1,25 +1,33 @@
 -- The first line of a file says whether it is one of GPS; what is said of a text by its files.
-use Rattle.std.proofs.Common.{◌≡◌, ◌≢◌, inl, inr, ℕ, List, [], ◌++◌, length, codes, ap, sym, refl, ◌∙◌, append_assoc, drop, subst}
-use Rattle.std.specs.Prelude.{flat_map}
+use Rattle.std.proofs.Common.{◌≡◌, ◌≢◌, inl, inr, ℕ, List, [], ◌∷◌, ◌++◌, length, codes, ap, sym, refl, ◌∙◌, append_assoc, drop, subst}
+use Rattle.std.specs.Prelude.{flat_map, All, Option, None, IfSome}
+use Rattle.std.proofs.lemmas.List.{append-nil}
+use Rattle.std.proofs.lemmas.List.Elements.{All-head, All-tail, All-weaker}
 use Rattle.rtk_rinex.specs.Columns.{left}
 use Rattle.rtk_rinex.specs.Header.{header_line, version_line, made_line, marker_line, position_lines, types_lines, last_lines, unit_line, first_line, header_text}
 use Rattle.rtk_rinex.specs.MixedHeader.{version_letter, mixed_version_line, unknown_lines, by_system, system_types_lines, phase_shift_line, glonass_lines, mixed_header_text}
-use Rattle.rtk_rinex.specs.Reading.{reading_of}
-use Rattle.rtk_rinex.specs.Record.{record_text}
+use Rattle.rtk_rinex.specs.Reading.{IsMoment, reading_of}
+use Rattle.rtk_rinex.specs.Record.{EpochTableView, record_text}
 use Rattle.rtk_rinex.specs.MixedRecord.{mixed_record_text}
-use Rattle.rtk_rinex.specs.Table.{WellFormedTable, IsWellFormedTable, table_text}
-use Rattle.rtk_rinex.specs.MixedTable.{MixedTable, IsMixedTable, mixed_table_text}
+use Rattle.rtk_rinex.specs.MixedForm.{form_of_head}
+use Rattle.rtk_rinex.specs.Table.{WellFormedTable, IsWellFormedTable, IsTableEpoch, table_text}
+use Rattle.rtk_rinex.specs.MixedTable.{MixedTable, IsMixedTable, IsMixedEpoch, mixed_table_text}
 use Rattle.rtk_rinex.specs.CheckText.{satellite_lines}
 use Rattle.rtk_rinex.specs.CheckTable.{TableView, HoldsTable, IsWithoutTable, OneTable, OneFault}
 use Rattle.rtk_rinex.specs.MixedCheckTable.{HoldsMixedTable, IsWithoutMixedTable, MixedOneTable, MixedOneFault}
 use Rattle.rtk_rinex.specs.declared.check_fault.CheckFault.{CheckFault}
+use Rattle.rtk_tracking.specs.Epochs.{epochs_onto, newest_moment}
 use Rattle.rtk_cut.specs.declared.part.Part.{Part}
 use Rattle.rtk_cut.specs.Cut.{cut_of, mixed_cut_of}
-use Rattle.rtk_label.specs.Labelled.{LabelView, IsLabel, IsFor}
-use Rattle.rtk_label.specs.LabelLaws.{FrontIsChanged, MixedFrontIsChanged}
+use Rattle.rtk_cut.specs.CutLaws.{part_of, OwnStepGivesFile}
+use Rattle.rtk_cut.specs.Extent.{extent_of}
+use Rattle.rtk_label.specs.Labelled.{LabelView, IsLabel, IsFor, blank_label, front_lines, mixed_front_lines, labelled_with, labelled_mixed_with}
+use Rattle.rtk_label.specs.LabelLaws.{BlankIsFile, FrontIsChanged, MixedLabelLaws}
 use Rattle.rtk_label.specs.LabelWriting.{IsParted}
+use Rattle.rtk_label.specs.declared.time_lines.TimeLines.{TimeLines}
 use Rattle.rtk_commands.specs.CutInput.{part_of_file}
-use Rattle.rtk_commands.specs.FileTable.{FileTable, OfGps, OfSystems, IsFileTable, file_text, file_site, file_front, file_epochs, labelled_file, letter_in, IsTextOfSomeFile, HoldsFile, IsTextOfNoFile, IsFaultOfFile, text_of, HasItsLetter}
+use Rattle.rtk_commands.specs.FileTable.{FileTable, OfGps, OfSystems, IsFileTable, file_text, file_site, file_front, file_epochs, file_lines, file_with_lines, labelled_file, letter_in, IsTextOfSomeFile, HoldsFile, IsTextOfNoFile, IsFaultOfFile, text_of, HasItsLetter}
+use Rattle.rtk_commands.specs.WithLabel.{IsPartedTable}
 use Rattle.rtk_commands.specs.declared.any_table.AnyTable.{AnyTable}
 use Rattle.rtk_commands.specs.declared.any_table.AnyTable.TheVariants.{Gps, Mixed}
 
@@ -136,19 +144,59 @@ gps-none text gps none f good e = gps-only (λ _. ⊥) text gps none f good e
 pub mixed-none : (text : List ℕ) → letter_in text ≢ 71 → IsWithoutMixedTable text → IsTextOfNoFile text
 mixed-none text other none f good e = mixed-only (λ _. ⊥) text other none f good e
 
--- ---- the label of a file
+-- ---- the label and the time lines of a file
 
-pub labelled-file : (text plain : List ℕ) (m : LabelView) → IsParted text plain m → (f : FileTable) → IsFileTable f → plain ≡ file_text f → (text ≡ labelled_file m f) × IsFor m (file_site f)
-labelled-file text plain m parted (OfGps t) good e = parted.labelled t good e
-labelled-file text plain m parted (OfSystems t) good e = parted.labelled_mixed t good.0 e
+pub labelled-file : (text plain : List ℕ) (m : LabelView) (w : TimeLines) → IsPartedTable text plain m w → (f : FileTable) → IsFileTable f → plain ≡ file_text f
+    → (text ≡ labelled_file w m f) × IsFor m (file_site f)
+labelled-file text plain m w p (OfGps t) good e =
+    let is = p.parted.labelled t good e in (is.0 ∙ ap (λ (x : List ℕ). labelled_with x m t) (p.due (OfGps t) good e), is.1)
+labelled-file text plain m w p (OfSystems t) good e =
+    let is = p.parted.labelled_mixed t good.0 e in (is.0 ∙ ap (λ (x : List ℕ). labelled_mixed_with x m t) (p.due (OfSystems t) good e), is.1)
 
-pub every-file : (text plain : List ℕ) (m : LabelView) → IsParted text plain m → (f : FileTable) (l : LabelView) → IsFileTable f → IsLabel l → IsFor l (file_site f) → text ≡ labelled_file l f
-    → (plain ≡ file_text f) × (m ≡ l)
-every-file text plain m parted (OfGps t) l good is for e = parted.every t l good is for e
-every-file text plain m parted (OfSystems t) l good is for e = parted.every_mixed t l good.0 is for e
+-- the moment of the last record is a moment
+newest-good : (es before : List EpochTableView) → All (λ (e : EpochTableView). IsMoment e.time) es → IfSome (newest_moment before) IsMoment → IfSome (newest_moment (epochs_onto es before)) IsMoment
+newest-good [] before all first = first
+newest-good (e ∷ es) before all first =
+    newest-good es (e ∷ before) (All-tail (λ (x : EpochTableView). IsMoment x.time) e es all) (All-head (λ (x : EpochTableView). IsMoment x.time) e es all)
 
--- a label changes the first nine lines of a part alone
-pub front-of_part : FrontIsChanged → MixedFrontIsChanged → (l : LabelView) (part : Part) (f : FileTable) → IsFileTable f
-    → labelled_file l (part_of_file part f) ≡ file_front l f ++ drop 729 (file_text (part_of_file part f))
-front-of_part law mixed l part (OfGps t) good = law l t (cut_of part t) good refl refl
-front-of_part law mixed l part (OfSystems t) good = mixed l t (mixed_cut_of part t) good.0 refl refl
+pub gps-moment : (t : WellFormedTable) → IsWellFormedTable t → IfSome (extent_of t.epochs).last IsMoment
+gps-moment t good =
+    newest-good t.epochs [] (All-weaker (IsTableEpoch (length t.head.listed)) (λ (e : EpochTableView). IsMoment e.time) (λ e is. is.time) t.epochs good.epochs) tt
+
+pub mixed-moment : (t : MixedTable) → IsMixedTable t → IfSome (extent_of t.epochs).last IsMoment
+mixed-moment t good =
+    newest-good t.epochs [] (All-weaker (IsMixedEpoch (form_of_head t.head)) (λ (e : EpochTableView). IsMoment e.time) (λ e is. is.time) t.epochs good.epochs) tt
+
+pub every-file : (text plain : List ℕ) (m : LabelView) (w : TimeLines) (lines : List ℕ) → IsParted text plain m w lines → (f : FileTable) (v : TimeLines) (l : LabelView) → IsFileTable f → IsLabel l
+    → IsFor l (file_site f) → text ≡ labelled_file v l f → (plain ≡ file_text f) × (m ≡ l) × (lines ≡ file_lines v f) × (file_lines w f ≡ lines)
+every-file text plain m w lines parted (OfGps t) v l good is for e =
+    parted.every t l v (extent_of t.epochs).interval_ms (extent_of t.epochs).last good is for (gps-moment t good) e
+every-file text plain m w lines parted (OfSystems t) v l good is for e =
+    parted.every_mixed t l v (extent_of t.epochs).interval_ms (extent_of t.epochs).last good.0 is for (mixed-moment t good.0) e
+
+-- the front of a part is that of the file; what stands behind its lines is that of the part
+pub front-of_part : (w : TimeLines) (l : LabelView) (part : Part) (f : FileTable)
+    → labelled_file w l (part_of_file part f) ≡ (file_front l f ++ file_lines w (part_of_file part f)) ++ drop 729 (file_text (part_of_file part f))
+front-of_part w l part (OfGps t) = refl
+front-of_part w l part (OfSystems t) = refl
+
+pub front-of_file : (lines : List ℕ) (l : LabelView) (f : FileTable) → file_with_lines lines l f ≡ (file_front l f ++ lines) ++ drop 729 (file_text f)
+front-of_file lines l (OfGps t) = refl
+front-of_file lines l (OfSystems t) = refl
+
+-- the part that is asked for without a step and without a span is the file
+pub whole-part : OwnStepGivesFile → (f : FileTable) → IsFileTable f → part_of_file (part_of None None None) f ≡ f
+whole-part law (OfGps t) good = ap OfGps (law.gps None t good (λ k d lt. refl))
+whole-part law (OfSystems t) good = ap OfSystems (law.mixed None t good.0 (λ k d lt. refl))
+
+pub whole-table : OwnStepGivesFile → (t : MixedTable) → IsMixedTable t → mixed_cut_of (part_of None None None) t ≡ t
+whole-table law t good = law.mixed None t good (λ k d lt. refl)
+
+-- a blank label and no line give the file
+pub nothing-gives_file : BlankIsFile → FrontIsChanged → MixedLabelLaws → (f : FileTable) → IsFileTable f → file_with_lines [] blank_label f ≡ file_text f
+nothing-gives_file blank front mixed (OfGps t) good =
+    ap (λ (x : List ℕ). x ++ drop 729 (file_text (OfGps t))) (append-nil (front_lines blank_label t.head t.site))
+    ∙ sym (front blank_label t t good refl refl) ∙ blank t
+nothing-gives_file blank front mixed (OfSystems t) good =
+    ap (λ (x : List ℕ). x ++ drop 729 (file_text (OfSystems t))) (append-nil (mixed_front_lines blank_label t.head t.site))
+    ∙ sym (mixed.front blank_label t t good.0 refl refl) ∙ mixed.blank t

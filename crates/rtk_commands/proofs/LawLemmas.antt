@@ -7,12 +7,10 @@ use Rattle.rtk_message.specs.declared.any_message.AnyMessage.{AnyMessage}
 use Rattle.rtk_message.specs.declared.any_fault.AnyFault.{AnyFault}
 use Rattle.rtk_message.specs.declared.message.Message.{Message}
 use Rattle.rtk_message.specs.declared.fault.DecodeFault.{DecodeFault}
-use Rattle.rtk_message.specs.declared.msm_kind.MsmKind.{MsmKind}
-use Rattle.rtk_message.specs.Accepted.{only}
 use Rattle.rtk_message.specs.AnyDecoded.{DecodesBy}
 use Rattle.rtk_message.specs.Decoded.{Decodes}
 use Rattle.rtk_commands.specs.Shown.{line_of, IsLineOf, AreLinesBy}
-use Rattle.rtk_commands.specs.ShownByKind.{any_line_of, IsLineOfKind}
+use Rattle.rtk_commands.specs.ShownBySet.{any_line_of, IsLineBy}
 
 -- bits decode to one message or fault
 decodes-once : (bs : List Bool) (r s : Result Message DecodeFault) → Decodes bs r → Decodes bs s → r ≡ s
@@ -29,8 +27,8 @@ decodes-once-by a bs (Err f) (Err g) x y = let e : Some f ≡ Some g = sym x.fau
 pub line-once : (payload line other : List ℕ) → IsLineOf payload line → IsLineOf payload other → line ≡ other
 line-once payload line other (r, a, e) (s, b, h) = e ∙ ap line_of (decodes-once (bits payload) r s a b) ∙ sym h
 
-pub line-once-by : (kind : MsmKind) (payload line other : List ℕ) → IsLineOfKind kind payload line → IsLineOfKind kind payload other → line ≡ other
-line-once-by kind payload line other (r, a, e) (s, b, h) = e ∙ ap any_line_of (decodes-once-by (only kind) (bits payload) r s a b) ∙ sym h
+pub line-once-by : (a : Accepted) (payload line other : List ℕ) → IsLineBy a payload line → IsLineBy a payload other → line ≡ other
+line-once-by a payload line other (r, x, e) (s, y, h) = e ∙ ap any_line_of (decodes-once-by a (bits payload) r s x y) ∙ sym h
 
 pub text-once : (IsLine : List ℕ → List ℕ → Type 0) → ((payload line other : List ℕ) → IsLine payload line → IsLine payload other → line ≡ other) → (frames : List Frame) (text other : List ℕ)
     → AreLinesBy IsLine frames text → AreLinesBy IsLine frames other → text ≡ other

@@ -1,8 +1,11 @@
 mod AfterFrontLemmas
 mod CheckLineLemmas
 mod CompareLemmas
+mod DueLemmas
 mod FileLemmas
 mod FileTableLemmas
+mod GpsTableLemmas
+mod KeptPartLemmas
 mod KindLemmas
 mod LabelLemmas
 mod LabelledPartLemmas

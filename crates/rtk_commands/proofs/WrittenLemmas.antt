@@ -1,18 +1,21 @@
 -- What is written stands right after what was held.
-use Rattle.std.proofs.Common.{◌≡◌, ◌≢◌, inl, inr, ℕ, List, ◌++◌, Some, ◌∙◌, ap}
+use Rattle.std.proofs.Common.{◌≡◌, ◌≢◌, inl, inr, ℕ, List, [], ◌++◌, Some, ◌∙◌, ap}
 use Rattle.rtk_rinex.specs.Table.{WellFormedTable, IsWellFormedTable, table_text}
 use Rattle.rtk_rinex.specs.declared.check_fault.CheckFault.{CheckFault}
 use Rattle.rtk_cut.specs.declared.counts.CutCounts.{CutCounts}
-use Rattle.rtk_label.specs.Labelled.{LabelView, IsLabel, IsFor}
+use Rattle.rtk_label.specs.Labelled.{LabelView, IsLabel, IsFor, blank_label}
+use Rattle.rtk_label.specs.LabelLaws.{BlankIsFile, FrontIsChanged, MixedLabelLaws}
+use Rattle.rtk_label.specs.declared.time_lines.TimeLines.{TimeLines}
 use Rattle.rtk_quality.specs.QualityText.{TellsQuality}
 use Rattle.rtk_quality.specs.declared.form.Form.{Form}
 use Rattle.rtk_commands.specs.declared.charting.Chart.{Chart}
 use Rattle.rtk_commands.specs.declared.file_answer.FileAnswer.TheVariants.{Written, Cut, Refused, Height, NoneChosen, OtherSystems}
 use Rattle.rtk_commands.specs.ChartInput.{IsPicture, DrawsTable}
 use Rattle.rtk_commands.specs.QualityInput.{TellsTable}
-use Rattle.rtk_commands.specs.FileTable.{FileTable, OfGps, OfSystems, IsFileTable, file_site, labelled_file}
+use Rattle.rtk_commands.specs.FileTable.{FileTable, OfGps, OfSystems, IsFileTable, file_text, file_site, labelled_file}
 use Rattle.rtk_commands.specs.WithLabel.{IsWithLabel}
-use Rattle.rtk_commands.specs.WrittenLaws.{LineFollows, PictureFollows, NumbersFollow, PartFollows, LabelFollows}
+use Rattle.rtk_commands.specs.WrittenLaws.{LineFollows, PictureFollows, NumbersFollow, PartFollows, LabelFollows, no_times, NothingGivesFile}
+use Rattle.rtk_commands.proofs.FileTableLemmas.{nothing-gives_file}
 
 same-bytes : (first more last : List ℕ) → Some last ≡ Some (first ++ more) → last ≡ first ++ more
 same-bytes first more last same = cc
@@ -39,30 +42,30 @@ pub line-follows : LineFollows
 line-follows text first last valid told = (told.0, told.1, same-bytes first told.0 last told.2)
 
 -- the file is one of GPS
-picture-of : (chart : Chart) (text first last bytes : List ℕ) (f : FileTable) (l : LabelView) → IsFileTable f → IsLabel l → IsFor l (file_site f) → text ≡ labelled_file l f
-    → DrawsTable chart f l Written bytes → last ≡ first ++ bytes
+picture-of : (chart : Chart) (text first last bytes : List ℕ) (f : FileTable) (w : TimeLines) (l : LabelView) → IsFileTable f → IsLabel l → IsFor l (file_site f) → text ≡ labelled_file w l f
+    → DrawsTable chart f w l Written bytes → last ≡ first ++ bytes
     → (t : WellFormedTable) × IsWellFormedTable t × IsWithLabel text (OfGps t) × ((picture : List ℕ) × IsPicture chart.width chart.choice (table_text t) picture × (last ≡ first ++ picture))
-picture-of chart text first last bytes (OfGps t) l good is for e drawn same = elim drawn [
-  | inl some ↦ (t, good, (l, is, for, e), (bytes, some.2, same))
+picture-of chart text first last bytes (OfGps t) w l good is for e drawn same = elim drawn [
+  | inl some ↦ (t, good, (w, l, is, for, e), (bytes, some.2, same))
   | inr none ↦ absurd (not-none none.0)
 ]
-picture-of chart text first last bytes (OfSystems t) l good is for e none same = absurd (not-other none.0)
+picture-of chart text first last bytes (OfSystems t) w l good is for e none same = absurd (not-other none.0)
 
-numbers-of : (form : Form) (text first last bytes : List ℕ) (f : FileTable) (l : LabelView) → IsFileTable f → IsLabel l → IsFor l (file_site f) → text ≡ labelled_file l f
-    → TellsTable form f l Written bytes → last ≡ first ++ bytes
+numbers-of : (form : Form) (text first last bytes : List ℕ) (f : FileTable) (w : TimeLines) (l : LabelView) → IsFileTable f → IsLabel l → IsFor l (file_site f) → text ≡ labelled_file w l f
+    → TellsTable form f w l Written bytes → last ≡ first ++ bytes
     → (t : WellFormedTable) × IsWellFormedTable t × IsWithLabel text (OfGps t) × ((numbers : List ℕ) × TellsQuality form (table_text t) numbers × (last ≡ first ++ numbers))
-numbers-of form text first last bytes (OfGps t) l good is for e told same = (t, good, (l, is, for, e), (bytes, told.1, same))
-numbers-of form text first last bytes (OfSystems t) l good is for e none same = absurd (not-other none.0)
+numbers-of form text first last bytes (OfGps t) w l good is for e told same = (t, good, (w, l, is, for, e), (bytes, told.1, same))
+numbers-of form text first last bytes (OfSystems t) w l good is for e none same = absurd (not-other none.0)
 
 pub picture-follows : PictureFollows
 picture-follows chart text first last (bytes, made, same) = elim made [
-  | inl some ↦ picture-of chart text first last bytes some.0 some.1 some.2 some.3 some.4 some.5 some.6 (same-bytes first bytes last same)
+  | inl some ↦ picture-of chart text first last bytes some.0 some.1 some.2 some.3 some.4 some.5 some.6 some.7 (same-bytes first bytes last same)
   | inr refused ↦ absurd (not-refused refused.0 refused.1)
 ]
 
 pub numbers-follow : NumbersFollow
 numbers-follow form text first last (bytes, made, same) = elim made [
-  | inl some ↦ numbers-of form text first last bytes some.0 some.1 some.2 some.3 some.4 some.5 some.6 (same-bytes first bytes last same)
+  | inl some ↦ numbers-of form text first last bytes some.0 some.1 some.2 some.3 some.4 some.5 some.6 some.7 (same-bytes first bytes last same)
   | inr refused ↦ absurd (not-refused refused.0 refused.1)
 ]
 
@@ -70,18 +73,23 @@ pub part-follows : PartFollows
 part-follows text first last part counts (bytes, made, same) = elim made [
   | inl some ↦ (
     some.0,
-    some.2,
-    own-counts counts _ some.6.0,
-    (some.1, some.3, some.4, some.5, same-bytes first bytes last same ∙ ap (λ (x : List ℕ). first ++ x) some.6.1),
+    some.3,
+    own-counts counts _ some.7.0,
+    (some.1, some.2, some.4, some.5, some.6, same-bytes first bytes last same ∙ ap (λ (x : List ℕ). first ++ x) some.7.1),
   )
   | inr refused ↦ absurd (cut-not-refused counts refused.0 refused.1)
 ]
 
 pub label-follows : LabelFollows
-label-follows l text first last (bytes, made, same) = elim made [
-  | inl some ↦ elim some.6 [
-    | inl wrote ↦ (some.0, some.2, (some.1, some.3, some.4, some.5), wrote.1, same-bytes first bytes last same ∙ ap (λ (x : List ℕ). first ++ x) wrote.2)
+label-follows l w text first last (bytes, made, same) = elim made [
+  | inl some ↦ elim some.7 [
+    | inl wrote ↦ (some.0, some.3, (some.1, some.2, some.4, some.5, some.6), wrote.1, same-bytes first bytes last same ∙ ap (λ (x : List ℕ). first ++ x) wrote.2)
     | inr none ↦ absurd (not-height none.0)
   ]
   | inr refused ↦ absurd (not-refused refused.0 refused.1)
 ]
+
+pub nothing-follows : BlankIsFile → FrontIsChanged → MixedLabelLaws → NothingGivesFile
+nothing-follows blank front mixed text first last wrote =
+    let file = label-follows blank_label no_times text first last wrote in
+    (file.0, file.1, file.2, file.4 ∙ ap (λ (x : List ℕ). first ++ x) (nothing-gives_file blank front mixed file.0 file.1))

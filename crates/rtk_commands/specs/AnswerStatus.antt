@@ -1,11 +1,11 @@
 -- The exit status of a command of a file, by its answer.
 use Rattle.std.specs.Prelude.{ℕ}
 use Rattle.rtk_commands.specs.declared.file_answer.FileAnswer.{FileAnswer}
-use Rattle.rtk_commands.specs.declared.file_answer.FileAnswer.TheVariants.{Written, Cut, NotValid, Refused, Height, NoneChosen, OtherSystems}
+use Rattle.rtk_commands.specs.declared.file_answer.FileAnswer.TheVariants.{Written, Cut, NotValid, Refused, Height, NoneChosen, Absent, OtherSystems}
 
 -- table
 -- 0 if the work is done, 2 if the words are refused, and 3 if `check` says no, the file has nothing of what is
--- chosen, or it has systems that the command does not know (this project's rule)
+-- chosen, or lacks some of it, or has systems that the command does not know (this project's rule)
 abbrev pub answer_status : FileAnswer → ℕ
 answer_status Written = 0
 answer_status (Cut counts) = 0
@@ -13,4 +13,5 @@ answer_status NotValid = 3
 answer_status (Refused fault) = 3
 answer_status Height = 2
 answer_status NoneChosen = 3
+answer_status (Absent system) = 3
 answer_status OtherSystems = 3

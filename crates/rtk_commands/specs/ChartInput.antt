@@ -3,6 +3,7 @@ use Rattle.std.specs.Prelude.{◌≡◌, ◌⊎◌, ℕ, Bool, true, false, List
 use Rattle.std.specs.Int.{IsInRange}
 use Rattle.rtk_rinex.specs.Table.{table_text}
 use Rattle.rtk_label.specs.Labelled.{LabelView}
+use Rattle.rtk_label.specs.declared.time_lines.TimeLines.{TimeLines}
 use Rattle.rtk_tracking.specs.Epochs.{HoldsOfEpochs}
 use Rattle.rtk_chart.specs.Choice.{is_there}
 use Rattle.rtk_chart.specs.Chart.{ShowsChosen, ShowsChosenInSvg}
@@ -32,7 +33,7 @@ DrawsFile chart file answer bytes =
     ((answer ≡ Written) × Has chart.choice file true × IsPicture chart.width chart.choice file bytes)
     ⊎ ((answer ≡ NoneChosen) × Has chart.choice file false × (bytes ≡ []))
 
--- the same of a file of GPS, whatever its label; of one with other systems nothing
-abbrev pub DrawsTable : Chart → FileTable → LabelView → FileAnswer → List ℕ → Type 0
-DrawsTable chart (OfGps t) l answer bytes = DrawsFile chart (table_text t) answer bytes
-DrawsTable chart (OfSystems t) l answer bytes = (answer ≡ OtherSystems) × (bytes ≡ [])
+-- the same of a file of GPS, whatever its label and its time lines; of one with other systems nothing
+abbrev pub DrawsTable : Chart → FileTable → TimeLines → LabelView → FileAnswer → List ℕ → Type 0
+DrawsTable chart (OfGps t) w l answer bytes = DrawsFile chart (table_text t) answer bytes
+DrawsTable chart (OfSystems t) w l answer bytes = (answer ≡ OtherSystems) × (bytes ≡ [])

@@ -4,11 +4,14 @@ use Rattle.rtk_frame.specs.Stream.{with_more, TakesPart}
 use Rattle.rtk_tracking.specs.Epochs.{capped}
 use Rattle.rtk_cut.specs.declared.part.Part.{Part}
 use Rattle.rtk_cut.specs.declared.counts.CutCounts.{CutCounts}
+use Rattle.rtk_cut.specs.declared.extent.Extent.{Extent}
 use Rattle.rtk_cut.specs.Cut.{cut_of, mixed_cut_of}
+use Rattle.rtk_cut.specs.Extent.{extent_of}
 use Rattle.rtk_label.specs.Labelled.{LabelView}
+use Rattle.rtk_label.specs.declared.time_lines.TimeLines.{TimeLines}
 use Rattle.rtk_commands.specs.declared.file_answer.FileAnswer.{FileAnswer}
 use Rattle.rtk_commands.specs.declared.file_answer.FileAnswer.TheVariants.{Cut}
-use Rattle.rtk_commands.specs.FileTable.{FileTable, OfGps, OfSystems, IsFileTable, file_text, file_epochs, labelled_file}
+use Rattle.rtk_commands.specs.FileTable.{FileTable, OfGps, OfSystems, IsFileTable, file_text, file_epochs, file_lines, labelled_file}
 
 -- the part of a file
 abbrev pub part_of_file : Part → FileTable → FileTable
@@ -19,9 +22,19 @@ part_of_file part (OfSystems t) = OfSystems (mixed_cut_of part t)
 abbrev pub part_counts : Part → FileTable → CutCounts
 part_counts part f = record { records = capped (length (file_epochs f)); written = capped (length (file_epochs (part_of_file part f))) }
 
--- the part of the file, with the label of the text
-abbrev pub CutsTable : Part → FileTable → LabelView → FileAnswer → List ℕ → Type 0
-CutsTable part f l answer bytes = (answer ≡ Cut (part_counts part f)) × (bytes ≡ labelled_file l (part_of_file part f))
+-- the part of the file, with the label of the text; if the text has time lines, the part has those of its own records
+abbrev pub CutsTable : Part → FileTable → TimeLines → LabelView → FileAnswer → List ℕ → Type 0
+CutsTable part f w l answer bytes = (answer ≡ Cut (part_counts part f)) × (bytes ≡ labelled_file w l (part_of_file part f))
+
+-- the interval and the last moment of the part of the file whose text this is
+abbrev pub TellsExtent : List ℕ → Part → Extent → Type 0
+TellsExtent plain part extent =
+    (f : FileTable) → IsFileTable f → plain ≡ file_text f → extent ≡ extent_of (file_epochs (part_of_file part f))
+
+-- the time lines of the part of the file whose text this is
+abbrev pub HaveLinesOfPart : List ℕ → TimeLines → Part → List ℕ → Type 0
+HaveLinesOfPart plain w part lines =
+    (f : FileTable) → IsFileTable f → plain ≡ file_text f → lines ≡ file_lines w (part_of_file part f)
 
 -- of the file whose text this is the part was written: before, after
 abbrev pub WritesPartOfFile : List ℕ → Part → Option (List ℕ) → Option (List ℕ) → Type 0
@@ -39,15 +52,15 @@ CountsPartOfFile plain part counts =
     (f : FileTable) → IsFileTable f → plain ≡ file_text f
     → (counts.records ≡ capped (length (file_epochs f))) × (counts.written ≡ capped (length (file_epochs (part_of_file part f))))
 
--- of a text of a file without its label the part was written with this label: before, after
-abbrev pub WritesLabelledPart : LabelView → List ℕ → Part → Option (List ℕ) → Option (List ℕ) → Type 0
-WritesLabelledPart l plain part before after =
-    (f : FileTable) → IsFileTable f → plain ≡ file_text f → after ≡ with_more before (labelled_file l (part_of_file part f))
+-- of a text of a file without its label the part was written with this label and with time lines: before, after
+abbrev pub WritesLabelledPart : LabelView → TimeLines → List ℕ → Part → Option (List ℕ) → Option (List ℕ) → Type 0
+WritesLabelledPart l w plain part before after =
+    (f : FileTable) → IsFileTable f → plain ≡ file_text f → after ≡ with_more before (labelled_file w l (part_of_file part f))
 
 -- of this a first part was written, perhaps none or all of it
-abbrev pub WritesFirstOfLabelledPart : LabelView → List ℕ → Part → Option (List ℕ) → Option (List ℕ) → Type 0
-WritesFirstOfLabelledPart l plain part before after =
-    (f : FileTable) → IsFileTable f → plain ≡ file_text f → TakesPart before after (labelled_file l (part_of_file part f))
+abbrev pub WritesFirstOfLabelledPart : LabelView → TimeLines → List ℕ → Part → Option (List ℕ) → Option (List ℕ) → Type 0
+WritesFirstOfLabelledPart l w plain part before after =
+    (f : FileTable) → IsFileTable f → plain ≡ file_text f → TakesPart before after (labelled_file w l (part_of_file part f))
 
 -- what comes after the first nine lines of the part was written
 abbrev pub WritesRestOfPart : List ℕ → Part → Option (List ℕ) → Option (List ℕ) → Type 0

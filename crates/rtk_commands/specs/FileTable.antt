@@ -1,5 +1,5 @@
--- A file that the commands of a file take: of GPS alone, or with other systems.
-use Rattle.std.specs.Prelude.{◌≡◌, ◌≢◌, ◌⊎◌, ℕ, List, length, get_or}
+-- A file that the commands of a file take: of GPS alone, or with other systems; and its text with a label and time lines.
+use Rattle.std.specs.Prelude.{◌≡◌, ◌≢◌, ◌⊎◌, ℕ, List, ◌++◌, length, get_or}
 use Rattle.rtk_rinex.specs.Header.{PositionView}
 use Rattle.rtk_rinex.specs.MixedHeader.{version_letter}
 use Rattle.rtk_rinex.specs.Record.{EpochTableView}
@@ -9,7 +9,10 @@ use Rattle.rtk_rinex.specs.CheckText.{satellite_lines}
 use Rattle.rtk_rinex.specs.CheckTable.{IsFault}
 use Rattle.rtk_rinex.specs.MixedCheckTable.{IsMixedFault}
 use Rattle.rtk_rinex.specs.declared.check_fault.CheckFault.{CheckFault}
-use Rattle.rtk_label.specs.Labelled.{LabelView, front_lines, labelled_text, mixed_front_lines, labelled_mixed_text}
+use Rattle.rtk_cut.specs.Extent.{extent_of}
+use Rattle.rtk_label.specs.Labelled.{LabelView, front_lines, labelled_with, mixed_front_lines, labelled_mixed_with}
+use Rattle.rtk_label.specs.TimeLines.{extent_lines}
+use Rattle.rtk_label.specs.declared.time_lines.TimeLines.{TimeLines}
 use Rattle.rtk_commands.specs.declared.any_table.AnyTable.{AnyTable}
 use Rattle.rtk_commands.specs.declared.any_table.AnyTable.TheVariants.{Gps, Mixed}
 
@@ -36,10 +39,22 @@ abbrev pub file_epochs : FileTable → List EpochTableView
 file_epochs (OfGps t) = t.epochs
 file_epochs (OfSystems t) = t.epochs
 
--- the file with a label
-abbrev pub labelled_file : LabelView → FileTable → List ℕ
-labelled_file l (OfGps t) = labelled_text l t
-labelled_file l (OfSystems t) = labelled_mixed_text l t
+-- the lines of the header that follow from these records, as far as they are asked for: by their interval, and by the
+-- moment of the last one
+abbrev pub lines_of_epochs : TimeLines → List EpochTableView → List ℕ
+lines_of_epochs w epochs = extent_lines w (extent_of epochs).interval_ms (extent_of epochs).last
+
+abbrev pub file_lines : TimeLines → FileTable → List ℕ
+file_lines w f = lines_of_epochs w (file_epochs f)
+
+-- the file with a label, and with these lines after those that the label changes
+abbrev pub file_with_lines : List ℕ → LabelView → FileTable → List ℕ
+file_with_lines lines l (OfGps t) = labelled_with lines l t
+file_with_lines lines l (OfSystems t) = labelled_mixed_with lines l t
+
+-- the file with a label, and with the lines that follow from its records, as far as they are asked for
+abbrev pub labelled_file : TimeLines → LabelView → FileTable → List ℕ
+labelled_file w l f = file_with_lines (file_lines w f) l f
 
 -- its lines that a label changes
 abbrev pub file_front : LabelView → FileTable → List ℕ
@@ -56,6 +71,10 @@ IsTextOfSomeFile text = (f : FileTable) × IsFileTable f × (text ≡ file_text 
 abbrev pub HoldsFile : List ℕ → ℕ → ℕ → Type 0
 HoldsFile text records lines =
     (f : FileTable) × IsFileTable f × (text ≡ file_text f) × (length (file_epochs f) ≡ records) × (satellite_lines (file_epochs f) ≡ lines)
+
+-- these are the lines of the file whose text this is that follow from its records
+abbrev pub HaveLines : List ℕ → TimeLines → List ℕ → Type 0
+HaveLines plain w lines = (f : FileTable) → IsFileTable f → plain ≡ file_text f → lines ≡ file_lines w f
 
 -- the text is that of no file
 abbrev pub IsTextOfNoFile : List ℕ → Type 0

@@ -7,11 +7,12 @@ pub mod CutInput
 pub mod FileTable
 pub mod FileText
 pub mod Hex
+pub mod KeptPartInput
 pub mod LabelInput
 pub mod QualityInput
 pub mod Show
 pub mod Shown
-pub mod ShownByKind
+pub mod ShownBySet
 pub mod Summarized
 pub mod WithLabel
 pub mod WrittenLaws

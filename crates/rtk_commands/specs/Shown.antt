@@ -13,6 +13,8 @@ use Rattle.rtk_message.specs.declared.arp1005.Arp1005.{Arp1005}
 use Rattle.rtk_message.specs.declared.arp1006.Arp1006.{Arp1006}
 use Rattle.rtk_message.specs.declared.msm1074.Msm1074.{Msm1074}
 use Rattle.rtk_message.specs.declared.msm1074.MsmHeader.{MsmHeader}
+use Rattle.rtk_message.specs.declared.system.System.{System}
+use Rattle.rtk_message.specs.declared.system.System.TheVariants.{Gps, Glonass, Galileo, Beidou, Qzss, Sbas, Navic}
 use Rattle.rtk_message.specs.declared.fault.DecodeFault.{DecodeFault}
 use Rattle.rtk_message.specs.declared.fault.DecodeFault.TheVariants.{NoNumber, Other, Short, EpochRange, TooManyCells}
 use Rattle.rtk_message.specs.Decoded.{Decodes}
@@ -56,17 +58,30 @@ text_1005 m = codes "1005" ++ reference_point m
 abbrev pub text_1006 : Arp1006 → List ℕ
 text_1006 m = codes "1006" ++ reference_point m.arp ++ codes " height " ++ metres m.height
 
+-- table
+-- the word before the clock of a multiple signal message (MSM) of a system: `tow` if the clock is the GPS time of
+-- week (DF004, and DF248, DF428 and DF546, which are equal to it), and else `clock` (DF416 and DF034 of GLONASS, and
+-- DF427 of BeiDou)
+abbrev pub clock_word : System → List ℕ
+clock_word Gps = codes " tow "
+clock_word Glonass = codes " clock "
+clock_word Galileo = codes " tow "
+clock_word Beidou = codes " clock "
+clock_word Qzss = codes " tow "
+clock_word Sbas = codes " tow "
+clock_word Navic = codes " tow "
+
 -- formula
--- a multiple signal message (MSM) of this number, with so many cells
-abbrev pub msm_text : ℕ → MsmHeader → ℕ → List ℕ
-msm_text number h cells =
-    decimal number ++ codes " station " ++ decimal h.station ++ codes " tow " ++ decimal h.tow
+-- an MSM of this number and system, with so many cells
+abbrev pub msm_text : ℕ → System → MsmHeader → ℕ → List ℕ
+msm_text number system h cells =
+    decimal number ++ codes " station " ++ decimal h.station ++ clock_word system ++ decimal h.tow
     ++ codes " satellites " ++ decimal (satellite_count h) ++ codes " signals " ++ decimal (signal_count h)
     ++ codes " cells " ++ decimal cells
 
 -- formula
 abbrev pub text_1074 : Msm1074 → List ℕ
-text_1074 m = msm_text 1074 m.header (cell_count m)
+text_1074 m = msm_text 1074 Gps m.header (cell_count m)
 
 abbrev pub message_text : Message → List ℕ
 message_text (Of1004 m) = text_1004 m

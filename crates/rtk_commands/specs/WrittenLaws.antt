@@ -1,12 +1,13 @@
 -- Laws of what is written: after the bytes that a writer held before stands exactly the line, the
 -- picture, the numbers, the part or the file with a label of the whole text, and nothing else.
-use Rattle.std.specs.Prelude.{◌≡◌, ℕ, Bool, List, ◌++◌, Some}
+use Rattle.std.specs.Prelude.{◌≡◌, ℕ, Bool, false, List, ◌++◌, Some}
 use Rattle.rtk_rinex.specs.Table.{WellFormedTable, IsWellFormedTable, table_text}
 use Rattle.rtk_quality.specs.QualityText.{TellsQuality}
 use Rattle.rtk_quality.specs.declared.form.Form.{Form}
 use Rattle.rtk_cut.specs.declared.part.Part.{Part}
 use Rattle.rtk_cut.specs.declared.counts.CutCounts.{CutCounts}
-use Rattle.rtk_label.specs.Labelled.{LabelView, IsLabel, IsFor}
+use Rattle.rtk_label.specs.Labelled.{LabelView, IsLabel, IsFor, blank_label}
+use Rattle.rtk_label.specs.declared.time_lines.TimeLines.{TimeLines}
 use Rattle.rtk_commands.specs.declared.charting.Chart.{Chart}
 use Rattle.rtk_commands.specs.declared.file_answer.FileAnswer.TheVariants.{Written, Cut}
 use Rattle.rtk_commands.specs.CheckInput.{SaysVerdict, Tells}
@@ -14,7 +15,7 @@ use Rattle.rtk_commands.specs.ChartInput.{IsPicture, DrawsTable}
 use Rattle.rtk_commands.specs.QualityInput.{TellsTable}
 use Rattle.rtk_commands.specs.CutInput.{part_of_file, part_counts, CutsTable}
 use Rattle.rtk_commands.specs.LabelInput.{LabelsTable}
-use Rattle.rtk_commands.specs.FileTable.{FileTable, OfGps, IsFileTable, file_site, labelled_file}
+use Rattle.rtk_commands.specs.FileTable.{FileTable, OfGps, IsFileTable, file_text, file_site, labelled_file}
 use Rattle.rtk_commands.specs.FileText.{WritesAll}
 use Rattle.rtk_commands.specs.WithLabel.{IsWithLabel, WritesOfTable}
 
@@ -43,10 +44,19 @@ abbrev pub PartFollows : Type 0
 PartFollows =
     (text first last : List ℕ) (part : Part) (counts : CutCounts) → WritesAll (WritesOfTable (CutsTable part) text (Cut counts)) (Some first) (Some last)
     → (f : FileTable) × IsFileTable f × (counts ≡ part_counts part f)
-    × ((l : LabelView) × IsLabel l × IsFor l (file_site f) × (text ≡ labelled_file l f) × (last ≡ first ++ labelled_file l (part_of_file part f)))
+    × ((w : TimeLines) × (l : LabelView) × IsLabel l × IsFor l (file_site f) × (text ≡ labelled_file w l f) × (last ≡ first ++ labelled_file w l (part_of_file part f)))
 
--- the file with a label
+-- the file with a label and time lines
 abbrev pub LabelFollows : Type 0
 LabelFollows =
-    (l : LabelView) (text first last : List ℕ) → WritesAll (WritesOfTable (LabelsTable l) text Written) (Some first) (Some last)
-    → (f : FileTable) × IsFileTable f × IsWithLabel text f × IsFor l (file_site f) × (last ≡ first ++ labelled_file l f)
+    (l : LabelView) (w : TimeLines) (text first last : List ℕ) → WritesAll (WritesOfTable (LabelsTable l w) text Written) (Some first) (Some last)
+    → (f : FileTable) × IsFileTable f × IsWithLabel text f × IsFor l (file_site f) × (last ≡ first ++ labelled_file w l f)
+
+abbrev pub no_times : TimeLines
+no_times = record { interval = false; last = false }
+
+-- with a blank label and no time line it is the file itself
+abbrev pub NothingGivesFile : Type 0
+NothingGivesFile =
+    (text first last : List ℕ) → WritesAll (WritesOfTable (LabelsTable blank_label no_times) text Written) (Some first) (Some last)
+    → (f : FileTable) × IsFileTable f × IsWithLabel text f × (last ≡ first ++ file_text f)

@@ -1,21 +1,20 @@
 //! A table in its text, of GPS alone or with other systems.
 
-ghost use Rattle.std.specs.Prelude.{◌≡◌, ◌≢◌, Err, IfOk, OnOk, OnErr, IfErr, IsErrOf};
+ghost use Rattle.std.specs.Prelude.{◌≡◌, ◌≢◌, drop, Err, IfOk, OnOk, OnErr, IfErr, IsErrOf};
 ghost use Rattle.rtk_frame.specs.Stream.{CountRises};
 ghost use Rattle.rtk_cut.specs.Cut.{IsStepOrNone};
 ghost use Rattle.rtk_cut.specs.declared.fault.CutFault.TheVariants.{Write};
 ghost use Rattle.rtk_commands.specs.FileTable.{IsTextOfSomeFile, HoldsFile, IsTextOfNoFile, IsFaultOfFile, letter_in, text_of, records_of, lines_of, HasItsLetter};
-ghost use Rattle.rtk_commands.specs.CutInput.{WritesPartOfFile, WritesFirstOfPartOfFile, CountsPartOfFile};
-ghost use Rattle.rtk_commands.specs.LabelInput.{TellsIsFor, IsForFile, WritesLabelledFile, WritesFirstLabelledFile, WritesFrontOfFile, WritesFirstOfFrontOfFile};
+ghost use Rattle.rtk_commands.specs.CutInput.{WritesPartOfFile, WritesFirstOfPartOfFile, CountsPartOfFile, TellsExtent};
+ghost use Rattle.rtk_commands.specs.LabelInput.{TellsIsFor, WritesWithLines, WritesFirstWithLines, WritesFrontOfFile, WritesFirstOfFrontOfFile, WritesFrontAndLines, WritesFirstOfFrontAndLines};
 
-use rtk_cut::{CutCounts, CutFault, Part, cut, cut_mixed};
-use rtk_frame::{Sink, StreamFault};
-use rtk_label::{
-    Label, is_for, is_for_mixed, write_front, write_front_mixed, write_labelled,
-    write_labelled_mixed,
+use rtk_cut::{
+    CutCounts, CutFault, Extent, Part, cut, cut_mixed, extent_of_mixed_part, extent_of_part,
 };
+use rtk_frame::{Sink, StreamFault, write_all};
+use rtk_label::{Label, PLAIN_FRONT, is_for, is_for_mixed, write_front, write_front_mixed};
 use rtk_rinex::{CheckFault, MixedTextTable, TextTable, check_mixed_text, check_text};
-use std::alloc::Global;
+use std::alloc::{AllocError, Global};
 
 /// A well-formed table in its text.
 #[derive(Drop)]
@@ -78,6 +77,16 @@ pub(crate) fn check_any(text: &[u8]) -> Result<AnyTable<'_>, CheckFault>
     check_mixed(text)
 }
 
+// What stands in a text behind its first nine lines.
+fn behind_front(text: &[u8]) -> &[u8]
+    ensures { result.now ≡ drop 729 text.now }
+{
+    if text.len() < PLAIN_FRONT {
+        return text.split_at(text.len()).1;
+    }
+    text.split_at(PLAIN_FRONT).1
+}
+
 impl AnyTable<'_> {
     /// How many records the table has.
     pub(crate) fn epochs(&self) -> usize
@@ -110,22 +119,25 @@ impl AnyTable<'_> {
         }
     }
 
-    /// Writes the file with a label.
-    pub(crate) fn write_labelled<W: Sink>(
-        &self,
-        label: &Label,
-        out: &mut W,
-    ) -> Result<(), StreamFault>
-        requires letter { HasItsLetter self.now }
-        requires is_for { IsForFile label.now (text_of self.now) }
-        ensures all { OnOk result (WritesLabelledFile (text_of self.now) label.now (W.taken out.old) (W.taken out.new)) }
-        ensures first { OnErr result (WritesFirstLabelledFile (text_of self.now) label.now (W.taken out.old) (W.taken out.new)) }
-        ensures write_failed { OnErr result (CountRises (W.failures out.old) (W.failures out.new)) }
-        ensures no_failed_write { OnOk result (W.failures out.new ≡ W.failures out.old) }
+    // The text of the table.
+    fn as_bytes(&self) -> &[u8]
+        ensures { result.now ≡ text_of self.now }
     {
         match self {
-            AnyTable::Gps(table) => write_labelled(label, table, out),
-            AnyTable::Mixed(table) => write_labelled_mixed(label, table, out),
+            AnyTable::Gps(table) => table.as_bytes(),
+            AnyTable::Mixed(table) => table.as_bytes(),
+        }
+    }
+
+    /// How far the records of a part of the file extend.
+    pub(crate) fn extent(&self, alloc: Global, part: Part) -> Result<Extent, AllocError>
+        requires letter { HasItsLetter self.now }
+        requires step { IsStepOrNone part.every }
+        ensures { IfOk result (TellsExtent (text_of self.now) part) }
+    {
+        match self {
+            AnyTable::Gps(table) => extent_of_part(alloc, table, part),
+            AnyTable::Mixed(table) => extent_of_mixed_part(alloc, table, part),
         }
     }
 
@@ -141,6 +153,40 @@ impl AnyTable<'_> {
             AnyTable::Gps(table) => write_front(label, table, out),
             AnyTable::Mixed(table) => write_front_mixed(label, table, out),
         }
+    }
+
+    /// Writes the lines that a label changes, and these lines behind them.
+    pub(crate) fn write_front_and_lines<W: Sink>(
+        &self,
+        label: &Label,
+        lines: &[u8],
+        out: &mut W,
+    ) -> Result<(), StreamFault>
+        requires { HasItsLetter self.now }
+        ensures all { OnOk result (WritesFrontAndLines (text_of self.now) label.now lines.now (W.taken out.old) (W.taken out.new)) }
+        ensures first { WritesFirstOfFrontAndLines (text_of self.now) label.now lines.now (W.taken out.old) (W.taken out.new) }
+        ensures write_failed { OnErr result (CountRises (W.failures out.old) (W.failures out.new)) }
+        ensures no_failed_write { OnOk result (W.failures out.new ≡ W.failures out.old) }
+    {
+        self.write_front(label, out)?;
+        write_all(out, lines)
+    }
+
+    /// Writes the file with a label, and with these lines behind those that the label changes.
+    pub(crate) fn write_with_lines<W: Sink>(
+        &self,
+        label: &Label,
+        lines: &[u8],
+        out: &mut W,
+    ) -> Result<(), StreamFault>
+        requires { HasItsLetter self.now }
+        ensures all { OnOk result (WritesWithLines (text_of self.now) label.now lines.now (W.taken out.old) (W.taken out.new)) }
+        ensures first { WritesFirstWithLines (text_of self.now) label.now lines.now (W.taken out.old) (W.taken out.new) }
+        ensures write_failed { OnErr result (CountRises (W.failures out.old) (W.failures out.new)) }
+        ensures no_failed_write { OnOk result (W.failures out.new ≡ W.failures out.old) }
+    {
+        self.write_front_and_lines(label, lines, out)?;
+        write_all(out, behind_front(self.as_bytes()))
     }
 
     /// Writes a part of the file.

@@ -29,11 +29,12 @@ fn numbers_of_file(alloc: Global, table: &AnyTable<'_>, form: Form) -> Result<Re
     }
 }
 
-// The numbers of a text, without the label that it has.
+// The numbers of a text, without the label and the time lines that it has.
 fn numbers_of(alloc: Global, text: &mut [u8], form: Form) -> Result<Rendered, AllocError>
     ensures { IfOk result (λ numbers. WritesOfTable (TellsTable form) text.old numbers.answer numbers.bytes.items) }
 {
-    match table_with_label(text) {
+    let read = table_with_label(alloc, text)?;
+    match read {
         Ok(file) => numbers_of_file(alloc, &file.table, form),
         Err(fault) => Ok(Rendered::refusal(alloc, fault)),
     }

@@ -74,12 +74,13 @@ fn picture_of_file(
     }
 }
 
-// The picture of a text, without the label that it has.
+// The picture of a text, without the label and the time lines that it has.
 fn picture_of_text(alloc: Global, text: &mut [u8], chart: &Chart) -> Result<Rendered, AllocError>
     requires { ForSome chart.now.width IsWidth }
     ensures { IfOk result (λ picture. WritesOfTable (DrawsTable chart.now) text.old picture.answer picture.bytes.items) }
 {
-    match table_with_label(text) {
+    let read = table_with_label(alloc, text)?;
+    match read {
         Ok(file) => picture_of_file(alloc, &file.table, chart),
         Err(fault) => Ok(Rendered::refusal(alloc, fault)),
     }

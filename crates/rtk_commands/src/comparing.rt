@@ -30,7 +30,8 @@ pub struct Compare {
 pub enum Compared {
     /// The text of the differences. Is something lost or changed?
     Told { worse: bool, text: Vec<u8> },
-    /// Without its label the old text is no file of `check`. This is its first fault.
+    /// Without its label and its time lines the old text is no file of `check`, or these lines are not those of its
+    /// records. This is its first fault.
     OldRefused(CheckFault),
     /// This is the first fault of the new text.
     NewRefused(CheckFault),
@@ -56,8 +57,8 @@ impl Compare {
         old: &LabelledMixed<'_>,
         new: &LabelledMixed<'_>,
     ) -> Result<Compared, AllocError>
-        ensures { IfOk result (λ compared. (old_text new_text : List ℕ) → IsPartedMixed old_text old.now.table.text old.now.label
-            → IsPartedMixed new_text new.now.table.text new.now.label → ComparesTexts self.now old_text new_text compared) }
+        ensures { IfOk result (λ compared. (old_text new_text : List ℕ) → IsPartedMixed old_text old.now.table.text old.now.label old.now.times
+            → IsPartedMixed new_text new.now.table.text new.now.label new.now.times → ComparesTexts self.now old_text new_text compared) }
     {
         let mut findings = self.found_in_labels(&old.label, &new.label);
         compare(alloc, &old.table, &new.table, &mut findings)?;
@@ -66,7 +67,7 @@ impl Compare {
         Ok(Compared::Told { worse, text })
     }
 
-    /// Compares two texts, whose labels are taken from them in their places.
+    /// Compares two texts, whose labels and time lines are taken from them in their places.
     pub fn texts(
         &self,
         alloc: Global,
@@ -75,15 +76,17 @@ impl Compare {
     ) -> Result<Compared, AllocError>
         ensures { IfOk result (λ compared. ComparesTexts self.now old.old new.old compared) }
     {
-        let old = match mixed_with_label(old) {
+        let read_old = mixed_with_label(alloc, old)?;
+        let old_file = match read_old {
             Ok(file) => file,
             Err(fault) => return Ok(Compared::OldRefused(fault)),
         };
-        let new = match mixed_with_label(new) {
+        let read_new = mixed_with_label(alloc, new)?;
+        let new_file = match read_new {
             Ok(file) => file,
             Err(fault) => return Ok(Compared::NewRefused(fault)),
         };
-        self.files(alloc, &old, &new)
+        self.files(alloc, &old_file, &new_file)
     }
 }
 

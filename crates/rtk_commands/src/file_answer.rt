@@ -1,6 +1,7 @@
 //! What a command of a file answers, and what it says of it.
 
 use rtk_cut::CutCounts;
+use rtk_message::System;
 use rtk_rinex::CheckFault;
 use rtk_streams::{DONE, NOT_VALID, REFUSED};
 
@@ -13,15 +14,30 @@ pub enum FileAnswer {
     Cut(CutCounts),
     /// The line of `check` is written that says no.
     NotValid,
-    /// Nothing is written: without its label the text is no file of `check`. This is its first fault,
-    /// and the line is that of the text as it was read.
+    /// Nothing is written: without its label and its time lines the text is no file of `check`, or these lines are
+    /// not those of its records. This is its first fault, and the line is that of the text as it was read.
     Refused(CheckFault),
     /// Nothing is written: the label has an antenna height, and the stream told one.
     Height,
-    /// Nothing is written: the file has no row of a satellite that is chosen.
+    /// Nothing is written: the file has no row of a satellite, or no code of a system, that is chosen.
     NoneChosen,
+    /// Nothing is written: the file has no code of this system, which is to be kept.
+    Absent(System),
     /// Nothing is written: the file has other systems than GPS, of which this command knows nothing.
     OtherSystems,
+}
+
+// The letter of a system in a file of RINEX.
+fn letter_of(system: System) -> char {
+    match system {
+        System::Gps => 'G',
+        System::Glonass => 'R',
+        System::Galileo => 'E',
+        System::Beidou => 'C',
+        System::Qzss => 'J',
+        System::Sbas => 'S',
+        System::Navic => 'I',
+    }
 }
 
 impl FileAnswer {
@@ -56,6 +72,11 @@ impl FileAnswer {
                 let _printed = eprintln!(rt;
                     "rtcm2rinex: none of the chosen satellites is in the file"
                 );
+                NOT_VALID
+            }
+            FileAnswer::Absent(system) => {
+                let letter = letter_of(system);
+                let _printed = eprintln!(rt; "rtcm2rinex: the file has no codes of {letter}");
                 NOT_VALID
             }
             FileAnswer::OtherSystems => {

@@ -5,35 +5,38 @@
 
 ghost use Rattle.std.specs.Prelude.{◌≡◌, ◌↔◌, ℕ, List};
 ghost use Rattle.rtk_frame.specs.Frames.{Frame};
-ghost use Rattle.rtk_message.specs.declared.msm_kind.MsmKind.{MsmKind};
+ghost use Rattle.rtk_message.specs.declared.accepted.Accepted.{Accepted};
 ghost use Rattle.rtk_message.specs.declared.msm_kind.MsmKind.TheVariants.{Msm4};
+ghost use Rattle.rtk_message.specs.Accepted.{only};
 ghost use Rattle.rtk_commands.specs.CheckLaws.{ValidTellsNumbers, FaultTextTellsFault, YesTellsNumbers, NoTellsFault, NoLineSaysBoth};
 ghost use Rattle.rtk_commands.specs.Shown.{IsLineOf, AreLinesBy, AreLinesOf};
-ghost use Rattle.rtk_commands.specs.ShownByKind.{IsLineOfKind};
-ghost use Rattle.rtk_commands.specs.WrittenLaws.{LineFollows, PictureFollows, NumbersFollow, PartFollows, LabelFollows};
+ghost use Rattle.rtk_commands.specs.ShownBySet.{IsLineBy};
+ghost use Rattle.rtk_commands.specs.WrittenLaws.{LineFollows, PictureFollows, NumbersFollow, PartFollows, LabelFollows, NothingGivesFile};
 
+use rtk_label::{blank_is_file, front_is_changed, mixed_label_laws};
 use rtk_rinex::{one_fault, one_mixed_fault, text_of_a_mixed_table, text_of_a_table};
 
-/// A payload has one line, in `show` and by each kind of MSM.
+/// A payload has one line, in `show` and by each set of messages.
 pub fn one_line_of_a_payload()
     ensures of_show { (payload line other : List ℕ)
         → IsLineOf payload line → IsLineOf payload other → line ≡ other }
-    ensures by_kind { (kind : MsmKind) (payload line other : List ℕ)
-        → IsLineOfKind kind payload line → IsLineOfKind kind payload other → line ≡ other }
+    ensures by_set { (a : Accepted) (payload line other : List ℕ)
+        → IsLineBy a payload line → IsLineBy a payload other → line ≡ other }
 {}
 
-/// The lines of `show` are those by MSM4: the line of a payload, and so the lines of frames.
-pub fn lines_of_show_are_of_msm4()
-    ensures line { (payload line : List ℕ) → IsLineOf payload line ↔ IsLineOfKind Msm4 payload line }
-    ensures lines { (frames : List Frame) (text : List ℕ) → AreLinesOf frames text ↔ AreLinesBy (IsLineOfKind Msm4) frames text }
+/// The lines of `show` are those by the set of which 1074 is the only MSM: the line of a payload, and so the
+/// lines of frames.
+pub fn lines_of_show_are_of_1074()
+    ensures line { (payload line : List ℕ) → IsLineOf payload line ↔ IsLineBy (only Msm4) payload line }
+    ensures lines { (frames : List Frame) (text : List ℕ) → AreLinesOf frames text ↔ AreLinesBy (IsLineBy (only Msm4)) frames text }
 {}
 
 /// The lines of frames are one text.
 pub fn one_text_of_frames()
     ensures of_show { (frames : List Frame) (text other : List ℕ)
         → AreLinesOf frames text → AreLinesOf frames other → text ≡ other }
-    ensures by_kind { (kind : MsmKind) (frames : List Frame) (text other : List ℕ)
-        → AreLinesBy (IsLineOfKind kind) frames text → AreLinesBy (IsLineOfKind kind) frames other → text ≡ other }
+    ensures by_set { (a : Accepted) (frames : List Frame) (text other : List ℕ)
+        → AreLinesBy (IsLineBy a) frames text → AreLinesBy (IsLineBy a) frames other → text ≡ other }
 {}
 
 /// Equal lines of `check` tell as many records and satellite lines, or one line of a text and one
@@ -58,11 +61,16 @@ pub fn one_line_tells_one_answer()
 
 /// What `check`, `chart`, `quality`, `cut` and `label` are said to have written stands right after what the
 /// writer held, with nothing before, between or after it, however long it is; and it is of the whole
-/// text.
+/// text. With a blank label and no time line it is the file itself.
 pub fn written_follows()
     ensures line { LineFollows }
     ensures picture { PictureFollows }
     ensures numbers { NumbersFollow }
     ensures part { PartFollows }
     ensures label { LabelFollows }
-{}
+    ensures nothing { NothingGivesFile }
+{
+    blank_is_file();
+    front_is_changed();
+    mixed_label_laws();
+}

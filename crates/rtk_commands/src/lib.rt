@@ -6,7 +6,8 @@
 //! `show` and `summary`, which read captures, are one file of four layers each, each of which calls the one before it.
 //! In that of `show`:
 //!
-//! - `show_with_msm` reads a source and writes to a sink, and `show` is the same with MSM4;
+//! - `show_accepted` reads a source and writes to a sink, by a set of messages, and `show` is the same with 1074 as
+//!   the only MSM;
 //! - `show_by` reads a reader and writes to a writer of std, by what a type says of their bytes;
 //! - `show_through` does so without that type, for any reader and writer;
 //! - `show_named` opens the file of a name, writes to standard output and answers the exit status.
@@ -37,9 +38,11 @@ mod charting;
 mod checking;
 mod comparing;
 mod cutting;
+mod due_lines;
 mod file_answer;
 mod file_command;
 mod hex_input;
+mod kept_part;
 mod labelling;
 pub mod laws;
 mod payload_line;
@@ -53,6 +56,8 @@ pub use checking::{Check, check_file};
 pub use comparing::{Compare, Compared, compare_named};
 pub use file_answer::FileAnswer;
 pub use file_command::{CHECK_LIMIT, FileCommand, file_through, gathered_through, run_file};
+pub use kept_part::KeptPart;
+pub use labelling::Labelling;
 pub use payload_line::show_line;
-pub use showing::{SHOW_LIMIT, show, show_bytes, show_named, show_through, show_with_msm};
+pub use showing::{SHOW_LIMIT, show, show_accepted, show_bytes, show_named, show_through};
 pub use summarizing::{summarize_named, summarize_through, summary_status};

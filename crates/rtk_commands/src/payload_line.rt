@@ -3,12 +3,12 @@
 ghost use Rattle.std.specs.Prelude.{◌≡◌, ◌++◌, ◌∷◌, [], List, ℕ, IfOk, OnOk};
 ghost use Rattle.rtk_message.specs.AnyDecoded.{IsValid};
 ghost use Rattle.rtk_message.specs.Decoded as decoded;
-ghost use Rattle.rtk_commands.specs.Shown.{four_decimals, metres, coordinate, reference_point, text_1004, text_1005, text_1006, msm_text, message_text, IsLineOf};
-ghost use Rattle.rtk_commands.specs.ShownByKind.{any_message_text, any_refusal_text, any_unread_text, any_line_of, IsLineOfKind};
+ghost use Rattle.rtk_commands.specs.Shown.{four_decimals, metres, coordinate, reference_point, text_1004, text_1005, text_1006, clock_word, msm_text, message_text, IsLineOf};
+ghost use Rattle.rtk_commands.specs.ShownBySet.{any_message_text, any_refusal_text, any_unread_text, any_line_of, IsLineBy};
 
 use rtk_message::{
     Accepted, AnyDecoder, AnyFault, AnyMessage, Arp1005, Arp1006, Layout, Message, Msm1074,
-    MsmHeader, MsmKind, Obs1004, decode_any, put_any_fault, put_named, put_number,
+    MsmHeader, MsmKind, Obs1004, System, decode_any, put_any_fault, put_named, put_number,
 };
 use std::alloc::{AllocError, Global};
 
@@ -81,18 +81,29 @@ fn put_1006(line: &mut Vec<u8>, message: &Arp1006) -> Result<(), AllocError>
     Ok(())
 }
 
-// An MSM of this number, with so many cells.
+// The word before the clock of an MSM of this system.
+fn clock_word(system: System) -> &'static [u8]
+    ensures { result.now ≡ clock_word system }
+{
+    match system {
+        System::Glonass | System::Beidou => b" clock ",
+        System::Gps | System::Galileo | System::Qzss | System::Sbas | System::Navic => b" tow ",
+    }
+}
+
+// An MSM of this number and system, with so many cells.
 fn put_msm(
     line: &mut Vec<u8>,
     number: u16,
+    system: System,
     header: MsmHeader,
     cells: usize,
 ) -> Result<(), AllocError>
-    ensures { OnOk result (line.new.items ≡ line.old.items ++ msm_text number header cells) }
+    ensures { OnOk result (line.new.items ≡ line.old.items ++ msm_text number system header cells) }
 {
     put_number(line, number as u64)?;
     put_named(line, b" station ", header.station as u64)?;
-    put_named(line, b" tow ", header.tow as u64)?;
+    put_named(line, clock_word(system), header.tow as u64)?;
     put_named(line, b" satellites ", header.satellite_count() as u64)?;
     put_named(line, b" signals ", header.signal_count() as u64)?;
     put_named(line, b" cells ", cells as u64)?;
@@ -110,6 +121,7 @@ fn put_message_text(line: &mut Vec<u8>, message: &Message) -> Result<(), AllocEr
         Message::Msm1074(message) => put_msm(
             line,
             Msm1074::NUMBER,
+            System::Gps,
             message.header,
             message.cnr.len(),
         ),
@@ -125,6 +137,7 @@ fn put_any_message_text(line: &mut Vec<u8>, message: &AnyMessage) -> Result<(), 
         AnyMessage::Msm(message) => put_msm(
             line,
             message.msm_type().number(),
+            message.system,
             message.header,
             message.cnr.len(),
         ),
@@ -167,18 +180,18 @@ fn put_reading(
     Ok(())
 }
 
-/// Appends the line of a payload by a kind of MSM, with its line feed. If memory is refused, a part of the
-/// line may stand there.
+/// Appends the line of a payload by a set of messages, with its line feed. If memory is refused, a part of
+/// the line may stand there.
 pub(crate) fn put_payload_line(
     lines: &mut Vec<u8>,
     decoder: &mut AnyDecoder,
-    msm: MsmKind,
+    accepted: Accepted,
     payload: &[u8],
 ) -> Result<(), AllocError>
-    ensures { OnOk result ((line : List ℕ) × IsLineOfKind msm payload.now line
+    ensures { OnOk result ((line : List ℕ) × IsLineBy accepted payload.now line
         × (lines.new.items ≡ lines.old.items ++ line)) }
 {
-    put_reading(lines, decoder.read(Accepted::only(msm), payload))
+    put_reading(lines, decoder.read(accepted, payload))
 }
 
 /// The line of a payload, with its line feed: the message that it is, or why it is refused. Of all MSM

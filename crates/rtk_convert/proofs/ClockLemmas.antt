@@ -42,13 +42,11 @@ clock-of-valid (any.Msm m) clock valid is = subst (IsClock m.system) (same-clock
 -- ---- a dated message
 
 -- the moment of its clock
-pub dated-some : (s : SetupView) (m : Message) (system : System) (near clock epoch : ℕ) (leap : Option ℕ) (a : Arrival)
-    → system ≡ system_of m → near ≡ s.near → leap ≡ s.leap_seconds → tow_of m ≡ Some clock → IsClockMoment system near clock leap epoch → a ≡ At (Some epoch) m → IsDatedMessage s m a
-dated-some s m system near clock epoch leap a of from with_leap timed moment is =
-    let one = subst (λ (x : System). IsClockMoment x near clock leap epoch) of moment in
-    let two = subst (λ (x : ℕ). IsClockMoment (system_of m) x clock leap epoch) from one in
-    let three = subst (λ (x : Option ℕ). IsClockMoment (system_of m) s.near clock x epoch) with_leap two in
-    subst (IsDatedMessage s m) (sym is) (refl, subst (λ (o : Option ℕ). IsMomentOf s (system_of m) o (Some epoch)) (sym timed) three)
+pub dated-some : (s : SetupView) (m : Message) (system : System) (clock epoch : ℕ) (a : Arrival)
+    → system ≡ system_of m → tow_of m ≡ Some clock → IsClockMoment system s.near clock s.leap_seconds epoch → a ≡ At (Some epoch) m → IsDatedMessage s m a
+dated-some s m system clock epoch a of timed moment is =
+    let one = subst (λ (x : System). IsClockMoment x s.near clock s.leap_seconds epoch) of moment in
+    subst (IsDatedMessage s m) (sym is) (refl, subst (λ (o : Option ℕ). IsMomentOf s (system_of m) o (Some epoch)) (sym timed) one)
 
 -- a message without a clock has none
 pub dated-none : (s : SetupView) (m : Message) (a : Arrival) → tow_of m ≡ None → a ≡ At None m → IsDatedMessage s m a

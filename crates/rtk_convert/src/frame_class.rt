@@ -3,13 +3,14 @@
 ghost use Rattle.std.specs.Prelude.{◌≡◌, IfOk};
 ghost use Rattle.rtk_bits.specs.Bits.{bits};
 ghost use Rattle.rtk_message.specs.AnyDecoded.{DecodesBy, number_of};
+ghost use Rattle.rtk_obs.specs.Clocks.{IsClock, IsClockMoment};
 ghost use Rattle.rtk_convert.specs.FrameClass.{IsDatedMessage, IsClassOfReading, system_of, class_of_fault};
 ghost use Rattle.rtk_setup.specs.Setup.{taken_by, takes};
 ghost use Rattle.rtk_convert.specs.Steps.ReadMessage.{IsRead, IsReadMessage};
 
 use rtk_collect::DatedRef;
 use rtk_message::{AnyDecoder, AnyFault, AnyMessage, System};
-use rtk_obs::date_clock;
+use rtk_obs::{GpsMs, date, date_clock};
 use rtk_setup::Setup;
 
 /// What the payload of a frame means for a conversion.
@@ -50,6 +51,20 @@ fn system_of(message: &AnyMessage) -> System
     }
 }
 
+// Returns the moment of the clock of a system that is nearest to the reference. The clock of GPS, which nearly
+// every station sends most, is dated without asking for any other system.
+#[inline(always)]
+fn moment_of(setup: &Setup, system: System, clock: u32) -> GpsMs
+    requires { IsClock system clock }
+    ensures { IsClockMoment system setup.now.near clock setup.now.leap_seconds result }
+{
+    let near = setup.near();
+    match system {
+        System::Gps => date(near, clock),
+        _ => date_clock(system, near, clock, setup.leap_seconds()),
+    }
+}
+
 // Returns a message with its epoch, which is the moment of its clock that is nearest to the reference. It is
 // inlined, since there is one call, for each message.
 #[inline(always)]
@@ -60,12 +75,7 @@ fn dated_message<'a>(setup: &Setup, message: &'a AnyMessage) -> DatedRef<'a>
     let Some(clock) = message.tow() else {
         return DatedRef::of_any(message, None);
     };
-    let epoch = date_clock(
-        system_of(message),
-        setup.near(),
-        clock,
-        setup.leap_seconds(),
-    );
+    let epoch = moment_of(setup, system_of(message), clock);
     DatedRef::of_any(message, Some(epoch))
 }
 

@@ -118,9 +118,8 @@ fn put_conflicts<E: FileEntry>(
     Ok(())
 }
 
-/// Returns the lines of a message, from its number, its epoch, its class and its cells that conflict. A
-/// message without a line takes no memory.
-pub(crate) fn message_lines<E: FileEntry>(
+// Returns the lines of a message, from its number, its epoch, its class and its cells that conflict.
+fn told_lines<E: FileEntry>(
     alloc: Global,
     link: LinkNumber,
     number: u16,
@@ -137,9 +136,7 @@ pub(crate) fn message_lines<E: FileEntry>(
             lines.push(b'\n')?;
         }
         MessageClass::Taken => {
-            if !conflicts.is_empty() {
-                put_cell_conflicts::<E>(&mut lines, link, number, epoch, conflicts)?;
-            }
+            put_cell_conflicts::<E>(&mut lines, link, number, epoch, conflicts)?
         }
         MessageClass::Conflict => {
             put_conflicts::<E>(&mut lines, link, number, epoch, conflicts)?
@@ -147,6 +144,33 @@ pub(crate) fn message_lines<E: FileEntry>(
         MessageClass::Repeat => {}
     }
     Ok(lines)
+}
+
+/// Returns the lines of a message, from its number, its epoch, its class and its cells that conflict. A
+/// message without a line takes no memory.
+///
+/// It is inlined, since nearly every message has no line.
+#[inline(always)]
+pub(crate) fn message_lines<E: FileEntry>(
+    alloc: Global,
+    link: LinkNumber,
+    number: u16,
+    epoch: Option<GpsMs>,
+    class: MessageClass,
+    conflicts: &[E::Signal],
+) -> Result<Vec<u8>, AllocError>
+    ensures { IfOk result (λ lines. lines.items ≡ class_lines link number epoch (class_named class) (map E.name_of conflicts.now)) }
+{
+    match class {
+        MessageClass::Taken => {
+            if conflicts.is_empty() {
+                return Ok(Vec::new(alloc));
+            }
+        }
+        MessageClass::Repeat => return Ok(Vec::new(alloc)),
+        MessageClass::Late | MessageClass::Conflict => {}
+    }
+    told_lines::<E>(alloc, link, number, epoch, class, conflicts)
 }
 
 /// Returns the line of a payload that is refused.

@@ -35,7 +35,7 @@ epochs-are_of_files = record { gps = gps-epochs; mixed = mixed-epochs }
 
 -- ---- the epochs of a part; Is says which epochs a file of its kind has
 
-first-starts : (from : Option ℕ) (first : ℕ) (es : List EpochTableView) → StartsAt (first_of_part from first es) es
+pub first-starts : (from : Option ℕ) (first : ℕ) (es : List EpochTableView) → StartsAt (first_of_part from first es) es
 first-starts from first [] = tt
 first-starts from first (e ∷ es) = refl
 
@@ -43,7 +43,7 @@ from-good : (from : Option ℕ) (first : ℕ) → IsMomentOrNone from → IsMome
 from-good None first good own = own
 from-good (Some from) first good own = good
 
-first-good : (from : Option ℕ) (first : ℕ) (es : List EpochTableView) → IsMomentOrNone from → IsMoment first → All (λ e. IsMoment e.time) es → IsMoment (first_of_part from first es)
+pub first-good : (from : Option ℕ) (first : ℕ) (es : List EpochTableView) → IsMomentOrNone from → IsMoment first → All (λ e. IsMoment e.time) es → IsMoment (first_of_part from first es)
 first-good from first [] good own all = from-good from first good own
 first-good from first (e ∷ es) good own all = All-head (λ (x : EpochTableView). IsMoment x.time) e es all
 

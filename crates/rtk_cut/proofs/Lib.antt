@@ -11,5 +11,8 @@ pub mod SpanLemmas
 pub mod ThinnedLemmas
 pub mod PartFileLemmas
 pub mod WholeLemmas
+pub mod ExtentLemmas
 pub mod LawLemmas
+pub mod KeptSystemsLemmas
+pub mod KeptFileLemmas
 pub mod SlipLawLemmas

@@ -44,11 +44,11 @@ part-after first before after done text whole is wrote part =
 
 -- ---- epochs
 
-kept-on : (part : Choice) (earlier : List EpochTableView) (e : EpochTableView) (left : List EpochTableView) → is_on_step (step_of part) e ≡ true
+pub kept-on : (part : Choice) (earlier : List EpochTableView) (e : EpochTableView) (left : List EpochTableView) → is_on_step (step_of part) e ≡ true
     → kept_after part earlier (e ∷ left) ≡ cond (is_chosen part e) (cut_epoch (step_of part) earlier e ∷ kept_after part (e ∷ earlier) left) (kept_after part (e ∷ earlier) left)
 kept-on part earlier e left on = ap (λ es. filter (is_chosen part) es) (thinned-on (step_of part) earlier e left on)
 
-kept-in : (part : Choice) (earlier : List EpochTableView) (e : EpochTableView) (left : List EpochTableView) → is_on_step (step_of part) e ≡ true → is_chosen part e ≡ true
+pub kept-in : (part : Choice) (earlier : List EpochTableView) (e : EpochTableView) (left : List EpochTableView) → is_on_step (step_of part) e ≡ true → is_chosen part e ≡ true
     → kept_after part earlier (e ∷ left) ≡ cut_epoch (step_of part) earlier e ∷ kept_after part (e ∷ earlier) left
 kept-in part earlier e left on spans =
     kept-on part earlier e left on ∙ ap (λ b. cond b (cut_epoch (step_of part) earlier e ∷ kept_after part (e ∷ earlier) left) (kept_after part (e ∷ earlier) left)) spans

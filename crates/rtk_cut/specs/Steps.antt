@@ -4,3 +4,4 @@ pub mod PartRecords
 pub mod Pending
 pub mod GpsFile
 pub mod MixedFile
+pub mod Noted

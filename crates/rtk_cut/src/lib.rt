@@ -64,8 +64,13 @@
 
 mod counts;
 mod epoch_file;
+mod extent;
 mod fault;
 mod gps_file;
+mod kept_file;
+mod kept_head;
+mod kept_laws;
+mod kept_systems;
 mod laws;
 mod mixed_file;
 mod part;
@@ -75,7 +80,12 @@ mod part_writer;
 mod slips;
 
 pub use counts::CutCounts;
+pub use extent::{Extent, extent_of_mixed_part, extent_of_part};
 pub use fault::CutFault;
+pub use kept_file::keep_systems;
+pub use kept_head::first_absent;
+pub use kept_laws::{kept_files_are_tables, kept_rows_stay};
+pub use kept_systems::KeptSystems;
 pub use laws::{
     epochs_are_of_files, others_stay, own_step_gives_file, parts_are_tables, parts_are_written,
     records_are_asked_for, records_are_own, slips_are_found, slips_are_kept, spans_join,

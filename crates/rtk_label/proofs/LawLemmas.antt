@@ -1,5 +1,5 @@
 -- The laws of src/laws.rt.
-use Rattle.std.proofs.Common.{◌≡◌, ◌<◌, ℕ, List, [], ◌++◌, length, take, drop, codes, ap, sym, arith, refl, ◌∙◌, append_assoc, subst, inl, inr}
+use Rattle.std.proofs.Common.{◌≡◌, ◌<◌, ◌≤◌, ℕ, List, [], ◌++◌, length, take, drop, codes, ap, sym, arith, refl, ◌∙◌, append_assoc, subst, inl, inr}
 use Rattle.std.specs.Prelude.{flat_map}
 use Rattle.std.proofs.lemmas.List.{take_at, drop_at, drop-drop}
 use Rattle.rtk_rinex.specs.CheckTable.{OneTable}
@@ -12,7 +12,7 @@ use Rattle.rtk_rinex.specs.Table.{WellFormedTable, table_text}
 use Rattle.rtk_rinex.specs.MixedTable.{mixed_table_text}
 use Rattle.rtk_label.specs.Fields.{marker_number_line}
 use Rattle.rtk_label.specs.Labelled.{LabelView, IsLabel, IsFor, blank_label, top_lines, middle_lines, front_lines, mixed_front_lines}
-use Rattle.rtk_label.specs.LabelLaws.{BlankIsFile, FrontIsChanged, LabelsAreTold, RecordsStay, MixedLabelsAreTold, MixedFrontIsChanged, MixedRecordsStay, MixedLabelLaws}
+use Rattle.rtk_label.specs.LabelLaws.{BlankIsFile, FilesAreLong, FrontIsChanged, LabelsAreTold, RecordsStay, MixedLabelsAreTold, MixedFrontIsChanged, MixedRecordsStay, MixedLabelLaws}
 use Rattle.rtk_label.proofs.FileParts.{FileParts, AreFileParts, text_of_parts, parts_of, mixed_parts_of}
 use Rattle.rtk_label.specs.Steps.Shown.{IsNumberIn, IsRead}
 use Rattle.rtk_label.proofs.PieceLemmas.{same_parts}
@@ -23,7 +23,7 @@ use Rattle.rtk_label.proofs.FrontLemmas.{type_line}
 use Rattle.rtk_label.proofs.NumberLemmas.{no_number, length-number, number_cut}
 use Rattle.rtk_label.proofs.PlainLemmas.{blank_is_label, top_in, label_in}
 use Rattle.rtk_label.proofs.TableLemmas.{length-top, length-middle, blank_text, blank_mixed_text, label_parts, plain_parts, parts-good, long-after, mixed_label_parts, mixed_plain_parts, mixed_parts-good, mixed_long-after, length-labelled}
-use Rattle.rtk_label.proofs.PartedLemmas.{is_plain, length-type, first_of_middle}
+use Rattle.rtk_label.proofs.PartedLemmas.{after-front, is_plain, length-type, first_of_middle}
 
 pub blank-is_file : BlankIsFile
 blank-is_file t = blank_text t
@@ -36,16 +36,6 @@ mixed-records l t = record { records = flat_map mixed_record_text t.epochs; plai
 
 glue_front : (a n m x : List ℕ) → ((a ++ n) ++ m) ++ x ≡ a ++ (n ++ (m ++ x))
 glue_front a n m x = simp append_assoc
-
--- what stands after the first nine lines
-after-front : (p : FileParts) → AreFileParts p → drop 729 (text_of_parts blank_label p) ≡ p.rest
-after-front p good =
-    let top : List ℕ = top_lines p.letter [] p.marker p.made in
-    let middle : List ℕ = middle_lines blank_label p.site in
-    let a = length-top p.letter [] p.marker p.made (omega arith) good.marker in
-    let b = length-middle blank_label p.site blank_is_label good.site in
-    let below : drop 243 (text_of_parts blank_label p) ≡ middle ++ p.rest = drop_at top (middle ++ p.rest) 243 a in
-    sym (drop-drop 486 243 (text_of_parts blank_label p)) ∙ ap (drop 486) below ∙ drop_at middle p.rest 486 b
 
 front-of_parts : (l : LabelView) (p : FileParts) (plain front : List ℕ) → AreFileParts p → plain ≡ text_of_parts blank_label p
     → (top_lines p.letter l.run_by p.marker p.made ++ marker_number_line l.marker_number) ++ middle_lines l p.site ≡ front → text_of_parts l p ≡ front ++ drop 729 plain
@@ -165,3 +155,10 @@ mixed-told l m t u is good for other wt wu e =
 
 pub mixed-laws : MixedLabelLaws
 mixed-laws = record { blank = blank_mixed_text; told = mixed-told; front = mixed-front; records = mixed-records }
+
+pub files-long : FilesAreLong
+files-long =
+    record {
+      gps = λ t good. subst (λ (text : List ℕ). 810 ≤ length text) (sym (plain_parts t)) (length-labelled blank_label (parts_of t) blank_is_label (parts-good t good));
+      mixed = λ t good. subst (λ (text : List ℕ). 810 ≤ length text) (sym (mixed_plain_parts t)) (length-labelled blank_label (mixed_parts_of t) blank_is_label (mixed_parts-good t good));
+    }

@@ -5,11 +5,13 @@ mod TrimLemmas
 mod FieldLemmas
 mod OffsetLemmas
 mod LineLemmas
+mod ToldLemmas
 mod FrontLemmas
 mod GlueLemmas
 mod NumberLemmas
 mod PlainLemmas
 mod FileParts
+mod NextLineLemmas
 mod TableLemmas
 mod PartedLemmas
 mod WriteLemmas

@@ -1,14 +1,21 @@
 -- A text that is parted into a label and a plain text.
-use Rattle.std.proofs.Common.{◌≡◌, ◌<◌, ◌≤◌, ℕ, ◌+◌, List, [], ◌++◌, length, take, drop, codes, ap, sym, arith, ◌∙◌, append_assoc, length-append, inl, inr}
-use Rattle.std.proofs.lemmas.List.{take_at, take-append-drop, length-take-le, append_cancel_left}
+use Rattle.std.proofs.Common.{◌≡◌, ◌<◌, ◌≤◌, ℕ, ◌+◌, List, [], ◌++◌, length, take, drop, codes, Option, ap, sym, arith, ◌∙◌, append_assoc, length-append, inl, inr}
+use Rattle.std.specs.Prelude.{IfSome}
+use Rattle.std.proofs.lemmas.List.{take_at, drop_at, drop-drop, take-append-drop, length-take-le, append_cancel_left}
 use Rattle.rtk_rinex.specs.Columns.{left, IsField}
 use Rattle.rtk_rinex.specs.Header.{header_line}
+use Rattle.rtk_rinex.specs.Reading.{IsMoment}
+use Rattle.rtk_rinex.specs.Table.{WellFormedTable, IsWellFormedTable, table_text}
+use Rattle.rtk_rinex.specs.MixedTable.{MixedTable, IsMixedTable, mixed_table_text}
 use Rattle.rtk_label.specs.Fields.{marker_number_line}
-use Rattle.rtk_label.specs.Labelled.{LabelView, IsLabel, IsFor, blank_label, top_lines, middle_lines}
+use Rattle.rtk_label.specs.Labelled.{LabelView, IsLabel, IsFor, blank_label, top_lines, middle_lines, labelled_with, labelled_mixed_with}
+use Rattle.rtk_label.specs.TimeLines.{extent_lines}
 use Rattle.rtk_label.specs.LabelWriting.{WasLabelled, IsOfEveryTable, WasLabelledMixed, IsOfEveryMixedTable, whole_len, whole_lines, BeginsEveryTable, BeginsEveryMixedTable, IsCutText, IsParted}
-use Rattle.rtk_label.proofs.FileParts.{FileParts, AreFileParts, text_of_parts, parts_of, mixed_parts_of, WasOfParts, IsOfEveryParts, BeginsEveryParts}
+use Rattle.rtk_label.proofs.FileParts.{FileParts, AreFileParts, text_of_parts, with_lines, parts_of, mixed_parts_of, WasOfParts, IsOfEveryParts, BeginsEveryParts}
 use Rattle.rtk_label.specs.Steps.Shown.{IsLabelIn, IsRead}
 use Rattle.rtk_label.specs.Steps.Fronts.{plain_columns, plain_top, plain_middle, plain_front}
+use Rattle.rtk_label.specs.Steps.Told.{HasNoTimeLine, AreTold}
+use Rattle.rtk_label.specs.declared.time_lines.TimeLines.{TimeLines}
 use Rattle.rtk_label.proofs.PieceLemmas.{same_parts, next_piece, joined}
 use Rattle.rtk_label.proofs.ChoiceLemmas.{if_blank, none_is, blank_or_filled}
 use Rattle.rtk_label.proofs.FieldLemmas.{length-plain_columns}
@@ -16,6 +23,7 @@ use Rattle.rtk_label.proofs.LineLemmas.{length-line}
 use Rattle.rtk_label.proofs.FrontLemmas.{length-piece, top_columns, middle_columns, top_sizes, type_line, middle_sizes, line_cells, middle_is}
 use Rattle.rtk_label.proofs.NumberLemmas.{no_number, length-number}
 use Rattle.rtk_label.proofs.PlainLemmas.{blank_is_label, glue_three, top_was, top_is_plain, plain_cells, plain_cells_are, plain_middle_is, middle_was, middle_is_plain}
+use Rattle.rtk_label.proofs.NextLineLemmas.{gps-next, mixed-next}
 use Rattle.rtk_label.proofs.TableLemmas.{length-three, length-six, length-top, length-middle, label_parts, plain_parts, parts-good, mixed_label_parts, mixed_plain_parts, mixed_parts-good, length-labelled}
 
 -- ---- the parts of a text
@@ -206,23 +214,75 @@ is_plain text number from l g p r good is for e =
           six.antenna_number six.antenna_type six.height six.east six.north;
     }
 
+-- ---- lines behind the nine that a label changes
+
+-- what stands after the first nine lines
+pub after-front : (p : FileParts) → AreFileParts p → drop 729 (text_of_parts blank_label p) ≡ p.rest
+after-front p good =
+    let top : List ℕ = top_lines p.letter [] p.marker p.made in
+    let middle : List ℕ = middle_lines blank_label p.site in
+    let a = length-top p.letter [] p.marker p.made (omega arith) good.marker in
+    let b = length-middle blank_label p.site blank_is_label good.site in
+    let below : drop 243 (text_of_parts blank_label p) ≡ middle ++ p.rest = drop_at top (middle ++ p.rest) 243 a in
+    sym (drop-drop 486 243 (text_of_parts blank_label p)) ∙ ap (drop 486) below ∙ drop_at middle p.rest 486 b
+
+-- the first nine lines without a label
+abbrev nine_of : FileParts → List ℕ
+nine_of p = top_lines p.letter [] p.marker p.made ++ middle_lines blank_label p.site
+
+length-nine : (p : FileParts) → AreFileParts p → length (nine_of p) ≡ 729
+length-nine p good =
+    length-append (top_lines p.letter [] p.marker p.made) (middle_lines blank_label p.site)
+    ∙ omega (arith, length-top p.letter [] p.marker p.made (omega arith) good.marker, length-middle blank_label p.site blank_is_label good.site)
+
+nine-with : (lines : List ℕ) (p : FileParts) → nine_of p ++ (lines ++ p.rest) ≡ text_of_parts blank_label (with_lines lines p)
+nine-with lines p = append_assoc (top_lines p.letter [] p.marker p.made) (middle_lines blank_label p.site) (lines ++ p.rest)
+
+nine-rest : (p : FileParts) → nine_of p ++ p.rest ≡ text_of_parts blank_label p
+nine-rest p = append_assoc (top_lines p.letter [] p.marker p.made) (middle_lines blank_label p.site) p.rest
+
+pub lines-good : (lines : List ℕ) (p : FileParts) → AreFileParts p → AreFileParts (with_lines lines p)
+lines-good lines p good = record {
+  marker = good.marker;
+  site = good.site;
+  more = let long = good.more in omega (arith, length-append lines p.rest, long);
+}
+
+glue_lines : (a n m x r : List ℕ) → (((a ++ n) ++ m) ++ x) ++ r ≡ a ++ (n ++ (m ++ (x ++ r)))
+glue_lines a n m x r = simp append_assoc
+
+lines-parts : (lines : List ℕ) (l : LabelView) (p : FileParts) (plain : List ℕ) → AreFileParts p → plain ≡ text_of_parts blank_label p
+    → (((top_lines p.letter l.run_by p.marker p.made ++ marker_number_line l.marker_number) ++ middle_lines l p.site) ++ lines) ++ drop 729 plain ≡ text_of_parts l (with_lines lines p)
+lines-parts lines l p plain good is =
+    let front : List ℕ = ((top_lines p.letter l.run_by p.marker p.made ++ marker_number_line l.marker_number) ++ middle_lines l p.site) ++ lines in
+    ap (λ (x : List ℕ). front ++ x) (ap (drop 729) is ∙ after-front p good)
+    ∙ glue_lines (top_lines p.letter l.run_by p.marker p.made) (marker_number_line l.marker_number) (middle_lines l p.site) lines p.rest
+
+gps-lines : (lines : List ℕ) (l : LabelView) (t : WellFormedTable) → IsWellFormedTable t → labelled_with lines l t ≡ text_of_parts l (with_lines lines (parts_of t))
+gps-lines lines l t good = lines-parts lines l (parts_of t) (table_text t) (parts-good t good) (plain_parts t)
+
+mixed-lines : (lines : List ℕ) (l : LabelView) (t : MixedTable) → IsMixedTable t → labelled_mixed_with lines l t ≡ text_of_parts l (with_lines lines (mixed_parts_of t))
+mixed-lines lines l t good = lines-parts lines l (mixed_parts_of t) (mixed_table_text t) (mixed_parts-good t good) (mixed_plain_parts t)
+
 -- ---- the parts are those of a table
 
-was_gps : (text plain : List ℕ) (l : LabelView) → WasOfParts text plain l → WasLabelled text plain l
-was_gps text plain l was t good e =
-    let is = was (parts_of t) (parts-good t good) (e ∙ plain_parts t) in (is.0 ∙ sym (label_parts l t), is.1)
+was_gps : (text plain : List ℕ) (l : LabelView) (lines : List ℕ) → WasOfParts text plain l lines → WasLabelled text plain l lines
+was_gps text plain l lines was t good e =
+    let is = was (parts_of t) (parts-good t good) (e ∙ plain_parts t) in (is.0 ∙ sym (gps-lines lines l t good), is.1)
 
-every_gps : (text plain : List ℕ) (l : LabelView) → IsOfEveryParts text plain l → IsOfEveryTable text plain l
-every_gps text plain l every t m good is for e =
-    let p = every (parts_of t) m (parts-good t good) is for (e ∙ label_parts m t) in (p.0 ∙ sym (plain_parts t), p.1)
+every_gps : (text plain : List ℕ) (l : LabelView) (w : TimeLines) (lines : List ℕ) → IsOfEveryParts text plain l w lines → IsOfEveryTable text plain l w lines
+every_gps text plain l w lines every t m v interval last good is for moment e =
+    let p = every (parts_of t) m v interval last (parts-good t good) (gps-next t good) is for moment (e ∙ gps-lines (extent_lines v interval last) m t good) in
+    (p.0 ∙ sym (plain_parts t), p.1, p.2, p.3)
 
-was_mixed : (text plain : List ℕ) (l : LabelView) → WasOfParts text plain l → WasLabelledMixed text plain l
-was_mixed text plain l was t good e =
-    let is = was (mixed_parts_of t) (mixed_parts-good t good) (e ∙ mixed_plain_parts t) in (is.0 ∙ sym (mixed_label_parts l t), is.1)
+was_mixed : (text plain : List ℕ) (l : LabelView) (lines : List ℕ) → WasOfParts text plain l lines → WasLabelledMixed text plain l lines
+was_mixed text plain l lines was t good e =
+    let is = was (mixed_parts_of t) (mixed_parts-good t good) (e ∙ mixed_plain_parts t) in (is.0 ∙ sym (mixed-lines lines l t good), is.1)
 
-every_mixed : (text plain : List ℕ) (l : LabelView) → IsOfEveryParts text plain l → IsOfEveryMixedTable text plain l
-every_mixed text plain l every t m good is for e =
-    let p = every (mixed_parts_of t) m (mixed_parts-good t good) is for (e ∙ mixed_label_parts m t) in (p.0 ∙ sym (mixed_plain_parts t), p.1)
+every_mixed : (text plain : List ℕ) (l : LabelView) (w : TimeLines) (lines : List ℕ) → IsOfEveryParts text plain l w lines → IsOfEveryMixedTable text plain l w lines
+every_mixed text plain l w lines every t m v interval last good is for moment e =
+    let p = every (mixed_parts_of t) m v interval last (mixed_parts-good t good) (mixed-next t good) is for moment (e ∙ mixed-lines (extent_lines v interval last) m t good) in
+    (p.0 ∙ sym (mixed_plain_parts t), p.1, p.2, p.3)
 
 begins_gps : (text plain : List ℕ) → BeginsEveryParts text plain → BeginsEveryTable text plain
 begins_gps text plain every t m rest good is for e =
@@ -232,40 +292,90 @@ begins_mixed : (text plain : List ℕ) → BeginsEveryParts text plain → Begin
 begins_mixed text plain every t m rest good is for e =
     let p = every (mixed_parts_of t) m rest (mixed_parts-good t good) is for (e ∙ mixed_label_parts m t) in (p.0, p.1 ∙ sym (mixed_plain_parts t))
 
-parted_by : (text plain : List ℕ) (l : LabelView) → IsLabel l → WasOfParts text plain l → IsOfEveryParts text plain l → (length text < 810 → IsCutText text plain l) → IsParted text plain l
-parted_by text plain l good was every cut = record {
+parted_by : (text plain : List ℕ) (l : LabelView) (w : TimeLines) (lines : List ℕ) → IsLabel l → WasOfParts text plain l lines → IsOfEveryParts text plain l w lines
+    → (length text < 810 → IsCutText text plain l) → IsParted text plain l w lines
+parted_by text plain l w lines good was every cut = record {
   good = good;
-  labelled = was_gps text plain l was;
-  every = every_gps text plain l every;
-  labelled_mixed = was_mixed text plain l was;
-  every_mixed = every_mixed text plain l every;
+  labelled = was_gps text plain l lines was;
+  every = every_gps text plain l w lines every;
+  labelled_mixed = was_mixed text plain l lines was;
+  every_mixed = every_mixed text plain l w lines every;
   cut = cut;
 }
 
-pub parted : (text number front plain : List ℕ) (from : ℕ) (l : LabelView) → IsRead text number from l → front ≡ plain_front text from l
-    → plain ≡ front ++ drop (from + 729) text → IsParted text plain l
-parted text number front plain from l r front_is plain_is =
-    let is : plain ≡ plain_front text from l ++ drop (from + 729) text = plain_is ∙ ap (λ (t : List ℕ). t ++ drop (from + 729) text) front_is in
-    parted_by text plain l r.good
-    (λ p good e. was_labelled text number from l p r good (sym is ∙ e))
-    (λ p g good fits for e. let q = is_plain text number from l g p r good fits for e in (is ∙ q.plain, q.label))
-    (λ short. absurd (omega (arith, short, r.long)))
+-- a text whose six lines end after so many bytes, with time lines behind them
+pub record IsReadTold (text number front : List ℕ) (from : ℕ) (l : LabelView) (w : TimeLines) (lines : List ℕ) : Type 0 where
+  pub read : IsRead text number from l
+  pub front_is : front ≡ plain_front text from l
+  pub told : AreTold (drop (from + 729) text) w lines
+
+-- the first nine lines have room before it
+pub front-fits : (n k total : ℕ) (lines : List ℕ) → n ≤ 81 → 810 ≤ total → (n + 729 ≤ total → n + 729 + length lines ≤ total) → k ≡ length lines → n + k + 729 ≤ total
+front-fits n k total lines few long within same = let inside = within (omega (arith, few, long)) in omega (arith, inside, same)
+
+-- what is left behind the time lines
+pub behind-lines : (text number front : List ℕ) (from : ℕ) (l : LabelView) (w : TimeLines) (lines : List ℕ) → IsReadTold text number front from l w lines
+    → drop (from + 729) text ≡ lines ++ drop (from + length lines + 729) text
+behind-lines text number front from l w lines c =
+    let sum : from + 729 + length lines ≡ from + length lines + 729 = omega arith in
+    c.told.parts ∙ ap (λ (x : List ℕ). lines ++ x) (drop-drop (length lines) (from + 729) text ∙ ap (λ (k : ℕ). drop k text) sum)
+
+length-read : (text number front : List ℕ) (from : ℕ) (l : LabelView) (w : TimeLines) (lines : List ℕ) → IsReadTold text number front from l w lines → length front ≡ 729
+length-read text number front from l w lines c = ap length c.front_is ∙ length-front text number from l c.read
+
+-- the plain text is that of parts
+told-was : (text number front : List ℕ) (from : ℕ) (l : LabelView) (w : TimeLines) (lines : List ℕ) → IsReadTold text number front from l w lines → (p : FileParts) → AreFileParts p
+    → front ++ drop (from + length lines + 729) text ≡ text_of_parts blank_label p → (text ≡ text_of_parts l (with_lines lines p)) × IsFor l p.site
+told-was text number front from l w lines c p good e =
+    let rest : List ℕ = drop (from + length lines + 729) text in
+    let two = same_parts front (nine_of p) rest p.rest (length-read text number front from l w lines c ∙ sym (length-nine p good)) (e ∙ sym (nine-rest p)) in
+    was_labelled text number from l (with_lines lines p) c.read (lines-good lines p good)
+    (ap (λ (x : List ℕ). x ++ drop (from + 729) text) (sym c.front_is ∙ two.0)
+    ∙ ap (λ (x : List ℕ). nine_of p ++ x) (behind-lines text number front from l w lines c ∙ ap (λ (x : List ℕ). lines ++ x) two.1)
+    ∙ nine-with lines p)
+
+-- the text is that of parts with a label and time lines
+told-every : (text number front : List ℕ) (from : ℕ) (l : LabelView) (w : TimeLines) (lines : List ℕ) → IsReadTold text number front from l w lines → (p : FileParts) (m : LabelView) (v : TimeLines) (interval last : Option ℕ)
+    → AreFileParts p → HasNoTimeLine p.rest → IsLabel m → IsFor m p.site → IfSome last IsMoment → text ≡ text_of_parts m (with_lines (extent_lines v interval last) p)
+    → (front ++ drop (from + length lines + 729) text ≡ text_of_parts blank_label p) × (l ≡ m) × (lines ≡ extent_lines v interval last) × (extent_lines w interval last ≡ lines)
+told-every text number front from l w lines c p m v interval last good next is for moment e =
+    let due : List ℕ = extent_lines v interval last in
+    let q = is_plain text number from l m (with_lines due p) c.read (lines-good due p good) is for e in
+    let tail : List ℕ = drop (from + 729) text in
+    let rest : List ℕ = drop (from + length lines + 729) text in
+    let two = same_parts front (nine_of p) tail (due ++ p.rest) (length-read text number front from l w lines c ∙ sym (length-nine p good))
+    (ap (λ (x : List ℕ). x ++ tail) c.front_is ∙ q.plain ∙ sym (nine-with due p)) in
+    let own = c.told.every v interval last p.rest moment next two.1 in
+    let left : rest ≡ p.rest =
+    append_cancel_left lines rest p.rest (sym (behind-lines text number front from l w lines c) ∙ two.1 ∙ ap (λ (x : List ℕ). x ++ p.rest) (sym own.0)) in
+    (ap (λ (x : List ℕ). x ++ rest) two.0 ∙ ap (λ (x : List ℕ). nine_of p ++ x) left ∙ nine-rest p, q.label, own.0, own.1)
+
+pub parted : (text number front plain : List ℕ) (from : ℕ) (l : LabelView) (w : TimeLines) (lines : List ℕ) → IsReadTold text number front from l w lines
+    → plain ≡ front ++ drop (from + length lines + 729) text → IsParted text plain l w lines
+parted text number front plain from l w lines c plain_is =
+    parted_by text plain l w lines c.read.good
+    (λ p good e. told-was text number front from l w lines c p good (sym plain_is ∙ e))
+    (λ p m v interval last good next is for moment e.
+    let q = told-every text number front from l w lines c p m v interval last good next is for moment e in (plain_is ∙ q.0, q.1, q.2, q.3))
+    (λ short. let long = c.read.long in absurd (omega (arith, short, long)))
 
 -- a text that ends within its first ten lines is that of no table
-pub parted_cut : (text plain : List ℕ) (l : LabelView) → length text < 810 → length plain ≤ length text → IsLabel l → IsCutText text plain l → IsParted text plain l
-parted_cut text plain l short small good is =
-    parted_by text plain l good
+pub parted_cut : (text plain : List ℕ) (l : LabelView) (w : TimeLines) (lines : List ℕ) → length text < 810 → length plain ≤ length text → IsLabel l → IsCutText text plain l → IsParted text plain l w lines
+parted_cut text plain l w lines short small good is =
+    parted_by text plain l w lines good
     (λ p parts e. let size = ap length e in absurd (omega (arith, short, small, size, length-labelled blank_label p blank_is_label parts)))
-    (λ p g parts fits for e. let size = ap length e in absurd (omega (arith, short, size, length-labelled g p fits parts)))
+    (λ p m v interval last parts next fits for moment e.
+    let due : List ℕ = extent_lines v interval last in
+    let size = ap length e in absurd (omega (arith, short, size, length-labelled m (with_lines due p) fits (lines-good due p parts))))
     (λ h. is)
 
 pub cut_text : (text lines plain : List ℕ) (l : LabelView) → plain ≡ lines ++ drop (whole_len text) text
-    → ((rest : List ℕ) → WasOfParts (whole_lines text ++ rest) (lines ++ rest) l) → BeginsEveryParts (whole_lines text) lines → IsCutText text plain l
+    → ((rest : List ℕ) → WasOfParts (whole_lines text ++ rest) (lines ++ rest) l []) → BeginsEveryParts (whole_lines text) lines → IsCutText text plain l
 cut_text text lines plain l parts was every = record {
   lines = lines;
   parts = parts;
-  labelled = λ rest. was_gps (whole_lines text ++ rest) (lines ++ rest) l (was rest);
+  labelled = λ rest. was_gps (whole_lines text ++ rest) (lines ++ rest) l [] (was rest);
   every = begins_gps (whole_lines text) lines every;
-  labelled_mixed = λ rest. was_mixed (whole_lines text ++ rest) (lines ++ rest) l (was rest);
+  labelled_mixed = λ rest. was_mixed (whole_lines text ++ rest) (lines ++ rest) l [] (was rest);
   every_mixed = begins_mixed (whole_lines text) lines every;
 }

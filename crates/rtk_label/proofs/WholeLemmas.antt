@@ -581,7 +581,7 @@ plain_with whole ten number front plain from k l c r =
 
 -- if the plain lines begin the plain text of parts, the whole lines begin their text with this label
 pub whole_was : (whole ten number front : List ℕ) (from k : ℕ) (l : LabelView) → IsReadWhole whole ten number front from k l → (rest : List ℕ)
-    → WasOfParts (whole ++ rest) (take (length whole - from) front ++ rest) l
+    → WasOfParts (whole ++ rest) (take (length whole - from) front ++ rest) l []
 whole_was whole ten number front from k l c rest p good e =
     let n : ℕ = length whole - from in
     let plain : List ℕ = text_of_parts blank_label p in

@@ -3,7 +3,7 @@ use Rattle.std.proofs.Common.{◌≡◌, ◌<◌, ◌≤◌, ◌==◌, true, ℕ
 use Rattle.std.specs.Prelude.{Result, Ok, Err, OnOk, OnErr, Decides}
 use Rattle.std.proofs.lemmas.Bool.{eq-eqb}
 use Rattle.std.proofs.lemmas.Bool.Decides.{nat_tests}
-use Rattle.std.proofs.lemmas.List.{take_at, drop_at, drop-drop, take-append-le, length-append}
+use Rattle.std.proofs.lemmas.List.{take_at, drop_at, drop-drop, drop-take, take-take, take-append-le, length-append}
 use Rattle.std.proofs.Math.Seq.{take-append-add}
 use Rattle.rtk_frame.specs.Stream.{with_more, TakesPart}
 use Rattle.rtk_frame.proofs.PublicLaws.{with_more-with_more}
@@ -11,8 +11,8 @@ use Rattle.rtk_rinex.specs.Header.{PositionView}
 use Rattle.rtk_rinex.specs.Table.{WellFormedTable, IsWellFormedTable, table_text}
 use Rattle.rtk_rinex.specs.MixedTable.{MixedTable, IsMixedTable, mixed_table_text}
 use Rattle.rtk_label.specs.Fields.{marker_number_line}
-use Rattle.rtk_label.specs.Labelled.{LabelView, IsLabel, IsFor, blank_label, top_lines, middle_lines}
-use Rattle.rtk_label.specs.LabelWriting.{WritesLabelled, WritesFirstLabelled, WritesFront, WritesFirstOfFront, WritesLabelledMixed, WritesFirstLabelledMixed, WritesMixedFront, WritesFirstOfMixedFront}
+use Rattle.rtk_label.specs.Labelled.{LabelView, IsLabel, IsFor, blank_label, top_lines, middle_lines, labelled_text, labelled_mixed_text}
+use Rattle.rtk_label.specs.LabelWriting.{IsFilledFront, WritesLabelled, WritesFirstLabelled, WritesFront, WritesFirstOfFront, WritesLabelledMixed, WritesFirstLabelledMixed, WritesMixedFront, WritesFirstOfMixedFront}
 use Rattle.rtk_label.proofs.FileParts.{FileParts, AreFileParts, text_of_parts, parts_of, mixed_parts_of}
 use Rattle.rtk_label.specs.Steps.Fronts.{filled_top, filled_middle, filled_front}
 use Rattle.rtk_label.proofs.PlainLemmas.{blank_is_label, top_filled, middle_filled}
@@ -89,6 +89,30 @@ wrote_mixed_lines text l before after is wrote t good e = wrote ∙ ap (with_mor
 
 pub wrote_mixed_some : (text : List ℕ) (l : LabelView) (before after : Option (List ℕ)) → IsLabel l → TakesPart before after (filled_front l text) → WritesFirstOfMixedFront text l before after
 wrote_mixed_some text l before after is part t good e = let f = (mixed-filled text l t is good e).front in rw (← f) part
+
+-- ---- the first 729 bytes alone
+
+-- they decide the lines
+front-taken : (l : LabelView) (text : List ℕ) → filled_front l (take 729 text) ≡ filled_front l text
+front-taken l text =
+    let number : List ℕ = marker_number_line l.marker_number in
+    let top : take 243 (take 729 text) ≡ take 243 text = take-take 243 729 text (omega arith) in
+    let middle : take 486 (drop 243 (take 729 text)) ≡ take 486 (drop 243 text) =
+    ap (λ (x : List ℕ). take 486 x) (drop-take 243 486 text) ∙ take-take 486 486 (drop 243 text) (omega arith) in
+    ap (λ (x : List ℕ). (filled_top l x ++ number) ++ filled_middle l (take 486 (drop 243 (take 729 text)))) top
+    ∙ ap (λ (x : List ℕ). (filled_top l (take 243 text) ++ number) ++ filled_middle l x) middle
+
+from-front : (l : LabelView) (text front lines whole : List ℕ) → take 729 text ≡ front → lines ≡ filled_front l front → whole ≡ filled_front l text ++ drop 729 text
+    → whole ≡ lines ++ drop 729 text
+from-front l text front lines whole begins is all =
+    all ∙ ap (λ (x : List ℕ). x ++ drop 729 text) (sym (front-taken l text) ∙ ap (λ (x : List ℕ). filled_front l x) begins ∙ sym is)
+
+pub fills-front : (l : LabelView) (front lines : List ℕ) → IsLabel l → lines ≡ filled_front l front → IsFilledFront l front lines
+fills-front l front lines good is =
+    record {
+      gps = λ t table begins. from-front l (table_text t) front lines (labelled_text l t) begins is (label_parts l t ∙ (gps-filled (table_text t) l t good table refl).whole);
+      mixed = λ t table begins. from-front l (mixed_table_text t) front lines (labelled_mixed_text l t) begins is (mixed_label_parts l t ∙ (mixed-filled (mixed_table_text t) l t good table refl).whole);
+    }
 
 -- ---- the whole file
 

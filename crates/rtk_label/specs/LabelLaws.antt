@@ -1,5 +1,5 @@
 -- Laws over the header with fields, of files of GPS and of any systems.
-use Rattle.std.specs.Prelude.{◌≡◌, ℕ, List, ◌++◌, drop}
+use Rattle.std.specs.Prelude.{◌≡◌, ◌≤◌, ℕ, List, ◌++◌, length, drop}
 use Rattle.rtk_rinex.specs.Header.{header_text}
 use Rattle.rtk_rinex.specs.MixedHeader.{mixed_header_text}
 use Rattle.rtk_rinex.specs.Table.{WellFormedTable, IsWellFormedTable, table_text}
@@ -63,3 +63,8 @@ pub record MixedLabelLaws : Type 0 where
   pub told : MixedLabelsAreTold
   pub front : MixedFrontIsChanged
   pub records : MixedRecordsStay
+
+-- the text of a table has ten lines of 81 bytes at least
+pub record FilesAreLong : Type 0 where
+  pub gps : (t : WellFormedTable) → IsWellFormedTable t → 810 ≤ length (table_text t)
+  pub mixed : (t : MixedTable) → IsMixedTable t → 810 ≤ length (mixed_table_text t)

@@ -1,7 +1,7 @@
 -- The header of an observation file of GPS or of any systems with the fields of a label (RINEX 3.05, Table
 -- A2). The header of a conversion is the one whose label is blank.
 -- Source: RINEX 3.05, Table A2
-use Rattle.std.specs.Prelude.{◌≡◌, ◌<◌, ℕ, ◌==◌, List, [], ◌++◌, length, codes, flat_map, pos, if◌then◌else◌}
+use Rattle.std.specs.Prelude.{◌≡◌, ◌<◌, ℕ, ◌==◌, List, [], ◌++◌, length, drop, codes, flat_map, pos, if◌then◌else◌}
 use Rattle.rtk_obs.specs.declared.time.Civil.{Civil}
 use Rattle.rtk_rinex.specs.Columns.{left, right, fixed, IsField}
 use Rattle.rtk_rinex.specs.Header.{HeadView, PositionView, header_line, made_text, types_lines, last_lines, unit_line, first_line}
@@ -10,8 +10,8 @@ use Rattle.rtk_rinex.specs.MixedHeader.{version_letter, mixed_version_line, by_s
 use Rattle.rtk_rinex.specs.Reading.{reading_of}
 use Rattle.rtk_rinex.specs.Record.{record_text}
 use Rattle.rtk_rinex.specs.MixedRecord.{mixed_record_text}
-use Rattle.rtk_rinex.specs.Table.{WellFormedTable}
-use Rattle.rtk_rinex.specs.MixedTable.{MixedTable}
+use Rattle.rtk_rinex.specs.Table.{WellFormedTable, table_text}
+use Rattle.rtk_rinex.specs.MixedTable.{MixedTable, mixed_table_text}
 use Rattle.rtk_label.specs.Fields.{IsOffset, offset_columns, marker_number_line}
 
 -- the fields of a header that no message of the stream tells; no characters stand for a blank field
@@ -114,6 +114,11 @@ labelled_header l h s first =
 abbrev pub labelled_text : LabelView → WellFormedTable → List ℕ
 labelled_text l t = labelled_header l t.head t.site t.first ++ flat_map record_text t.epochs
 
+-- the same with further lines after those that the label changes; after them come the lines of the table behind its
+-- first nine
+abbrev pub labelled_with : List ℕ → LabelView → WellFormedTable → List ℕ
+labelled_with lines l t = front_lines l t.head t.site ++ lines ++ drop 729 (table_text t)
+
 -- ---- a file of any systems
 
 -- the lines that a label changes
@@ -137,3 +142,7 @@ labelled_mixed_header l h s first =
 -- the text of a table with a label
 abbrev pub labelled_mixed_text : LabelView → MixedTable → List ℕ
 labelled_mixed_text l t = labelled_mixed_header l t.head t.site t.first ++ flat_map mixed_record_text t.epochs
+
+-- the same with further lines after those that the label changes
+abbrev pub labelled_mixed_with : List ℕ → LabelView → MixedTable → List ℕ
+labelled_mixed_with lines l t = mixed_front_lines l t.head t.site ++ lines ++ drop 729 (mixed_table_text t)

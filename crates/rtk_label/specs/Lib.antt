@@ -1,4 +1,6 @@
 pub mod Fields
+pub mod TimeLines
+pub mod Filling
 pub mod Labelled
 pub mod LabelFault
 pub mod LabelLaws

@@ -9,7 +9,7 @@ use crate::fields::columns_at;
 use arrayvec::ArrayVec;
 
 /// The bytes of the lines that a label changes: ten lines of 81 bytes.
-pub(crate) const FRONT: usize = 810;
+pub const FRONT: usize = 810;
 
 /// The bytes of the same lines without a label: nine lines.
 pub const PLAIN_FRONT: usize = 729;
@@ -41,15 +41,16 @@ pub(crate) fn put_left(out: &mut ArrayVec<u8, FRONT>, text: &[u8], width: usize)
     add(out, &blanks[..width - text.len()]);
 }
 
-// Appends a text after blanks, 14 columns in all.
-fn put_right(out: &mut ArrayVec<u8, FRONT>, text: &[u8])
-    requires fits { length text.now ≤ 14 }
-    requires room { length out.old.items + 14 ≤ 810 }
-    ensures items { out.new.items ≡ out.old.items ++ right 14 text.now }
-    ensures len { length out.new.items ≡ length out.old.items + 14 }
+/// Appends a text after blanks, `width` columns in all.
+pub(crate) fn put_right(out: &mut ArrayVec<u8, FRONT>, text: &[u8], width: usize)
+    requires fits { length text.now ≤ width }
+    requires small { width ≤ 80 }
+    requires room { length out.old.items + width ≤ 810 }
+    ensures items { out.new.items ≡ out.old.items ++ right width text.now }
+    ensures len { length out.new.items ≡ length out.old.items + width }
 {
     let blanks = [b' '; 80];
-    add(out, &blanks[..14 - text.len()]);
+    add(out, &blanks[..width - text.len()]);
     add(out, text);
 }
 
@@ -63,7 +64,7 @@ pub(crate) fn put_offset(out: &mut ArrayVec<u8, FRONT>, offset: &[u8])
     if offset.len() == 0 {
         add(out, ZERO);
     } else {
-        put_right(out, offset);
+        put_right(out, offset, 14);
     }
 }
 
@@ -78,7 +79,7 @@ pub(crate) fn put_height(out: &mut ArrayVec<u8, FRONT>, height: &[u8], columns: 
     if height.len() == 0 {
         add(out, columns);
     } else {
-        put_right(out, height);
+        put_right(out, height, 14);
     }
 }
 

@@ -3,7 +3,7 @@
 //! Each function here does nothing but call laws. Its contract is the law, and a caller that calls it
 //! may cite it.
 
-ghost use Rattle.rtk_label.specs.LabelLaws.{BlankIsFile, FrontIsChanged, LabelsAreTold, RecordsStay, MixedLabelLaws};
+ghost use Rattle.rtk_label.specs.LabelLaws.{BlankIsFile, FilesAreLong, FrontIsChanged, LabelsAreTold, RecordsStay, MixedLabelLaws};
 
 use rtk_rinex::text_of_a_table;
 
@@ -34,4 +34,9 @@ pub fn records_stay()
 /// These laws hold of files of any systems too.
 pub fn mixed_label_laws()
     ensures { MixedLabelLaws }
+{}
+
+/// The text of a file has ten lines at least.
+pub fn files_are_long()
+    ensures { FilesAreLong }
 {}

@@ -1,5 +1,5 @@
-//! The fields of a header that no message of the stream tells: an observation file with them, and
-//! without them again.
+//! The fields of a header that no message of the stream tells, and the lines that follow from its records: an
+//! observation file with them, and without them again.
 //!
 //! ```rust
 //! use rtk_frame::MemSink;
@@ -52,18 +52,25 @@
 
 mod columns;
 mod fields;
+mod filling;
 mod front;
 mod label;
 mod label_fault;
 mod labelled_file;
 mod laws;
+mod time_lines;
 mod unlabelled;
 
-pub use columns::PLAIN_FRONT;
+pub use columns::{FRONT, PLAIN_FRONT};
+pub use filling::Filling;
 pub use label::{Label, LabelParts};
 pub use label_fault::LabelFault;
 pub use labelled_file::{
     is_for, is_for_mixed, write_front, write_front_mixed, write_labelled, write_labelled_mixed,
 };
-pub use laws::{blank_is_file, front_is_changed, labels_are_told, mixed_label_laws, records_stay};
+pub use laws::{
+    blank_is_file, files_are_long, front_is_changed, labels_are_told, mixed_label_laws,
+    records_stay,
+};
+pub use time_lines::TimeLines;
 pub use unlabelled::{Unlabelled, unlabel};

@@ -1,20 +1,22 @@
-//! A text that is parted into a label and a plain text.
+//! A text that is parted into a label, time lines and a plain text.
 //!
-//! The parts are read from their columns, and these become blank where they show a field. What no
-//! label fills stays as it is, so that `check` finds the first wrong line.
+//! The parts of a label are read from their columns, and these become blank where they show a field. Time lines
+//! are known by their labels, and are left out. What no label fills stays as it is, so that `check` finds the
+//! first wrong line.
 
-ghost use Rattle.std.specs.Prelude.{◌≡◌, ◌+◌, ◌-◌, ◌^◌, ◌<◌, ◌≤◌, [], ◌++◌, length, take, drop};
+ghost use Rattle.std.specs.Prelude.{◌≡◌, ◌+◌, ◌-◌, ◌/◌, ◌^◌, ◌<◌, ◌≤◌, [], ◌++◌, length, take, drop, MatchOption};
 ghost use Rattle.rtk_rinex.specs.Columns.{IsField};
 ghost use Rattle.rtk_label.specs.Fields.{marker_number_line};
 ghost use Rattle.rtk_label.specs.Labelled.{IsLabel};
-ghost use Rattle.rtk_label.specs.LabelWriting.{IsCutText, IsParted, line_in_text};
+ghost use Rattle.rtk_label.specs.LabelWriting.{IsCutText, IsParted, IsWrongLine, line_in_text};
 ghost use Rattle.rtk_label.specs.Steps.Fronts.{plain_file, plain_front};
 ghost use Rattle.rtk_label.specs.Steps.Shown.{IsNumberIn, IsLabelIn, IsRead};
 
-use crate::columns::{FRONT, add, put_number_line};
+use crate::columns::{FRONT, PLAIN_FRONT, add, put_number_line};
 use crate::fields::{Field, columns_at, is_same, read_field, read_offset};
 use crate::front::plain;
 use crate::label::Label;
+use crate::time_lines::{TimeLines, told_lines};
 use arrayvec::ArrayVec;
 
 /// The bytes of a line, and of three.
@@ -35,25 +37,53 @@ GEODETIC                                                    MARKER TYPE         
 \x20       0.0000        0.0000        0.0000                  ANTENNA: DELTA H/E/N\n\
 G    3 C1C L1C S1C                                          SYS / # / OBS TYPES \n";
 
-/// The label of a text, and where its plain text begins.
+/// The label and the time lines of a text, and where its plain text begins.
 #[derive(Drop)]
 pub struct Unlabelled {
     pub label: Label,
-    /// The number of bytes before the plain text: 81 if the text had a line of the marker's number,
-    /// else none.
+    /// Which time lines the text had.
+    pub times: TimeLines,
+    /// These lines.
+    pub lines: ArrayVec<u8, FRONT>,
+    /// The number of bytes before the plain text: 81 for each line that was left out, which are the time lines
+    /// and that of the marker's number.
     pub from: usize,
 }
 
 impl Unlabelled {
+    // The number of lines that were left out before the time lines: one if the text had a marker's number.
+    fn number_lines(&self) -> usize
+        ensures value { result ≡ (self.now.from - length self.now.lines.items) / 81 }
+        ensures small { result < 2 ^ 60 }
+    {
+        self.from.saturating_sub(self.lines.len()) / LINE
+    }
+
     /// The number of a line of the plain text in the text that was parted.
     pub fn line(&self, line: usize) -> usize
-        ensures { line + 1 < 2 ^ 64 → result ≡ line_in_text self.now.from line }
+        ensures { line + self.now.from < 2 ^ 64 → result ≡ line_in_text self.now.from self.now.lines.items line }
     {
-        if self.from == 0 || line <= 3 {
+        if line <= 3 {
             line
+        } else if line <= 9 {
+            line.saturating_add(self.number_lines())
         } else {
-            line.saturating_add(1)
+            line.saturating_add(self.from / LINE)
         }
+    }
+
+    /// If the time lines are not these, the number of the first wrong one in the text that was parted.
+    pub fn wrong_line(&self, due: &[u8]) -> Option<usize>
+        ensures { MatchOption result (self.now.lines.items ≡ due.now) (IsWrongLine self.now.from self.now.lines.items due.now) }
+    {
+        let lines = self.lines.as_slice();
+        if is_same(lines, due) {
+            return None;
+        }
+        if is_same(columns_at(lines, 0, LINE), columns_at(due, 0, LINE)) {
+            return Some(11 + self.number_lines());
+        }
+        Some(10 + self.number_lines())
     }
 }
 
@@ -102,10 +132,10 @@ fn line_len(number: &[u8]) -> usize
     if number.len() == 0 { 0 } else { 81 }
 }
 
-// What is read of a text: its label, where its plain text begins, and the first nine lines of this.
+// What is read of a text: its label, and the first nine lines of its plain text.
 #[derive(Drop)]
 struct Reading {
-    unlabelled: Unlabelled,
+    label: Label,
     front: ArrayVec<u8, FRONT>,
 }
 
@@ -116,11 +146,10 @@ fn reading_of(text: &[u8], number: Field, from: usize) -> Reading
     requires number { IsNumberIn (take 81 (drop 243 text.now)) number.items }
     requires blank { length number.items ≡ 0 → from ≡ 0 }
     requires filled { 0 < length number.items → from ≡ 81 }
-    ensures read { IsRead text.now number.items from result.unlabelled.label }
-    ensures front { result.front.items ≡ plain_front text.now from result.unlabelled.label }
-    ensures good { IsLabel result.unlabelled.label }
-    ensures from { from ≡ length (marker_number_line result.unlabelled.label.marker_number) }
-    ensures same { result.unlabelled.from ≡ from }
+    ensures read { IsRead text.now number.items from result.label }
+    ensures front { result.front.items ≡ plain_front text.now from result.label }
+    ensures good { IsLabel result.label }
+    ensures from { from ≡ length (marker_number_line result.label.marker_number) }
     ensures line { from ≤ 81 }
     ensures len { length result.front.items ≡ 729 }
 {
@@ -128,10 +157,7 @@ fn reading_of(text: &[u8], number: Field, from: usize) -> Reading
     let middle = columns_at(text, from + THREE_LINES, 486);
     let label = read_label(top, number, middle);
     let front = plain(&label, top, middle);
-    Reading {
-        unlabelled: Unlabelled { label, from },
-        front,
-    }
+    Reading { label, front }
 }
 
 // The marker's number of whole lines; a blank one if its line is not among them.
@@ -179,6 +205,7 @@ fn completed(lines: &[u8], from: usize) -> ArrayVec<u8, FRONT>
 fn unlabel_cut(text: &mut [u8]) -> Unlabelled
     requires { length text.old < 810 }
     ensures len { length text.new ≡ length text.old }
+    ensures none { result.lines.items ≡ [] }
     ensures from { result.from ≡ length (marker_number_line result.label.marker_number) }
     ensures within { result.from ≤ length text.new }
     ensures good { IsLabel result.label }
@@ -191,27 +218,39 @@ fn unlabel_cut(text: &mut [u8]) -> Unlabelled
     let ten = completed(lines, from);
     let reading = reading_of(ten.as_slice(), number, from);
     text[from..whole].copy_from_slice(columns_at(reading.front.as_slice(), 0, whole - from));
-    reading.unlabelled
+    Unlabelled {
+        label: reading.label,
+        times: TimeLines::none(),
+        lines: ArrayVec::new(),
+        from,
+    }
 }
 
-/// Parts a text in its place: what is left from `from` on is the plain text. No byte after the tenth
+/// Parts a text in its place: what is left from `from` on is the plain text. No byte after the twelfth
 /// line is moved.
 ///
 /// If the text ends within its first ten lines, the fields are taken from the lines before the one
 /// that is cut. So `check` finds that the text is cut, and not a field.
 pub fn unlabel(text: &mut [u8]) -> Unlabelled
     ensures len { length text.new ≡ length text.old }
-    ensures rest { drop 810 text.new ≡ drop 810 text.old }
-    ensures from { result.from ≡ length (marker_number_line result.label.marker_number) }
+    ensures rest { drop 972 text.new ≡ drop 972 text.old }
+    ensures from { result.from ≡ length (marker_number_line result.label.marker_number) + length result.lines.items }
     ensures within { result.from ≤ length text.new }
-    ensures parted { IsParted text.old (drop result.from text.new) result.label }
+    ensures parted { IsParted text.old (drop result.from text.new) result.label result.times result.lines.items }
 {
     if text.len() < 810 {
         return unlabel_cut(text);
     }
     let number = read_number(columns_at(text, THREE_LINES, LINE));
-    let from = line_len(number.as_slice());
-    let reading = reading_of(text, number, from);
-    text[from..from + 729].copy_from_slice(reading.front.as_slice());
-    reading.unlabelled
+    let number_len = line_len(number.as_slice());
+    let reading = reading_of(text, number, number_len);
+    let told = told_lines(text, number_len + PLAIN_FRONT);
+    let from = number_len + told.lines.len();
+    text[from..from + PLAIN_FRONT].copy_from_slice(reading.front.as_slice());
+    Unlabelled {
+        label: reading.label,
+        times: told.times,
+        lines: told.lines,
+        from,
+    }
 }

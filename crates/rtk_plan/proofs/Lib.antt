@@ -1,6 +1,8 @@
 mod HeadLemmas
 mod LinkLemmas
+mod OnePlanLemmas
 mod PutLemmas
 mod SumLemmas
+mod TakenLemmas
 mod ToldLabelLemmas
 mod WalkLemmas

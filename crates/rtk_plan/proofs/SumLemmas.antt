@@ -3,6 +3,7 @@ use Rattle.std.proofs.Common.{◌≡◌, ◌<◌, ◌+◌, ℕ, zero, suc, List,
 use Rattle.std.proofs.lemmas.List.{take_more}
 use Rattle.std.proofs.lemmas.List.Sums.{sum_by-cons, sum_by-append}
 use Rattle.std.specs.List.{sum_by, range_with_len}
+use Rattle.rtk_survey.specs.Counting.{shown_count}
 
 -- ---- sums over satellites
 
@@ -33,3 +34,9 @@ sum-taken f xs i d within =
     let alone : sum_by f (get_or xs i d ∷ []) ≡ f (get_or xs i d) + sum_by f [] = sum_by-cons f (get_or xs i d) [] in
     let nil : sum_by f [] ≡ 0 = refl in
     omega (arith, longer, last, alone, nil)
+
+-- ---- counts that stay at the greatest value
+
+-- a count more
+pub counted-on : (count r more rest total : ℕ) → more ≡ shown_count (count + r) → shown_count (count + (r + rest)) ≡ total → shown_count (more + rest) ≡ total
+counted-on count r more rest total is held = omega (arith, is, held)

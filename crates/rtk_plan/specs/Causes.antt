@@ -1,17 +1,16 @@
 -- Why captures have no plan: what holds of them and of the words if a refusal comes (this project's rule).
-use Rattle.std.specs.Prelude.{◌≡◌, ◌≢◌, ◌<◌, ◌+◌, ◌==◌, ℕ, Bool, true, false, ◌&&◌, not, ◌⊎◌, nat_lt, ⊤, List, [], length, map, Option, None, Some}
+use Rattle.std.specs.Prelude.{◌≡◌, ◌≢◌, ◌<◌, ◌+◌, ◌==◌, ℕ, Bool, true, false, ◌&&◌, not, ◌⊎◌, nat_lt, ⊤, List, [], length, map, slice_get, Option, None, Some}
 use Rattle.std.specs.List.{list_any}
 use Rattle.std.specs.Option.{option_map_or}
 use Rattle.rtk_obs.specs.Dating.{IsReference}
 use Rattle.rtk_obs.specs.declared.time.TheConstants.{LAST_MS}
-use Rattle.rtk_survey.specs.Placing.{second_of}
 use Rattle.rtk_survey.specs.Telling.{half_week_ms}
 use Rattle.rtk_survey.specs.declared.date_message.DateMessage.{DateMessage}
 use Rattle.rtk_survey.specs.declared.date_message.DateMessage.TheVariants.{Utc, Ephemeris}
 use Rattle.rtk_survey.specs.declared.placing.Placed.{Placed}
 use Rattle.rtk_survey.specs.declared.survey.CaptureSurvey.{CaptureSurvey}
 use Rattle.rtk_plan.specs.ChosenStation.{IsObservedStation, AreSeveralObserved}
-use Rattle.rtk_plan.specs.Reach.{least_of_captures, placed_if_any, reach_after}
+use Rattle.rtk_plan.specs.Reach.{least_told, placed_if_any, reach_after, second_of}
 use Rattle.rtk_plan.specs.declared.station_capture.StationCapture.{StationCapture}
 use Rattle.rtk_plan.specs.declared.reach.Base.{Base}
 use Rattle.rtk_plan.specs.Kept.{empty_captures}
@@ -21,7 +20,7 @@ use Rattle.rtk_plan.specs.Positions.{some_are_far}
 use Rattle.rtk_plan.specs.declared.refusal.PlanFault.{PlanFault}
 use Rattle.rtk_plan.specs.declared.refusal.PlanFault.TheVariants.{Refused, OutOfMemory}
 use Rattle.rtk_plan.specs.declared.refusal.Refusal.{Refusal}
-use Rattle.rtk_plan.specs.declared.refusal.Refusal.TheVariants.{NoFrame, NoObservation, NoStation, SeveralStations, Empty, DatesDiffer, OutsideDates, NoDate, TooLong, NoCode, TooManyLinks, PositionsDiffer}
+use Rattle.rtk_plan.specs.declared.refusal.Refusal.TheVariants.{NoFrame, NoObservation, NoStation, SeveralStations, Empty, DatesDiffer, TwoDates, OutsideDates, NoDate, TooLong, NoCode, TooManyLinks, PositionsDiffer}
 use Rattle.rtk_plan.specs.declared.wanted.Wanted.{Wanted}
 
 -- a refusal has this cause; refused memory has none
@@ -73,7 +72,11 @@ have_week_and_day cs least = list_any is_dated_by_week cs && (list_any is_dated_
 abbrev pub HaveDifferingDates : List StationCapture → Type 0
 HaveDifferingDates cs =
     (list_any has_several_dates cs ≡ true)
-    ⊎ ((least : ℕ) × (least_of_captures None cs ≡ Some least) × (have_week_and_day cs least ≡ true))
+    ⊎ ((least : ℕ) × (least_told cs ≡ Some least) × (have_week_and_day cs least ≡ true))
+
+-- the second date of the capture at this place begins behind so many frames
+abbrev pub IsPartedAt : List StationCapture → ℕ → ℕ → Type 0
+IsPartedAt cs place frame = (c : StationCapture) × (slice_get cs place ≡ Some c) × (c.parting ≡ Some frame)
 
 -- the moment near which they would be dated can't be a reference, or an epoch is after the last moment
 abbrev pub IsOutside : Placed → Type 0
@@ -90,7 +93,8 @@ IsReachCause base cs other = ⊥
 -- captures that are dated near this moment, or by what they tell
 abbrev pub IsDatingCause : Option ℕ → List StationCapture → Refusal → Type 0
 IsDatingCause given cs DatesDiffer = (given ≡ None) × HaveDifferingDates cs
-IsDatingCause given cs NoDate = (given ≡ None) × (least_of_captures None cs ≡ None)
+IsDatingCause given cs (TwoDates place frame) = (given ≡ None) × IsPartedAt cs place frame
+IsDatingCause given cs NoDate = (given ≡ None) × (least_told cs ≡ None)
 IsDatingCause given cs refusal = (base : Base) × IsBaseOf given cs base × IsReachCause base cs refusal
 
 -- ---- the values of the conversion of a station

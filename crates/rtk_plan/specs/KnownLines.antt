@@ -1,14 +1,39 @@
 -- What a person should know of a conversion that is done (this project's rule).
-use Rattle.std.specs.Prelude.{ℕ, ◌==◌, Bool, not, ◌&&◌, List, [], ◌++◌, None, is_some, codes, decimal, flat_map, if◌then◌else◌}
+use Rattle.std.specs.Prelude.{ℕ, ◌+◌, ◌==◌, Bool, not, ◌&&◌, List, [], ◌∷◌, ◌++◌, Option, None, Some, is_some, slice_get, codes, decimal, flat_map, if◌then◌else◌}
+use Rattle.std.specs.Borrow.{Bor}
+use Rattle.std.specs.List.{list_any, sum_by}
 use Rattle.std.specs.Option.{is_none}
+use Rattle.rtk_message.specs.declared.msm_kind.MsmKind.{MsmKind}
+use Rattle.rtk_message.specs.declared.system.System.{System}
+use Rattle.rtk_message.specs.declared.system.System.TheVariants.{Gps, Glonass, Galileo, Beidou, Qzss, Sbas, Navic}
+use Rattle.rtk_obs.specs.AnyCode.{system_of, place_of}
+use Rattle.rtk_obs.specs.Code.{name_of, all_codes}
+use Rattle.rtk_obs.specs.declared.any_code.AnyCode.{AnyCode}
+use Rattle.rtk_obs.specs.declared.code.Code.{Code}
+use Rattle.rtk_survey.specs.Counting.{shown_count}
 use Rattle.rtk_survey.specs.Placing.{placed}
+use Rattle.rtk_survey.specs.declared.equipment.Equipment.{Equipment}
 use Rattle.rtk_survey.specs.declared.span.Span.{Span}
 use Rattle.rtk_survey.specs.declared.survey.CaptureSurvey.{CaptureSurvey}
 use Rattle.rtk_survey.specs.declared.tellings.Told.{Told}
-use Rattle.rtk_plan.specs.Lists.{date_line}
-use Rattle.rtk_plan.specs.StationCaptures.{told_in, passed_over_in}
+use Rattle.rtk_plan.specs.CaptureNames.{capture_name, lines_by}
+use Rattle.rtk_plan.specs.FewPhases.{has_few_phases}
+use Rattle.rtk_plan.specs.Linking.{places_of}
+use Rattle.rtk_plan.specs.Lists.{date_line, undated_line, stray_line, capture_line, name_line, msm_lines, doppler_line, sbas_line, all_unread}
+use Rattle.rtk_plan.specs.Positions.{no_position_line}
+use Rattle.rtk_plan.specs.Reported.{late_of}
+use Rattle.rtk_plan.specs.SpanLine.{span_line}
+use Rattle.rtk_plan.specs.StationCaptures.{dates_in, told_in, passed_over_in}
+use Rattle.rtk_plan.specs.TextsLeftOut.{texts_left_out}
+use Rattle.rtk_plan.specs.WrittenFile.{written_span, gap_lines}
 use Rattle.rtk_plan.specs.declared.known_lines.Known.{Known}
+use Rattle.rtk_plan.specs.declared.planning.Plan.{Plan}
+use Rattle.rtk_plan.specs.declared.reported.Reported.{Reported}
+use Rattle.rtk_plan.specs.declared.span_line.DateSource.{DateSource}
+use Rattle.rtk_plan.specs.declared.span_line.DateSource.TheVariants.{Words, Station, OtherStation, Ephemerides}
 use Rattle.rtk_plan.specs.declared.station_capture.StationCapture.{StationCapture}
+use Rattle.rtk_plan.specs.declared.written_file.Step.{Step}
+use Rattle.rtk_plan.specs.declared.written_file.WrittenFile.{WrittenFile}
 
 -- a capture with these epochs tells another first one than a conversion near this moment gives it; as both
 -- have one time of week, they are a week or more apart
@@ -30,16 +55,154 @@ abbrev pub other_dates : ℕ → ℕ → Span → CaptureSurvey → List ℕ →
 other_dates station near s survey name =
     other_date_lines near s name (told_in station survey) ++ other_date_lines near s name (passed_over_in station survey)
 
+abbrev pub other_dates_if_any : ℕ → ℕ → Option Span → CaptureSurvey → List ℕ → List ℕ
+other_dates_if_any station near None survey name = []
+other_dates_if_any station near (Some s) survey name = other_dates station near s survey name
+
+-- those of captures with these names
+abbrev pub all_other_dates : List (Bor (List ℕ)) → ℕ → ℕ → List CaptureSurvey → List ℕ
+all_other_dates names station near ss =
+    lines_by (λ at s. other_dates_if_any station near (dates_in station s).span s (capture_name names at)) 0 ss
+
 -- a capture has epochs, and tells no date
 abbrev pub is_undated : StationCapture → Bool
 is_undated c = is_some c.span && is_none c.told
 
+abbrev pub undated_line_if : StationCapture → List ℕ → List ℕ
+undated_line_if c name = if is_undated c then undated_line name else []
+
+abbrev pub all_undated : List (Bor (List ℕ)) → List StationCapture → List ℕ
+all_undated names cs = lines_by (λ at c. undated_line_if c (capture_name names at)) 0 cs
+
+-- the captures that are dated near the others, unless words date all of them
+abbrev pub undated_lines : DateSource → List (Bor (List ℕ)) → List StationCapture → List ℕ
+undated_lines Words names cs = []
+undated_lines (Station number) names cs = all_undated names cs
+undated_lines (OtherStation number station) names cs = all_undated names cs
+undated_lines Ephemerides names cs = all_undated names cs
+
 -- formula
--- how many messages were late, if some were; the window is the number of epochs that are kept open
-unfoldable pub late_count_line : ℕ → ℕ → List ℕ
-late_count_line late window =
+-- a code whose satellites have more than twice as many phases in another one
+abbrev pub few_phases_line_if : Bool → Code → List ℕ
+few_phases_line_if has_few code =
+    if has_few then codes " few-phases " ++ name_of code ++ codes ": its satellites have more than twice as many in another code\n" else []
+
+unfoldable pub few_phases_line : List CaptureSurvey → ℕ → MsmKind → Code → List ℕ
+few_phases_line ss station kind code = few_phases_line_if (has_few_phases ss station kind code) code
+
+-- the code of GPS at a place among the codes of a system, if the system is GPS
+abbrev pub code_of_system : System → ℕ → Option Code
+code_of_system Gps place = slice_get all_codes place
+code_of_system Glonass place = None
+code_of_system Galileo place = None
+code_of_system Beidou place = None
+code_of_system Qzss place = None
+code_of_system Sbas place = None
+code_of_system Navic place = None
+
+abbrev pub few_phases_line_if_any : List CaptureSurvey → ℕ → MsmKind → Option Code → List ℕ
+few_phases_line_if_any ss station kind None = []
+few_phases_line_if_any ss station kind (Some code) = few_phases_line ss station kind code
+
+-- the line of a listed code, if it is one of GPS
+unfoldable pub few_phases_line_at : List CaptureSurvey → ℕ → MsmKind → AnyCode → List ℕ
+few_phases_line_at ss station kind c = few_phases_line_if_any ss station kind (code_of_system (system_of c) (place_of c))
+
+abbrev pub few_phases_lines : List CaptureSurvey → ℕ → MsmKind → List AnyCode → List ℕ
+few_phases_lines ss station kind cs = flat_map (few_phases_line_at ss station kind) cs
+
+-- the captures at these places, which have the stray epoch
+abbrev pub stray_lines : List (Bor (List ℕ)) → ℕ → List ℕ → List ℕ
+stray_lines names epoch places = flat_map (λ place. stray_line epoch (capture_name names place)) places
+
+-- everything before the line of late messages
+unfoldable pub lines_before_late : List (Bor (List ℕ)) → List CaptureSurvey → Plan → Equipment → List ℕ
+lines_before_late names ss plan told =
+    undated_lines plan.span.source names plan.captures.items
+    ++ all_other_dates names plan.setup.station plan.setup.near ss
+    ++ few_phases_lines ss plan.setup.station plan.setup.kinds.gps plan.setup.head.listed
+    ++ texts_left_out told
+    ++ stray_lines names plan.span.until plan.strays.items
+
+-- ---- behind the line of late messages
+
+abbrev pub skipped_line_of : Option StationCapture → List ℕ → List ℕ
+skipped_line_of None name = []
+skipped_line_of (Some c) name = capture_line (codes " skipped ") name c.look
+
+-- formula
+-- a capture that is left out
+abbrev pub skipped_line : List (Bor (List ℕ)) → List StationCapture → ℕ → List ℕ
+skipped_line names cs place = skipped_line_of (slice_get cs place) (capture_name names place)
+
+abbrev pub skipped_lines : List (Bor (List ℕ)) → List StationCapture → List ℕ → List ℕ
+skipped_lines names cs places = flat_map (skipped_line names cs) places
+
+-- formula
+-- a capture without an epoch, or one whose epochs fall
+abbrev pub epochs_line : Option Span → List ℕ → List ℕ
+epochs_line None name = name_line (codes " no-epoch ") name
+epochs_line (Some s) name = if s.falls then name_line (codes " time-falls ") name else []
+
+abbrev pub epochs_line_of : Option StationCapture → List ℕ → List ℕ
+epochs_line_of None name = []
+epochs_line_of (Some c) name = epochs_line c.span name
+
+abbrev pub epochs_line_at : List (Bor (List ℕ)) → List StationCapture → ℕ → List ℕ
+epochs_line_at names cs place = epochs_line_of (slice_get cs place) (capture_name names place)
+
+-- those of the captures of a link, and of all links
+abbrev pub epochs_lines_of : List (Bor (List ℕ)) → List StationCapture → List ℕ → List ℕ
+epochs_lines_of names cs link = flat_map (epochs_line_at names cs) link
+
+abbrev pub epochs_lines : List (Bor (List ℕ)) → List StationCapture → List (List ℕ) → List ℕ
+epochs_lines names cs links = flat_map (epochs_lines_of names cs) links
+
+-- the observations that are not taken
+unfoldable pub not_taken : List CaptureSurvey → ℕ → MsmKind → List ℕ
+not_taken ss station kind = msm_lines kind ss station ++ doppler_line kind ss station ++ sbas_line ss station ++ all_unread ss
+
+unfoldable pub lines_behind_late : List (Bor (List ℕ)) → List CaptureSurvey → Plan → List ℕ
+lines_behind_late names ss plan =
+    skipped_lines names plan.captures.items plan.skipped.items
+    ++ epochs_lines names plan.captures.items (places_of plan.links.items)
+    ++ not_taken ss plan.setup.station plan.setup.kinds.gps
+
+-- ---- the links with a stray epoch
+
+abbrev pub is_one_of : List ℕ → ℕ → Bool
+is_one_of places place = list_any (λ other. other == place) places
+
+abbrev pub has_one_of : List ℕ → List ℕ → Bool
+has_one_of places link = list_any (is_one_of places) link
+
+-- the links, of which the first has this place, with a capture at one of these places
+abbrev pub links_from : ℕ → List ℕ → List (List ℕ) → List ℕ
+links_from at strays [] = []
+links_from at strays (link ∷ links) =
+    if has_one_of strays link then at ∷ links_from (at + 1) strays links else links_from (at + 1) strays links
+
+abbrev pub links_with_strays : List (List ℕ) → List ℕ → List ℕ
+links_with_strays links strays = links_from 0 strays links
+
+-- how many late messages a report lists on these links
+abbrev pub late_on_links : Reported → List ℕ → ℕ
+late_on_links r links = shown_count (sum_by (late_of r) links)
+
+-- formula
+-- how many late messages came on a link with a stray epoch, if some did
+abbrev pub late_by_stray : ℕ → List ℕ
+late_by_stray count = if count == 0 then [] else codes ", " ++ decimal count ++ codes " of them on a link with the stray epoch"
+
+-- formula
+-- how many messages were late, if some were, and how many of them on a link with a stray epoch; the window is the
+-- number of epochs that are kept open
+unfoldable pub late_count_line : ℕ → ℕ → ℕ → List ℕ
+late_count_line late by_stray window =
     if late == 0 then [] else
-    codes " late " ++ decimal late ++ codes ": messages after " ++ decimal window ++ codes " newer epochs are left out\n"
+    codes " late " ++ decimal late ++ codes ": observations after " ++ decimal window
+    ++ codes " newer epochs, and new positions after " ++ decimal window ++ codes " epochs, are left out"
+    ++ late_by_stray by_stray ++ codes "\n"
 
 -- formula
 -- how many conflicts there were, if there were some
@@ -49,6 +212,18 @@ conflicts_line conflicts =
     codes " conflict " ++ decimal conflicts ++ codes ": later copies differ from the first, which the file has\n"
 
 -- formula
+-- the first and the last epoch of a file, if it has one, and by what they are dated
+abbrev pub span_line_if_any : Option Step → DateSource → List ℕ
+span_line_if_any None source = []
+span_line_if_any (Some s) source = span_line (record { from = s.from; until = s.until; source = source })
+
+-- formula
+-- what a file has that was written
+unfoldable pub file_lines : DateSource → WrittenFile → ℕ → List ℕ
+file_lines source file conflicts =
+    span_line_if_any (written_span file) source ++ no_position_line file.has_position ++ gap_lines file ++ conflicts_line conflicts
+
+-- formula
 -- what was known before the conversion, and between it the line of late messages
-unfoldable pub known_lines : Known → ℕ → List ℕ
-known_lines k late = k.first.items ++ late_count_line late k.window ++ k.last.items
+unfoldable pub known_lines : Known → ℕ → ℕ → List ℕ
+known_lines k late by_stray = k.first.items ++ late_count_line late by_stray k.window ++ k.last.items

@@ -1,6 +1,6 @@
 -- How the captures of the station are grouped in links (this project's rule). A link is the list of the
 -- places of its captures.
-use Rattle.std.specs.Prelude.{◌≡◌, ℕ, ◌==◌, Bool, true, false, not, List, [], ◌∷◌, length, map, filter, Option, if◌then◌else◌}
+use Rattle.std.specs.Prelude.{◌≡◌, ℕ, ◌-◌, ◌==◌, slice_get, Bool, true, false, not, List, [], ◌∷◌, length, map, filter, flat_map, Option, None, Some, if◌then◌else◌}
 use Rattle.std.specs.List.{range_with_len}
 use Rattle.std.specs.declared.vec.Vec.{Vec}
 use Rattle.rtk_survey.specs.declared.placing.Placed.{Placed}
@@ -37,6 +37,21 @@ joined_links os = filter is_nonempty (map (λ link. captures_of_link link os (li
 -- the links of captures with these dated epochs
 abbrev pub links_found : List StationCapture → List (Option Placed) → List (List ℕ)
 links_found cs placed = joined_links (kept_in_order cs (in_order placed))
+
+-- ---- the last captures of links
+
+abbrev pub last_of : List ℕ → Option ℕ
+last_of places = slice_get places (length places - 1)
+
+abbrev pub place_if_any : Option ℕ → List ℕ
+place_if_any None = []
+place_if_any (Some place) = place ∷ []
+
+abbrev pub last_places : List ℕ → List ℕ
+last_places link = place_if_any (last_of link)
+
+abbrev pub last_captures : List (List ℕ) → List ℕ
+last_captures links = flat_map last_places links
 
 -- ---- each capture is a link
 

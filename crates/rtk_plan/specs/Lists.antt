@@ -1,5 +1,7 @@
 -- The lines that list what a refusal or a warning speaks of (this project's rule).
-use Rattle.std.specs.Prelude.{ℕ, ◌==◌, List, [], ◌∷◌, ◌++◌, length, nat_lt, flat_map, codes, decimal, Option, None, Some, if◌then◌else◌}
+use Rattle.std.specs.Prelude.{ℕ, ℤ, ◌+◌, ◌/◌, ◌%◌, ◌==◌, Bool, ◌&&◌, ◌||◌, unsigned_abs, nat_le, List, [], ◌∷◌, ◌++◌, length, nat_lt, min, flat_map, codes, decimal, Option, None, Some, if◌then◌else◌}
+use Rattle.std.specs.Fmt.{sign_text}
+use Rattle.std.specs.Int.{is_negative}
 use Rattle.std.specs.List.{range_with_len}
 use Rattle.rtk_message.specs.declared.msm_kind.MsmKind.{MsmKind}
 use Rattle.rtk_message.specs.declared.msm_kind.MsmKind.TheVariants.{Msm4, Msm5, Msm6, Msm7}
@@ -8,8 +10,13 @@ use Rattle.rtk_message.specs.ShellText.{sh_quoted}
 use Rattle.rtk_survey.specs.declared.survey.CaptureSurvey.{CaptureSurvey}
 use Rattle.rtk_plan.specs.ChosenStation.{observes}
 use Rattle.rtk_plan.specs.StationCaptures.{epochs_heard, station_in}
-use Rattle.rtk_plan.specs.Values.{messages_in_captures, others_in_captures}
+use Rattle.rtk_plan.specs.Values.{held_in_captures, messages_in_captures, others_in_captures, sbas_in_captures}
 use Rattle.rtk_obs.specs.declared.time.TheConstants.{LAST_MS}
+use Rattle.rtk_survey.specs.Telling.{moment_of}
+use Rattle.rtk_survey.specs.declared.date_message.DateMessage.TheVariants.{Utc}
+use Rattle.rtk_survey.specs.declared.date_message.UtcDate.{UtcDate}
+use Rattle.rtk_survey.specs.declared.placing.Placed.{Placed}
+use Rattle.rtk_survey.specs.declared.reference_point.ReferencePoint.{ReferencePoint}
 use Rattle.rtk_survey.specs.declared.tellings.Told.{Told}
 use Rattle.rtk_plan.specs.SaidCommand.{time_text}
 use Rattle.rtk_plan.specs.SpanLine.{date_message_text}
@@ -151,3 +158,107 @@ station_line s station name =
     if observes station s then
     codes " station " ++ decimal station ++ words_and_name (codes " in ") name ++ epochs_text (epochs_heard (station_in station s))
     else []
+
+-- formula
+-- the 1004 of a station that have satellites of SBAS
+abbrev pub sbas_line : List CaptureSurvey → ℕ → List ℕ
+sbas_line ss station = count_line_of (codes " not in the file: SBAS of ") 1004 (sbas_in_captures ss station)
+
+-- formula
+-- a date that is to come, and its capture
+abbrev pub to_come_line : UtcDate → List ℕ → List ℕ
+to_come_line d name =
+    codes " " ++ time_text (moment_of d) ++ date_message_text (Utc d) ++ words_and_name (codes " in ") name
+    ++ codes ": it is after the time of making\n"
+
+-- formula
+-- a stray epoch, and its capture
+abbrev pub stray_line : ℕ → List ℕ → List ℕ
+stray_line epoch name = words_and_name (codes " stray ") name ++ codes " " ++ time_text epoch ++ line_end
+
+-- formula
+-- a command that takes a part of a capture to a file, which is named after the capture
+abbrev pub part_command : List ℕ → ℕ → List ℕ → List ℕ → List ℕ
+part_command command bytes name end =
+    command ++ decimal bytes ++ words_and_name (codes " ") name ++ words_and_name (codes " >") name ++ end
+
+-- formula
+-- the byte at which the second date of a capture begins, and the commands that part it there
+abbrev pub parting_text : List ℕ → ℕ → List ℕ
+parting_text name byte =
+    words_and_name (codes " ") name ++ codes ": the second date begins at byte " ++ decimal byte
+    ++ codes "; these commands part it there:\n"
+    ++ part_command (codes "head -c ") byte name (codes ".1\n") ++ part_command (codes "tail -c +") (min (byte + 1) 18_446_744_073_709_551_615) name (codes ".2\n")
+
+-- ---- what a refusal lists
+
+-- formula
+-- the first and the last of epochs
+abbrev pub from_until : ℕ → ℕ → List ℕ
+from_until from until = codes " " ++ time_text from ++ codes " until " ++ time_text until
+
+-- formula
+-- the epochs of a capture, if they can be written
+abbrev pub reach_line : Placed → ℕ → List ℕ → List ℕ
+reach_line p epochs name =
+    if nat_lt LAST_MS p.from || nat_lt LAST_MS p.until then [] else
+    from_until p.from p.until ++ words_and_name (codes " in ") name ++ epochs_text epochs
+
+abbrev pub is_among : ℕ → ℕ → ℕ → Bool
+is_among first last number = nat_le first number && nat_le number last
+
+-- table
+-- the systems of MSM by their numbers
+-- Source: RTCM 10403.3, message types
+abbrev pub msm_words : ℕ → List ℕ
+msm_words n =
+    if is_among 1071 1077 n then codes " holds GPS " else
+    if is_among 1081 1087 n then codes " holds GLONASS " else
+    if is_among 1091 1097 n then codes " holds Galileo " else
+    if is_among 1101 1107 n then codes " holds SBAS " else
+    if is_among 1111 1117 n then codes " holds QZSS " else
+    if is_among 1121 1127 n then codes " holds BeiDou " else
+    if is_among 1131 1137 n then codes " holds NavIC " else codes " holds "
+
+-- table
+-- the systems of all observation messages
+-- Source: RTCM 10403.3, message types
+abbrev pub system_words : ℕ → List ℕ
+system_words n =
+    if is_among 1001 1004 n then codes " holds GPS " else if is_among 1009 1012 n then codes " holds GLONASS " else msm_words n
+
+-- formula
+-- the messages of a number that captures have
+abbrev pub held_line : List CaptureSurvey → ℕ → List ℕ
+held_line ss n = count_line_of (system_words n) n (held_in_captures ss n)
+
+-- those of all numbers (DF002)
+unfoldable pub held_lines : List CaptureSurvey → List ℕ
+held_lines ss = flat_map (held_line ss) (range_with_len 0 4096)
+
+-- formula
+-- a point and four digits: the part of a whole metre, of a number of 0.0001 m
+abbrev pub point_and_decimals : ℕ → List ℕ
+point_and_decimals n = 46 ∷ (48 + n / 1000 % 10) ∷ (48 + n / 100 % 10) ∷ (48 + n / 10 % 10) ∷ (48 + n % 10) ∷ []
+
+-- formula
+-- a length in 0.0001 m, in metres
+unfoldable pub metres_text : ℕ → List ℕ
+metres_text n = decimal (n / 10_000) ++ point_and_decimals n
+
+-- formula
+-- a coordinate in 0.0001 m, in metres
+unfoldable pub coordinate_text : ℤ → List ℕ
+coordinate_text x = sign_text (is_negative x) ++ metres_text (unsigned_abs x)
+
+-- formula
+abbrev pub coordinate_after_blank : ℤ → List ℕ
+coordinate_after_blank x = codes " " ++ coordinate_text x
+
+abbrev pub coordinates : ReferencePoint → List ℕ
+coordinates p = coordinate_after_blank p.x ++ coordinate_after_blank p.y ++ coordinate_after_blank p.z
+
+-- formula
+-- the position that a capture tells
+abbrev pub position_line : ReferencePoint → List ℕ → List ℕ
+position_line p name = codes " position" ++ coordinates p ++ name_line (codes " in ") name

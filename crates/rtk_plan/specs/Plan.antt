@@ -5,17 +5,19 @@ use Rattle.rtk_message.specs.declared.msm_kind.MsmKind.{MsmKind}
 use Rattle.rtk_obs.specs.declared.code.Code.{Code}
 use Rattle.rtk_obs.specs.AnyCode.{code_of_gps}
 use Rattle.rtk_obs.specs.CivilText.{last_digits}
-use Rattle.rtk_setup.specs.Setup.{SetupView}
+use Rattle.rtk_setup.specs.Setup.{SetupView, all_of}
 use Rattle.rtk_survey.specs.Proposal.{proposed}
-use Rattle.rtk_survey.specs.Placing.{second_of}
 use Rattle.rtk_survey.specs.declared.placing.Placed.{Placed}
 use Rattle.rtk_survey.specs.declared.survey.CaptureSurvey.{CaptureSurvey}
 use Rattle.rtk_plan.specs.ChosenStation.{IsObservedStation, IsOnlyObserved}
-use Rattle.rtk_plan.specs.Reach.{least_of_captures, placed_if_any, reach_after, is_out_of_reach}
+use Rattle.rtk_plan.specs.Reach.{least_told, placed_if_any, reach_after, is_out_of_reach, second_of}
+use Rattle.rtk_plan.specs.declared.span_line.DatedSpan.{DatedSpan}
 use Rattle.rtk_plan.specs.declared.station_capture.StationCapture.{StationCapture}
 use Rattle.rtk_plan.specs.declared.reach.Base.{Base}
 use Rattle.rtk_plan.specs.declared.reach.Base.TheVariants.{Given, Told}
 use Rattle.rtk_plan.specs.StationCaptures.{capture_of}
+use Rattle.rtk_plan.specs.Sources.{dated_span_of}
+use Rattle.rtk_plan.specs.Stray.{strays}
 use Rattle.rtk_plan.specs.Values.{most_epochs, codes_in_captures}
 use Rattle.rtk_plan.specs.declared.wanted.Wanted.{Wanted}
 
@@ -42,7 +44,7 @@ marker_chosen (Some named) station = named
 
 -- the moment near which captures are dated: the one that is given; else the least first epoch that they tell
 abbrev pub IsBaseOf : Option ℕ → List StationCapture → Base → Type 0
-IsBaseOf None cs base = (least : ℕ) × (least_of_captures None cs ≡ Some least) × (base ≡ Told least)
+IsBaseOf None cs base = (least : ℕ) × (least_told cs ≡ Some least) × (base ≡ Told least)
 IsBaseOf (Some near) cs base = base ≡ Given near
 
 -- the epochs of captures that are dated near a base have this reach
@@ -69,17 +71,29 @@ abbrev pub IsNearOf : Option ℕ → List StationCapture → ℕ → Type 0
 IsNearOf given cs near =
     (base : Base) × IsBaseOf given cs base × ((reach : Placed) × IsReachOf base cs reach × (near ≡ second_of reach.first))
 
+-- the captures that have the greatest epoch, if it is more than a day after all others
+abbrev pub AreStrays : Option ℕ → List StationCapture → List ℕ → Type 0
+AreStrays given cs places =
+    (base : Base) × IsBaseOf given cs base × ((reach : Placed) × IsReachOf base cs reach × (places ≡ strays cs (map (placed_if_any base) cs) reach.until))
+
+-- the first and the last epoch of the station, and by what the captures are dated
+abbrev pub IsSpanOf : Option ℕ → List StationCapture → ℕ → DatedSpan → Type 0
+IsSpanOf given cs station span =
+    (base : Base) × IsBaseOf given cs base × ((reach : Placed) × IsReachOf base cs reach × (span ≡ dated_span_of cs base station reach))
+
 -- what captures tell of a station, one after another
 abbrev pub captures_of : List CaptureSurvey → ℕ → List StationCapture
 captures_of ss station = map (capture_of station) ss
 
 -- the setup of a conversion of captures with these surveys on these links, by these words and at this time of
--- making: each value is named or found
+-- making: each value is named or found; the codes are of GPS, so nothing is told of GLONASS
 pub record IsSetupFor (ss : List CaptureSurvey) (links : List (List ℕ)) (w : Wanted) (made : ℕ) (s : SetupView) : Type 0 where
   pub station : IsChosenStation ss w.station s.station
-  pub msm : s.kinds.gps ≡ msm_chosen w.msm ss links s.station
+  pub kinds : s.kinds ≡ all_of (msm_chosen w.msm ss links s.station)
   pub listed : s.head.listed ≡ map code_of_gps (codes_chosen w.codes ss s.station s.kinds.gps)
   pub marker : s.head.marker ≡ marker_chosen w.marker s.station
   pub made_at : s.head.made ≡ made
   pub window : s.window ≡ w.window
+  pub glonass : s.head.glonass ≡ None
+  pub leap_seconds : s.leap_seconds ≡ None
   pub near_by : IsNearOf w.near (captures_of ss s.station) s.near

@@ -1,5 +1,5 @@
 -- The dates of captures that were read (this project's rule).
-use Rattle.std.specs.Prelude.{ℕ, Bool, false, ◌||◌, not, nat_le, min, max, List, [], ◌∷◌, Option, None, Some, if◌then◌else◌}
+use Rattle.std.specs.Prelude.{ℕ, ◌-◌, ◌%◌, Bool, false, ◌||◌, not, nat_le, min, max, List, [], ◌∷◌, Option, None, Some, if◌then◌else◌}
 use Rattle.rtk_obs.specs.declared.time.TheConstants.{LAST_MS}
 use Rattle.rtk_survey.specs.Placing.{least_with_if_any, placed, is_dated_near}
 use Rattle.rtk_survey.specs.declared.placing.Placed.{Placed}
@@ -19,6 +19,19 @@ moment_told (Some t) = if nat_le t.first LAST_MS then Some t.first else None
 abbrev pub least_of_captures : Option ℕ → List StationCapture → Option ℕ
 least_of_captures least [] = least
 least_of_captures least (c ∷ cs) = least_of_captures (least_with_if_any least (moment_told c.told)) cs
+
+-- the least moment that captures without an epoch name, if one does
+abbrev pub least_of_moments : Option ℕ → List StationCapture → Option ℕ
+least_of_moments least [] = least
+least_of_moments least (c ∷ cs) = least_of_moments (least_with_if_any least (moment_told c.moment)) cs
+
+abbrev pub or_least_moment : Option ℕ → List StationCapture → Option ℕ
+or_least_moment None cs = least_of_moments None cs
+or_least_moment (Some first) cs = Some first
+
+-- the least first epoch that captures tell; if none tells one, the least moment that one without an epoch names
+abbrev pub least_told : List StationCapture → Option ℕ
+least_told cs = or_least_moment (least_of_captures None cs) cs
 
 -- ---- the epochs with their dates
 
@@ -53,6 +66,11 @@ reach_with (Some r) (Some p) = Some (joined_reach r p)
 abbrev pub reach_after : Option Placed → List (Option Placed) → Option Placed
 reach_after reach [] = reach
 reach_after reach (p ∷ ps) = reach_after (reach_with reach p) ps
+
+-- formula
+-- the whole second
+abbrev pub second_of : ℕ → ℕ
+second_of t = t - t % 1000
 
 abbrev pub is_wide_if_any : Option Span → Bool
 is_wide_if_any None = false

@@ -1,10 +1,12 @@
 -- What a capture tells of a station, by its survey (this project's rule).
-use Rattle.std.specs.Prelude.{ℕ, ◌+◌, ◌==◌, Bool, false, not, is_some, min, List, [], ◌∷◌, length, Option, None, Some, if◌then◌else◌}
+use Rattle.std.specs.Prelude.{ℕ, ◌+◌, ◌==◌, Bool, false, is_some, min, List, [], ◌∷◌, length, Option, None, Some, unwrap_or, if◌then◌else◌}
 use Rattle.std.specs.BTreeMap.{get}
 use Rattle.std.specs.List.{list_any}
 use Rattle.std.specs.Ordering.{nat_cmp}
-use Rattle.rtk_survey.specs.CaptureDates.{no_dates, counting}
+use Rattle.rtk_survey.specs.CaptureDates.{no_dates, counting, own_moment_of}
+use Rattle.rtk_survey.specs.Parting.{parted_frame}
 use Rattle.rtk_survey.specs.declared.capture_dates.CaptureDates.{CaptureDates}
+use Rattle.rtk_survey.specs.declared.date_message.UtcDate.{UtcDate}
 use Rattle.rtk_survey.specs.declared.reference_point.ReferencePoint.{ReferencePoint}
 use Rattle.rtk_survey.specs.declared.station.StationSurvey.{StationSurvey}
 use Rattle.rtk_survey.specs.declared.survey.CaptureSurvey.{CaptureSurvey}
@@ -17,15 +19,20 @@ use Rattle.rtk_plan.specs.declared.station_capture.StationCapture.{StationCaptur
 abbrev pub station_in : ℕ → CaptureSurvey → Option StationSurvey
 station_in n s = get nat_cmp s.contents.stations n
 
--- a message of the station was read
+-- a message of the station came: with observations or a position, or one that tells a date, an antenna or a
+-- receiver; only such a station has a survey
 abbrev pub is_heard : Option StationSurvey → Bool
-is_heard None = false
-is_heard (Some t) = not (t.counts.messages == 0)
+is_heard t = is_some t
 
--- the reference point of its first 1005 or 1006
+-- its first reference point
 abbrev pub point_of : Option StationSurvey → Option ReferencePoint
 point_of None = None
 point_of (Some t) = t.reference_point
+
+-- the first one that is far from it
+abbrev pub far_point_of : Option StationSurvey → Option ReferencePoint
+far_point_of None = None
+far_point_of (Some t) = t.far_point
 
 abbrev pub is_marked : Bool → Bool
 is_marked mark = mark
@@ -73,6 +80,34 @@ abbrev pub first_told : List Told → Option Told
 first_told [] = None
 first_told (t ∷ ts) = Some t
 
+-- the moment that a capture without an epoch names, if no other station is known in it
+abbrev pub moment_for : ℕ → Option TargetSurvey → Option Told
+moment_for n None = None
+moment_for n (Some t) = if unwrap_or t.dates.station n == n then own_moment_of t.present n t.dates.capture else None
+
+abbrev pub moment_in : ℕ → CaptureSurvey → Option Told
+moment_in n s = moment_for n s.contents.target
+
+-- a capture that has nothing of the station names no moment
+abbrev pub moment_if_heard : Bool → Option Told → Option Told
+moment_if_heard heard moment = if heard then moment else None
+
+-- how many frames come before the place at which a second date of the station begins
+abbrev pub parting_for : ℕ → Option TargetSurvey → Option ℕ
+parting_for n None = None
+parting_for n (Some t) = if is_station n t.dates.station then parted_frame t.parting else None
+
+abbrev pub parting_in : ℕ → CaptureSurvey → Option ℕ
+parting_in n s = parting_for n s.contents.target
+
+-- the first date that is passed over since it is to come
+abbrev pub to_come_for : Option TargetSurvey → Option UtcDate
+to_come_for None = None
+to_come_for (Some t) = t.to_come
+
+abbrev pub to_come_in : CaptureSurvey → Option UtcDate
+to_come_in s = to_come_for s.contents.target
+
 -- ---- all of it
 
 abbrev pub capture_of : ℕ → CaptureSurvey → StationCapture
@@ -80,7 +115,10 @@ capture_of n s = record {
   look = s.look;
   is_heard = is_heard (station_in n s);
   point = point_of (station_in n s);
+  far_point = far_point_of (station_in n s);
   span = (dates_in n s).span;
   told = first_told (told_in n s);
   dates = length (told_in n s);
+  moment = moment_if_heard (is_heard (station_in n s)) (moment_in n s);
+  parting = parting_in n s;
 }

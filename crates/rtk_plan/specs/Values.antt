@@ -1,5 +1,6 @@
 -- The values of the conversion of a station, by the surveys of its captures (this project's rule).
 use Rattle.std.specs.Prelude.{ℕ, ◌+◌, ◌-◌, ◌==◌, Bool, false, List, [], ◌∷◌, filter, slice_get, max, Option, None, Some, if◌then◌else◌}
+use Rattle.std.specs.BTreeMap.{values}
 use Rattle.std.specs.List.{list_any, sum_by}
 use Rattle.rtk_message.specs.declared.msm_kind.MsmKind.{MsmKind}
 use Rattle.rtk_obs.specs.declared.code.Code.{Code}
@@ -87,6 +88,37 @@ messages_of_station kind (Some t) = (msm_part t.msm kind).messages
 abbrev pub messages_in_captures : List CaptureSurvey → ℕ → MsmKind → ℕ
 messages_in_captures ss n kind = shown_count (sum_by (λ s. messages_of_station kind (station_in n s)) ss)
 
+abbrev pub sbas_of_station : Option StationSurvey → ℕ
+sbas_of_station None = 0
+sbas_of_station (Some t) = t.counts.sbas_1004
+
+-- how many 1004 of a station captures have in which there is a satellite of SBAS
+abbrev pub sbas_in_captures : List CaptureSurvey → ℕ → ℕ
+sbas_in_captures ss n = shown_count (sum_by (λ s. sbas_of_station (station_in n s)) ss)
+
 -- how many messages of a number that is not read captures have
 abbrev pub others_in_captures : List CaptureSurvey → ℕ → ℕ
 others_in_captures ss number = shown_count (sum_by (λ s. count_at s.contents.unread.others number) ss)
+
+-- table
+-- how many messages of a number that is read a station has
+abbrev pub read_of_station : ℕ → StationSurvey → ℕ
+read_of_station number t =
+    if number == 1004 then t.counts.obs_1004 else
+    if number == 1005 then t.counts.arp_1005 else
+    if number == 1006 then t.counts.arp_1006 else
+    if number == 1074 then t.msm.msm4.messages else
+    if number == 1075 then t.msm.msm5.messages else
+    if number == 1076 then t.msm.msm6.messages else
+    if number == 1077 then t.msm.msm7.messages else 0
+
+-- how many such messages a capture has, of all stations
+abbrev pub read_in_capture : ℕ → CaptureSurvey → ℕ
+read_in_capture number s = shown_count (sum_by (read_of_station number) (values s.contents.stations))
+
+abbrev pub read_in_captures : List CaptureSurvey → ℕ → ℕ
+read_in_captures ss number = shown_count (sum_by (read_in_capture number) ss)
+
+-- how many messages of a number captures have, whether they are read or not
+abbrev pub held_in_captures : List CaptureSurvey → ℕ → ℕ
+held_in_captures ss number = shown_count (others_in_captures ss number + read_in_captures ss number)

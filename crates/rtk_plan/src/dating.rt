@@ -1,12 +1,13 @@
 //! The dates of the captures that are converted.
 
-ghost use Rattle.std.specs.Prelude.{◌≡◌, ◌<◌, false, map, IfOk, IfErr};
+ghost use Rattle.std.specs.Prelude.{◌≡◌, ◌<◌, true, false, None, map, IfOk, IfErr, IfSome};
 ghost use Rattle.std.specs.List.{list_any};
-ghost use Rattle.rtk_plan.specs.Causes.{IfRefused, IsReachCause, IsDatingCause, has_several_dates, has_week, is_dated_by_week, is_dated_by_day, is_told_later, have_week_and_day};
-ghost use Rattle.rtk_plan.specs.Plan.{IsBaseOf, IsReachOf, IsNearOf, ArePlaced, some_out_of_reach};
-ghost use Rattle.rtk_plan.specs.Reach.{placed_if_any};
+ghost use Rattle.rtk_plan.specs.Causes.{IfRefused, IsReachCause, IsDatingCause, IsPartedAt, has_several_dates, has_week, is_dated_by_week, is_dated_by_day, is_told_later, have_week_and_day};
+ghost use Rattle.rtk_plan.specs.Plan.{IsBaseOf, IsReachOf, IsNearOf, ArePlaced, AreStrays, IsSpanOf, some_out_of_reach};
+ghost use Rattle.rtk_plan.specs.Reach.{placed_if_any, second_of};
+ghost use Rattle.rtk_plan.specs.Sources as sources;
+ghost use Rattle.rtk_plan.specs.Stray.{strays};
 ghost use Rattle.rtk_obs.specs.declared.time.TheConstants.{LAST_MS};
-ghost use Rattle.rtk_survey.specs.Placing.{second_of};
 ghost use Rattle.rtk_survey.specs.declared.placing.Placed.{Placed};
 
 use crate::captures::StationCaptures;
@@ -14,9 +15,10 @@ use crate::reach::{Base, is_out_of_reach, least_told, near_of, place_captures, r
 use crate::refusal::{PlanFault, Refusal, refused};
 use crate::span_line::{DateSource, DatedSpan};
 use crate::station_capture::StationCapture;
+use crate::stray::strays;
 use rtk_obs::{GpsMs, HALF_WEEK_MS};
 use rtk_setup::Reference;
-use rtk_survey::{DateMessage, Placed};
+use rtk_survey::{DateMessage, Placed, Told};
 use std::alloc::Global;
 
 /// The epochs of captures with their dates.
@@ -26,6 +28,8 @@ pub(crate) struct Dating {
     /// The moment near which a conversion dates them.
     pub(crate) near: GpsMs,
     pub(crate) span: DatedSpan,
+    /// The places of the captures with a stray epoch.
+    pub(crate) strays: Vec<usize>,
 }
 
 fn have_differing_dates(captures: &[StationCapture]) -> bool
@@ -98,6 +102,29 @@ fn have_week_and_day(captures: &[StationCapture], least: GpsMs) -> bool
         && is_one_told_later(captures, least)
 }
 
+// The first capture in which a second date of the station begins, with how many frames come before it.
+fn first_parted(captures: &[StationCapture]) -> Option<(usize, u64)>
+    ensures { IfSome result (λ found. IsPartedAt captures.now found.0 found.1) }
+{
+    for (place, capture) in captures.iter().enumerate() {
+        if let Some(frame) = capture.parting {
+            return Some((place, frame));
+        }
+    }
+    None
+}
+
+// Why captures are refused that tell dates that differ: one is to be parted, or a date is to be chosen.
+fn refusal_of_dates(captures: &[StationCapture]) -> Refusal
+    requires { list_any has_several_dates captures.now ≡ true }
+    ensures { IsDatingCause None captures.now result }
+{
+    match first_parted(captures) {
+        Some((capture, frame)) => Refusal::TwoDates { capture, frame },
+        None => Refusal::DatesDiffer,
+    }
+}
+
 // The moment near which the captures are dated.
 fn base(
     alloc: Global,
@@ -112,19 +139,21 @@ fn base(
         return Ok(Base::Given(near.moment()));
     }
     if have_differing_dates(captures) {
-        return refused(Refusal::DatesDiffer, captured.list_dates(alloc)?);
+        return refused(refusal_of_dates(captures), captured.list_dates(alloc)?);
     }
     match least_told(captures) {
         Some(least) if have_week_and_day(captures, least) => {
             refused(Refusal::DatesDiffer, captured.list_told(alloc)?)
         }
         Some(least) => Ok(Base::Told(least)),
-        None => refused(Refusal::NoDate, Vec::new(alloc)),
+        None => refused(Refusal::NoDate, captured.all.list_to_come(alloc)?),
     }
 }
 
 // By what a message dates this station.
-fn source_of_message(message: DateMessage, station: u16) -> DateSource {
+fn source_of_message(message: DateMessage, station: u16) -> DateSource
+    ensures { result ≡ sources.source_of_message message station }
+{
     match message {
         DateMessage::Utc(date) if date.station == station => DateSource::Station(date.number),
         DateMessage::Utc(date) => DateSource::OtherStation(date.number, date.station),
@@ -132,19 +161,72 @@ fn source_of_message(message: DateMessage, station: u16) -> DateSource {
     }
 }
 
-// By what the captures are dated: the message that told the least first epoch.
-fn source_of(captures: &[StationCapture], base: Base, station: u16) -> DateSource {
-    let Base::Told(least) = base else {
-        return DateSource::Words;
-    };
+// The message that told this moment, if one did.
+fn message_at(moment: GpsMs, told: Option<Told>) -> Option<DateMessage>
+    ensures { result ≡ sources.message_at moment told }
+{
+    match told {
+        Some(told) if told.first == moment.ms() => Some(told.message),
+        _ => None,
+    }
+}
+
+fn or_message(found: Option<DateMessage>, other: Option<DateMessage>) -> Option<DateMessage>
+    ensures { result ≡ sources.or_message found other }
+{
+    match found {
+        Some(message) => Some(message),
+        None => other,
+    }
+}
+
+// The message that told the least first epoch.
+fn first_message(captures: &[StationCapture], least: GpsMs) -> Option<DateMessage>
+    ensures { result ≡ sources.first_message None least captures.now }
+{
+    let mut found = None;
     for capture in captures {
-        if let Some(told) = capture.told {
-            if told.first == least.ms() {
-                return source_of_message(told.message, station);
-            }
+        found = or_message(found, message_at(least, capture.told));
+    }
+    found
+}
+
+// The same, or else the message that names the least moment.
+fn first_of_moments(
+    captures: &[StationCapture],
+    least: GpsMs,
+    first: Option<DateMessage>,
+) -> Option<DateMessage>
+    ensures { result ≡ sources.first_of_moments first least captures.now }
+{
+    let mut found = first;
+    for capture in captures {
+        found = or_message(found, message_at(least, capture.moment));
+    }
+    found
+}
+
+fn source_if_any(message: Option<DateMessage>, station: u16) -> DateSource
+    ensures { result ≡ sources.source_if_any message station }
+{
+    match message {
+        Some(message) => source_of_message(message, station),
+        None => DateSource::Words,
+    }
+}
+
+// By what the captures are dated: the message that told the least first epoch, or else the one that names the
+// least moment.
+fn source_of(captures: &[StationCapture], base: Base, station: u16) -> DateSource
+    ensures { result ≡ sources.source_of captures.now base station }
+{
+    match base {
+        Base::Given(_) => DateSource::Words,
+        Base::Told(least) => {
+            let first = first_message(captures, least);
+            source_if_any(first_of_moments(captures, least, first), station)
         }
     }
-    DateSource::Words
 }
 
 // The moment, if it can be written.
@@ -181,6 +263,10 @@ fn dating_by(
         × (d.near ≡ second_of reach.first)) }
     ensures placed { IfOk result (λ d. d.placed.items ≡ map (placed_if_any base) captured.now.captures.now) }
     ensures in_reach { IfOk result (λ d. some_out_of_reach d.near captured.now.captures.now d.placed.items ≡ false) }
+    ensures strays { IfOk result (λ d. (reach : Placed) × IsReachOf base captured.now.captures.now reach
+        × (d.strays.items ≡ strays captured.now.captures.now (map (placed_if_any base) captured.now.captures.now) reach.until)) }
+    ensures span { IfOk result (λ d. (reach : Placed) × IsReachOf base captured.now.captures.now reach
+        × (d.span ≡ sources.dated_span_of captured.now.captures.now base captured.now.station reach)) }
     ensures refused { IfErr result (IfRefused (IsReachCause base captured.now.captures.now)) }
 {
     let captures = captured.captures;
@@ -193,12 +279,18 @@ fn dating_by(
         let reaches = captured.list_reaches(alloc, placed.as_slice())?;
         return refused(Refusal::TooLong, reaches);
     }
+    let strays = strays(alloc, captures, placed.as_slice(), reach.until)?;
     let span = DatedSpan {
         from: moment(alloc, reach.from)?,
         until: moment(alloc, reach.until)?,
         source: source_of(captures, base, captured.station),
     };
-    Ok(Dating { placed, near, span })
+    Ok(Dating {
+        placed,
+        near,
+        span,
+        strays,
+    })
 }
 
 /// The dates of the captures that are converted: as they tell them, or near a moment that is given.
@@ -210,6 +302,8 @@ pub(crate) fn date_captures(
     ensures near { IfOk result (λ d. IsNearOf near captured.now.captures.now d.near) }
     ensures placed { IfOk result (λ d. ArePlaced near captured.now.captures.now d.placed.items) }
     ensures in_reach { IfOk result (λ d. some_out_of_reach d.near captured.now.captures.now d.placed.items ≡ false) }
+    ensures strays { IfOk result (λ d. AreStrays near captured.now.captures.now d.strays.items) }
+    ensures span { IfOk result (λ d. IsSpanOf near captured.now.captures.now captured.now.station d.span) }
     ensures refused { IfErr result (IfRefused (IsDatingCause near captured.now.captures.now)) }
 {
     let captures = captured.captures;

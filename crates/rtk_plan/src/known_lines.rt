@@ -1,207 +1,57 @@
 //! What a person should know of a conversion that is done.
+//!
+//! If memory is refused, a first part of what is put may stand there.
 
-ghost use Rattle.std.specs.Prelude.{◌≡◌, ◌++◌, OnOk};
+ghost use Rattle.std.specs.Prelude.{◌≡◌, ◌++◌, IfOk, OnOk};
 ghost use Rattle.rtk_plan.specs.KnownLines as spec;
+ghost use Rattle.rtk_plan.specs.Linking.{places_of};
 
+use crate::capture_lines::{put_epochs, put_other_dates, put_skipped, put_strays, put_undated};
 use crate::captures::Captures;
-use crate::few_phases::CapturePhases;
-use crate::lists::{
-    put_capture_line, put_date_line, put_doppler, put_msms, put_name_line, put_undated_line,
-    put_unread,
-};
+use crate::message_lines::{put_doppler, put_msms, put_sbas, put_unread};
+use crate::phase_lines::put_few_phases_in;
 use crate::planning::Plan;
 use crate::positions::put_no_position;
+use crate::reported::Reported;
 use crate::span_line::{DateSource, DatedSpan, put_span};
-use crate::station_capture::{StationCapture, passed_over_in, span_in, told_in};
 use crate::texts_left_out::put_texts_left_out;
-use crate::written_file::WrittenFile;
-use rtk_message::{System, put_named};
-use rtk_obs::{ALL_CODES, GpsMs};
+use crate::written_file::{Step, WrittenFile};
+use rtk_message::{MsmKind, put_named};
 use rtk_setup::{Counts, Setup};
-use rtk_survey::{CaptureEpochs, CaptureSurvey, Equipment, Span, Told, place};
+use rtk_survey::{CaptureSurvey, Equipment};
 use std::alloc::{AllocError, Global};
 
-// Is this another first epoch than a conversion near this moment gives a capture with these epochs?
-fn is_told_otherwise(near: GpsMs, told: &Told, span: &Span) -> bool
-    ensures { result ≡ spec.is_told_otherwise near span.now told.now }
+// Appends how many late messages came on a link with a stray epoch.
+fn put_late_by_stray(lines: &mut Vec<u8>, count: u64) -> Result<(), AllocError>
+    ensures { OnOk result (lines.new.items ≡ lines.old.items ++ spec.late_by_stray count) }
 {
-    let epochs = CaptureEpochs {
-        told: None,
-        span: *span,
-    };
-    told.first != place(near, &epochs).first
-}
-
-// Appends a date, if it is another first epoch than a conversion near this moment gives the capture.
-fn put_other_date(
-    lines: &mut Vec<u8>,
-    near: GpsMs,
-    span: &Span,
-    name: &str,
-    told: &Told,
-) -> Result<(), AllocError>
-    ensures { OnOk result (lines.new.items ≡ lines.old.items ++ spec.other_date_line near span.now name.now told.now) }
-{
-    if !is_told_otherwise(near, told, span) {
+    if count == 0 {
         return Ok(());
     }
-    lines.extend_from_slice(b" other-date")?;
-    put_date_line(lines, told, name)
-}
-
-fn put_those_of(
-    lines: &mut Vec<u8>,
-    near: GpsMs,
-    span: &Span,
-    name: &str,
-    dates: &[Told],
-) -> Result<(), AllocError>
-    ensures { OnOk result (lines.new.items ≡ lines.old.items ++ spec.other_date_lines near span.now name.now dates.now) }
-{
-    for told in dates {
-        put_other_date(lines, near, span, name, told)?;
-    }
+    put_named(lines, b", ", count)?;
+    lines.extend_from_slice(b" of them on a link with the stray epoch")?;
     Ok(())
 }
 
-// Appends the dates of a capture that tell another first epoch than the conversion gives it: those by the
-// messages that date, and those by 1019 beside them.
-fn put_other_dates_of(
-    lines: &mut Vec<u8>,
-    survey: &CaptureSurvey,
-    setup: &Setup,
-    span: &Span,
-    name: &str,
-) -> Result<(), AllocError>
-    ensures { OnOk result (lines.new.items ≡ lines.old.items
-        ++ spec.other_dates setup.now.station setup.now.near span.now survey.now name.now) }
-{
-    let (station, near) = (setup.station(), setup.near());
-    put_those_of(lines, near, span, name, told_in(station, survey))?;
-    put_those_of(lines, near, span, name, passed_over_in(station, survey))
-}
-
-// Appends the dates of all captures that tell another first epoch than the conversion gives them.
-fn put_other_dates(
-    lines: &mut Vec<u8>,
-    captures: &Captures<'_, '_>,
-    plan: &Plan,
-) -> Result<(), AllocError> {
-    for (at, survey) in captures.surveys.iter().enumerate() {
-        let setup = &plan.setup;
-        if let Some(span) = span_in(setup.station(), survey) {
-            put_other_dates_of(lines, survey, setup, &span, captures.name(at))?;
-        }
-    }
-    Ok(())
-}
-
-// Has a capture epochs, and does it tell no date?
-fn is_undated(capture: &StationCapture) -> bool
-    ensures { result ≡ spec.is_undated capture.now }
-{
-    capture.span.is_some() && capture.told.is_none()
-}
-
-// Appends the captures that are dated near the others.
-fn put_undated(
-    lines: &mut Vec<u8>,
-    captures: &Captures<'_, '_>,
-    plan: &Plan,
-) -> Result<(), AllocError> {
-    if plan.span.source == DateSource::Words {
-        return Ok(());
-    }
-    for (at, capture) in plan.captures.iter().enumerate() {
-        if is_undated(capture) {
-            put_undated_line(lines, captures.name(at))?;
-        }
-    }
-    Ok(())
-}
-
-// Appends the codes that have few phases.
-fn put_few_phases(
-    lines: &mut Vec<u8>,
-    captures: &Captures<'_, '_>,
-    setup: &Setup,
-) -> Result<(), AllocError> {
-    let phases = CapturePhases {
-        surveys: captures.surveys,
-        station: setup.station(),
-        msm: setup.kinds().gps,
-    };
-    for listed in setup.head().codes() {
-        if listed.system() != System::Gps {
-            continue;
-        }
-        let code = ALL_CODES[listed.place()];
-        if phases.has_few(code) {
-            lines.extend_from_slice(b" few-phases ")?;
-            lines.extend_from_slice(&code.name())?;
-            lines.extend_from_slice(
-                b": its satellites have more than twice as many in another code\n",
-            )?;
-        }
-    }
-    Ok(())
-}
-
-// Appends how many messages were late.
+// Appends how many messages were late, and how many of them because of a stray epoch.
 #[tactic(auto, unfolding(crate::specs::KnownLines::late_count_line))]
-fn put_late(lines: &mut Vec<u8>, late: u64, window: usize) -> Result<(), AllocError>
-    ensures { OnOk result (lines.new.items ≡ lines.old.items ++ spec.late_count_line late window) }
+fn put_late(lines: &mut Vec<u8>, late: u64, by_stray: u64, window: usize) -> Result<(), AllocError>
+    ensures { OnOk result (lines.new.items ≡ lines.old.items ++ spec.late_count_line late by_stray window) }
 {
     if late == 0 {
         return Ok(());
     }
     put_named(lines, b" late ", late)?;
-    put_named(lines, b": messages after ", window as u64)?;
-    lines.extend_from_slice(b" newer epochs are left out\n")
-}
-
-// Appends the captures that are left out.
-fn put_skipped(
-    lines: &mut Vec<u8>,
-    captures: &Captures<'_, '_>,
-    plan: &Plan,
-) -> Result<(), AllocError> {
-    for place in &plan.skipped {
-        if let Some(capture) = plan.captures.get(*place) {
-            put_capture_line(lines, b" skipped ", captures.name(*place), capture.look)?;
-        }
-    }
+    put_named(lines, b": observations after ", window as u64)?;
+    put_named(
+        lines,
+        b" newer epochs, and new positions after ",
+        window as u64,
+    )?;
+    lines.extend_from_slice(b" epochs, are left out")?;
+    put_late_by_stray(lines, by_stray)?;
+    lines.extend_from_slice(b"\n")?;
     Ok(())
-}
-
-// Appends the captures without an epoch of the station, and those whose epochs fall.
-fn put_epochs(
-    lines: &mut Vec<u8>,
-    captures: &Captures<'_, '_>,
-    plan: &Plan,
-) -> Result<(), AllocError> {
-    for link in &plan.links {
-        for place in link {
-            put_epochs_of(lines, captures, plan, *place)?;
-        }
-    }
-    Ok(())
-}
-
-fn put_epochs_of(
-    lines: &mut Vec<u8>,
-    captures: &Captures<'_, '_>,
-    plan: &Plan,
-    place: usize,
-) -> Result<(), AllocError> {
-    let Some(capture) = plan.captures.get(place) else {
-        return Ok(());
-    };
-    match capture.span {
-        None => put_name_line(lines, b" no-epoch ", captures.name(place)),
-        Some(span) if span.falls => { put_name_line(lines, b" time-falls ", captures.name(place)) }
-        Some(_) => Ok(()),
-    }
 }
 
 /// What a person should know of a conversion, but for late messages, which are known only once it is
@@ -216,45 +66,171 @@ pub struct Known {
     window: usize,
     /// By what the epochs are dated.
     source: DateSource,
+    /// The places of the links that have a stray epoch.
+    stray_links: Vec<usize>,
 }
 
-/// What a person should know of a conversion, a line each, only where it is so: captures that are dated near the others; a date that is told and does not count; codes with few phases; texts that messages told and
-/// that a label does not have; captures that are left out, that have no epoch or whose time falls; and
-/// observations that are not taken.
+// Is a place among these?
+fn is_one_of(places: &[usize], place: usize) -> bool
+    ensures { result ≡ spec.is_one_of places.now place }
+{
+    places.iter().any(|other| *other == place)
+}
+
+// Has a link a capture at one of these places?
+fn has_one_of(link: &[usize], places: &[usize]) -> bool
+    ensures { result ≡ spec.has_one_of places.now link.now }
+{
+    link.iter().any(|place| is_one_of(places, *place))
+}
+
+// The places of the links with a stray epoch.
+fn links_with_strays(
+    alloc: Global,
+    links: &[Vec<usize>],
+    strays: &[usize],
+) -> Result<Vec<usize>, AllocError>
+    ensures { IfOk result (λ found. found.items ≡ spec.links_with_strays (places_of links.now) strays.now) }
+{
+    let mut found = Vec::new(alloc);
+    for (place, link) in links.iter().enumerate() {
+        if has_one_of(link.as_slice(), strays) {
+            found.push(place)?;
+        }
+    }
+    Ok(found)
+}
+
+// How many late messages a report lists on these links.
+fn late_on_links(reported: &Reported, links: &[usize]) -> u64
+    ensures { result ≡ spec.late_on_links reported.now links.now }
+{
+    let mut count = 0u64;
+    for link in links {
+        count = count.saturating_add(reported.late_of(*link));
+    }
+    count
+}
+
+// Appends what a person should know before the line of late messages.
+#[tactic(auto, unfolding(crate::specs::KnownLines::lines_before_late))]
+fn put_first_lines(
+    lines: &mut Vec<u8>,
+    captures: &Captures<'_, '_>,
+    plan: &Plan,
+    told: &Equipment,
+) -> Result<(), AllocError>
+    ensures { OnOk result (lines.new.items ≡ lines.old.items
+        ++ spec.lines_before_late captures.now.names.now captures.now.surveys.now plan.now told.now) }
+{
+    put_undated(lines, captures, plan)?;
+    put_other_dates(lines, captures, &plan.setup)?;
+    put_few_phases_in(lines, captures.surveys, &plan.setup)?;
+    put_texts_left_out(lines, told)?;
+    put_strays(lines, captures, plan.span.until, plan.strays.as_slice())?;
+    Ok(())
+}
+
+// Appends the observations that are not taken.
+#[tactic(auto, unfolding(crate::specs::KnownLines::not_taken))]
+fn put_not_taken(
+    lines: &mut Vec<u8>,
+    surveys: &[CaptureSurvey],
+    station: u16,
+    msm: MsmKind,
+) -> Result<(), AllocError>
+    ensures { OnOk result (lines.new.items ≡ lines.old.items ++ spec.not_taken surveys.now station msm) }
+{
+    put_msms(lines, surveys, station, msm)?;
+    put_doppler(lines, surveys, station, msm)?;
+    put_sbas(lines, surveys, station)?;
+    put_unread(lines, surveys)?;
+    Ok(())
+}
+
+// Appends the observations that a conversion does not take.
+fn put_not_taken_in(
+    lines: &mut Vec<u8>,
+    surveys: &[CaptureSurvey],
+    setup: &Setup,
+) -> Result<(), AllocError>
+    ensures { OnOk result (lines.new.items ≡ lines.old.items
+        ++ spec.not_taken surveys.now setup.now.station setup.now.kinds.gps) }
+{
+    put_not_taken(lines, surveys, setup.station(), setup.kinds().gps)?;
+    Ok(())
+}
+
+// Appends the captures of a plan that are left out, and those that have no epoch or whose epochs fall.
+fn put_captures_in(
+    lines: &mut Vec<u8>,
+    captures: &Captures<'_, '_>,
+    plan: &Plan,
+) -> Result<(), AllocError>
+    ensures { OnOk result (lines.new.items ≡ lines.old.items
+        ++ (spec.skipped_lines captures.now.names.now plan.now.captures.items plan.now.skipped.items
+        ++ spec.epochs_lines captures.now.names.now plan.now.captures.items (places_of plan.now.links.items))) }
+{
+    let told = plan.captures.as_slice();
+    put_skipped(lines, captures, told, plan.skipped.as_slice())?;
+    put_epochs(lines, captures, told, plan.links.as_slice())?;
+    Ok(())
+}
+
+// Appends what a person should know behind the line of late messages.
+#[tactic(auto, unfolding(crate::specs::KnownLines::lines_behind_late))]
+fn put_last_lines(
+    lines: &mut Vec<u8>,
+    captures: &Captures<'_, '_>,
+    plan: &Plan,
+) -> Result<(), AllocError>
+    ensures { OnOk result (lines.new.items ≡ lines.old.items
+        ++ spec.lines_behind_late captures.now.names.now captures.now.surveys.now plan.now) }
+{
+    put_captures_in(lines, captures, plan)?;
+    put_not_taken_in(lines, captures.surveys, &plan.setup)?;
+    Ok(())
+}
+
+/// What a person should know of a conversion, a line each, only where it is so: captures that are dated near
+/// the others; a date that is told and does not count; codes with few phases; texts that messages told and that
+/// a label does not have; captures with a stray epoch, that are left out, that have no epoch or whose time falls;
+/// and observations that are not taken.
 pub fn what_is_known(
     alloc: Global,
     captures: &Captures<'_, '_>,
     plan: &Plan,
     told: &Equipment,
-) -> Result<Known, AllocError> {
-    let setup = &plan.setup;
-    let surveys = captures.surveys;
+) -> Result<Known, AllocError>
+    ensures first { IfOk result (λ known. known.first.items ≡ spec.lines_before_late captures.now.names.now captures.now.surveys.now plan.now told.now) }
+    ensures last { IfOk result (λ known. known.last.items ≡ spec.lines_behind_late captures.now.names.now captures.now.surveys.now plan.now) }
+    ensures window { IfOk result (λ known. known.window ≡ plan.now.setup.window) }
+    ensures source { IfOk result (λ known. known.source ≡ plan.now.span.source) }
+    ensures strays { IfOk result (λ known. known.stray_links.items ≡ spec.links_with_strays (places_of plan.now.links.items) plan.now.strays.items) }
+{
     let mut first = Vec::new(alloc);
-    put_undated(&mut first, captures, plan)?;
-    put_other_dates(&mut first, captures, plan)?;
-    put_few_phases(&mut first, captures, setup)?;
-    put_texts_left_out(&mut first, told)?;
+    put_first_lines(&mut first, captures, plan, told)?;
     let mut last = Vec::new(alloc);
-    put_skipped(&mut last, captures, plan)?;
-    put_epochs(&mut last, captures, plan)?;
-    put_msms(&mut last, surveys, setup.station(), setup.kinds().gps)?;
-    put_doppler(&mut last, surveys, setup.station(), setup.kinds().gps)?;
-    put_unread(&mut last, surveys)?;
+    put_last_lines(&mut last, captures, plan)?;
+    let strays = plan.strays.as_slice();
     Ok(Known {
         first,
         last,
-        window: setup.window(),
+        window: plan.setup.window(),
         source: plan.span.source,
+        stray_links: links_with_strays(alloc, plan.links.as_slice(), strays)?,
     })
 }
 
 // Appends the epochs of a file, and by what they are dated.
 fn put_span_of(
     lines: &mut Vec<u8>,
-    file: &WrittenFile,
+    span: Option<Step>,
     source: DateSource,
-) -> Result<(), AllocError> {
-    let Some(span) = file.span() else {
+) -> Result<(), AllocError>
+    ensures { OnOk result (lines.new.items ≡ lines.old.items ++ spec.span_line_if_any span source) }
+{
+    let Some(span) = span else {
         return Ok(());
     };
     put_span(
@@ -282,24 +258,34 @@ fn put_conflicts(lines: &mut Vec<u8>, conflicts: u64) -> Result<(), AllocError>
 
 /// Appends what a file has that was written: its epochs, its gaps, that it has no position, and how many
 /// conflicts the report has.
+#[tactic(auto, unfolding(crate::specs::KnownLines::file_lines))]
 pub fn put_file(
     lines: &mut Vec<u8>,
     known: &Known,
     file: &WrittenFile,
-    conflicts: u64,
-) -> Result<(), AllocError> {
-    put_span_of(lines, file, known.source)?;
+    reported: &Reported,
+) -> Result<(), AllocError>
+    ensures { OnOk result (lines.new.items ≡ lines.old.items ++ spec.file_lines known.now.source file.now reported.now.conflicts) }
+{
+    put_span_of(lines, file.span(), known.source)?;
     put_no_position(lines, file.has_position())?;
     file.put_gaps(lines)?;
-    put_conflicts(lines, conflicts)
+    put_conflicts(lines, reported.conflicts())
 }
 
 /// Appends what a person should know of a conversion that is done, with its late messages.
 #[tactic(auto, unfolding(crate::specs::KnownLines::known_lines))]
-pub fn put_known(lines: &mut Vec<u8>, known: &Known, counts: &Counts) -> Result<(), AllocError>
-    ensures { OnOk result (lines.new.items ≡ lines.old.items ++ spec.known_lines known.now counts.now.late) }
+pub fn put_known(
+    lines: &mut Vec<u8>,
+    known: &Known,
+    counts: &Counts,
+    reported: &Reported,
+) -> Result<(), AllocError>
+    ensures { OnOk result (lines.new.items ≡ lines.old.items
+        ++ spec.known_lines known.now counts.now.late (spec.late_on_links reported.now known.now.stray_links.items)) }
 {
     lines.extend_from_slice(known.first.as_slice())?;
-    put_late(lines, counts.late, known.window)?;
+    let by_stray = late_on_links(reported, known.stray_links.as_slice());
+    put_late(lines, counts.late, by_stray, known.window)?;
     lines.extend_from_slice(known.last.as_slice())
 }

@@ -1,6 +1,6 @@
 //! The links of the captures that are converted.
 
-ghost use Rattle.std.specs.Prelude.{◌≡◌, ◌<◌, ◌≤◌, length, map, IfOk, IfErr, IsOk};
+ghost use Rattle.std.specs.Prelude.{◌≡◌, ◌<◌, ◌≤◌, ◌++◌, length, map, IfOk, IfErr, IsOk, OnOk};
 ghost use Rattle.rtk_plan.specs.Causes.{IfRefused, AreTooMany};
 ghost use Rattle.rtk_plan.specs.Linking as spec;
 
@@ -70,13 +70,30 @@ fn joined_links(alloc: Global, ordered: &[Ordered]) -> Result<Vec<Vec<usize>>, A
     Ok(links)
 }
 
+// The last capture of a link.
+fn last_of(link: &[usize]) -> Option<usize>
+    ensures { result ≡ spec.last_of link.now }
+{
+    link.last().copied()
+}
+
+// One place more, if there is one.
+fn put_place(places: &mut Vec<usize>, place: Option<usize>) -> Result<(), AllocError>
+    ensures { OnOk result (places.new.items ≡ places.old.items ++ spec.place_if_any place) }
+{
+    if let Some(place) = place {
+        places.push(place)?;
+    }
+    Ok(())
+}
+
 // The last capture of each link.
-fn last_captures(alloc: Global, links: &[Vec<usize>]) -> Result<Vec<usize>, AllocError> {
+fn last_captures(alloc: Global, links: &[Vec<usize>]) -> Result<Vec<usize>, AllocError>
+    ensures { IfOk result (λ places. places.items ≡ spec.last_captures (spec.places_of links.now)) }
+{
     let mut places = Vec::new(alloc);
     for link in links {
-        if let Some(place) = link.last() {
-            places.push(*place)?;
-        }
+        put_place(&mut places, last_of(link.as_slice()))?;
     }
     Ok(places)
 }

@@ -2,21 +2,18 @@
 //!
 //! If memory is refused, a first part of what is put may stand there.
 
-ghost use Rattle.std.specs.Prelude.{◌≡◌, ◌≤◌, ◌+◌, ◌++◌, OnOk};
+ghost use Rattle.std.specs.Prelude.{◌≡◌, ◌≤◌, ◌++◌, OnOk};
+ghost use Rattle.rtk_obs.specs.declared.time.TheConstants.{LAST_MS};
 ghost use Rattle.rtk_plan.specs.Lists as spec;
 
 use crate::chosen_station::observes;
-use crate::said_command::put_time;
+use crate::said_command::{put_time, put_time_at};
 use crate::span_line::put_message;
 use crate::station_capture::epochs_heard;
-use crate::values::{held_in_captures, messages_in_captures, others_in_captures};
-use rtk_message::{MsmKind, put_named, put_number, put_sh_quoted};
+use rtk_message::{put_named, put_sh_quoted};
 use rtk_obs::{GpsMs, LAST_MS};
-use rtk_survey::{CaptureSurvey, Look, Placed, ReferencePoint, Told};
+use rtk_survey::{CaptureSurvey, DateMessage, Look, Placed, Told, UtcDate, moment_of};
 use std::alloc::AllocError;
-
-/// How many message numbers there are: DF002 has 12 bits.
-const NUMBERS: u16 = 4096;
 
 // Appends a line feed.
 fn end_line(lines: &mut Vec<u8>) -> Result<(), AllocError>
@@ -120,120 +117,6 @@ pub(crate) fn put_capture_line(
     end_line(lines)
 }
 
-/// Appends a line of words, a message number and its count; a count of 0 has no line.
-fn put_count_line(
-    lines: &mut Vec<u8>,
-    words: &[u8],
-    number: u16,
-    count: u64,
-) -> Result<(), AllocError>
-    ensures { OnOk result (lines.new.items ≡ lines.old.items ++ spec.count_line_of words.now number count) }
-{
-    if count == 0 {
-        return Ok(());
-    }
-    put_named(lines, words, u64::from(number))?;
-    put_named(lines, b", ", count)?;
-    lines.extend_from_slice(b" messages\n")
-}
-
-// Appends a line for each number of messages that are not read, of so many numbers from a first one.
-fn put_numbered(
-    lines: &mut Vec<u8>,
-    surveys: &[CaptureSurvey],
-    words: &[u8],
-    first: u16,
-    count: u16,
-) -> Result<(), AllocError>
-    requires { first + count ≤ 4096 }
-    ensures { OnOk result (lines.new.items ≡ lines.old.items ++ spec.unread_lines_from words.now surveys.now first count) }
-{
-    for at in 0..count {
-        let number = first + at;
-        put_count_line(lines, words, number, others_in_captures(surveys, number))?;
-    }
-    Ok(())
-}
-
-// Appends the lines of GPS observations that are not read.
-fn put_unread_gps(lines: &mut Vec<u8>, surveys: &[CaptureSurvey]) -> Result<(), AllocError>
-    ensures { OnOk result (lines.new.items ≡ lines.old.items ++ spec.unread_gps surveys.now) }
-{
-    put_numbered(lines, surveys, b" not in the file: GPS ", 1001, 3)?;
-    put_numbered(lines, surveys, b" not in the file: GPS ", 1071, 3)?;
-    Ok(())
-}
-
-// Appends the lines of observations of GLONASS, Galileo and SBAS.
-fn put_unread_glonass_to_sbas(
-    lines: &mut Vec<u8>,
-    surveys: &[CaptureSurvey],
-) -> Result<(), AllocError>
-    ensures { OnOk result (lines.new.items ≡ lines.old.items ++ spec.unread_glonass_to_sbas surveys.now) }
-{
-    put_numbered(lines, surveys, b" not in the file: GLONASS ", 1009, 4)?;
-    put_numbered(lines, surveys, b" not in the file: GLONASS ", 1081, 7)?;
-    put_numbered(lines, surveys, b" not in the file: Galileo ", 1091, 7)?;
-    put_numbered(lines, surveys, b" not in the file: SBAS ", 1101, 7)?;
-    Ok(())
-}
-
-// Appends the lines of observations of QZSS, BeiDou and NavIC.
-fn put_unread_qzss_to_navic(
-    lines: &mut Vec<u8>,
-    surveys: &[CaptureSurvey],
-) -> Result<(), AllocError>
-    ensures { OnOk result (lines.new.items ≡ lines.old.items ++ spec.unread_qzss_to_navic surveys.now) }
-{
-    put_numbered(lines, surveys, b" not in the file: QZSS ", 1111, 7)?;
-    put_numbered(lines, surveys, b" not in the file: BeiDou ", 1121, 7)?;
-    put_numbered(lines, surveys, b" not in the file: NavIC ", 1131, 7)?;
-    Ok(())
-}
-
-/// Appends the lines of observations that are not read: of GPS and of other systems.
-pub(crate) fn put_unread(lines: &mut Vec<u8>, surveys: &[CaptureSurvey]) -> Result<(), AllocError>
-    ensures { OnOk result (lines.new.items ≡ lines.old.items ++ spec.all_unread surveys.now) }
-{
-    put_unread_gps(lines, surveys)?;
-    put_unread_glonass_to_sbas(lines, surveys)?;
-    put_unread_qzss_to_navic(lines, surveys)?;
-    Ok(())
-}
-
-// Appends the line of an MSM that is not taken, if there is a message of it.
-fn put_msm(
-    lines: &mut Vec<u8>,
-    surveys: &[CaptureSurvey],
-    station: u16,
-    taken: MsmKind,
-    msm: MsmKind,
-) -> Result<(), AllocError>
-    ensures { OnOk result (lines.new.items ≡ lines.old.items ++ spec.msm_line taken surveys.now station msm) }
-{
-    if msm.number() == taken.number() {
-        return Ok(());
-    }
-    let count = messages_in_captures(surveys, station, msm);
-    put_count_line(lines, b" not in the file: GPS ", msm.number(), count)
-}
-
-/// Appends the lines of the MSM of a station that are not taken.
-pub(crate) fn put_msms(
-    lines: &mut Vec<u8>,
-    surveys: &[CaptureSurvey],
-    station: u16,
-    taken: MsmKind,
-) -> Result<(), AllocError>
-    ensures { OnOk result (lines.new.items ≡ lines.old.items ++ spec.msm_lines taken surveys.now station) }
-{
-    put_msm(lines, surveys, station, taken, MsmKind::Msm4)?;
-    put_msm(lines, surveys, station, taken, MsmKind::Msm5)?;
-    put_msm(lines, surveys, station, taken, MsmKind::Msm6)?;
-    put_msm(lines, surveys, station, taken, MsmKind::Msm7)?;
-    Ok(())
-}
-
 /// Appends the line of a station in a capture, if it has observations there.
 pub(crate) fn put_station_line(
     lines: &mut Vec<u8>,
@@ -259,78 +142,89 @@ fn put_epochs(lines: &mut Vec<u8>, epochs: u64) -> Result<(), AllocError>
     lines.extend_from_slice(b" epochs\n")
 }
 
+// Appends the first and the last of epochs.
+fn put_from_until(lines: &mut Vec<u8>, from: u64, until: u64) -> Result<(), AllocError>
+    requires { (from ≤ LAST_MS) × (until ≤ LAST_MS) }
+    ensures { OnOk result (lines.new.items ≡ lines.old.items ++ spec.from_until from until) }
+{
+    lines.push(b' ')?;
+    put_time_at(lines, from)?;
+    lines.extend_from_slice(b" until ")?;
+    put_time_at(lines, until)
+}
+
 /// Appends the line of the epochs of a capture, if they can be written.
 pub(crate) fn put_reach_line(
     lines: &mut Vec<u8>,
     reach: &Placed,
     epochs: u64,
     name: &str,
-) -> Result<(), AllocError> {
-    let (Some(from), Some(until)) = (GpsMs::new(reach.from), GpsMs::new(reach.until)) else {
+) -> Result<(), AllocError>
+    ensures { OnOk result (lines.new.items ≡ lines.old.items ++ spec.reach_line reach.now epochs name.now) }
+{
+    if LAST_MS < reach.from || LAST_MS < reach.until {
         return Ok(());
-    };
-    lines.push(b' ')?;
-    put_time(lines, from)?;
-    lines.extend_from_slice(b" until ")?;
-    put_time(lines, until)?;
+    }
+    put_from_until(lines, reach.from, reach.until)?;
     put_words_and_name(lines, b" in ", name)?;
     put_epochs(lines, epochs)
 }
 
-/// Appends a line for each number of messages that captures have.
-pub(crate) fn put_held(lines: &mut Vec<u8>, surveys: &[CaptureSurvey]) -> Result<(), AllocError> {
-    for number in 0..NUMBERS {
-        let count = held_in_captures(surveys, number);
-        put_count_line(lines, system_words(number), number, count)?;
-    }
+/// Appends the line of a date that is to come.
+pub(crate) fn put_to_come_line(
+    lines: &mut Vec<u8>,
+    date: UtcDate,
+    name: &str,
+) -> Result<(), AllocError>
+    ensures { OnOk result (lines.new.items ≡ lines.old.items ++ spec.to_come_line date name.now) }
+{
+    lines.extend_from_slice(b" ")?;
+    put_time(lines, moment_of(date))?;
+    put_message(lines, DateMessage::Utc(date))?;
+    put_words_and_name(lines, b" in ", name)?;
+    lines.extend_from_slice(b": it is after the time of making\n")
+}
+
+/// Appends the line of a capture with a stray epoch.
+pub(crate) fn put_stray_line(
+    lines: &mut Vec<u8>,
+    epoch: GpsMs,
+    name: &str,
+) -> Result<(), AllocError>
+    ensures { OnOk result (lines.new.items ≡ lines.old.items ++ spec.stray_line epoch name.now) }
+{
+    put_words_and_name(lines, b" stray ", name)?;
+    lines.extend_from_slice(b" ")?;
+    put_time(lines, epoch)?;
+    end_line(lines)
+}
+
+// Appends a command that takes a part of a capture to a file, which is named after the capture.
+fn put_part_command(
+    lines: &mut Vec<u8>,
+    command: &[u8],
+    bytes: u64,
+    name: &str,
+    end: &[u8],
+) -> Result<(), AllocError>
+    ensures { OnOk result (lines.new.items ≡ lines.old.items ++ spec.part_command command.now bytes name.now end.now) }
+{
+    put_named(lines, command, bytes)?;
+    put_words_and_name(lines, b" ", name)?;
+    put_words_and_name(lines, b" >", name)?;
+    lines.extend_from_slice(end)
+}
+
+/// Appends where the second date of a capture begins, by its byte, and the commands that part it there.
+pub fn put_parting(lines: &mut Vec<u8>, name: &str, byte: u64) -> Result<(), AllocError>
+    ensures { OnOk result (lines.new.items ≡ lines.old.items ++ spec.parting_text name.now byte) }
+{
+    put_words_and_name(lines, b" ", name)?;
+    put_named(lines, b": the second date begins at byte ", byte)?;
+    lines.extend_from_slice(b"; these commands part it there:\n")?;
+    put_part_command(lines, b"head -c ", byte, name, b".1\n")?;
+    put_part_command(lines, b"tail -c +", byte.saturating_add(1), name, b".2\n")?;
     Ok(())
-}
-
-// What messages of this number hold: observations of a system, or other things.
-fn system_words(number: u16) -> &'static [u8] {
-    match number {
-        1001..=1004 | 1071..=1077 => b" holds GPS ",
-        1009..=1012 | 1081..=1087 => b" holds GLONASS ",
-        1091..=1097 => b" holds Galileo ",
-        1101..=1107 => b" holds SBAS ",
-        1111..=1117 => b" holds QZSS ",
-        1121..=1127 => b" holds BeiDou ",
-        1131..=1137 => b" holds NavIC ",
-        _ => b" holds ",
-    }
-}
-
-// Appends the line of the Doppler of an MSM that is taken, if there is a message of it.
-fn put_doppler_of(
-    lines: &mut Vec<u8>,
-    surveys: &[CaptureSurvey],
-    station: u16,
-    taken: MsmKind,
-) -> Result<(), AllocError>
-    ensures { OnOk result (lines.new.items ≡ lines.old.items ++ spec.doppler_of taken surveys.now station) }
-{
-    let count = messages_in_captures(surveys, station, taken);
-    put_count_line(
-        lines,
-        b" not in the file: Doppler of ",
-        taken.number(),
-        count,
-    )
-}
-
-/// Appends a line if the MSM that is taken has Doppler, which no file has.
-pub(crate) fn put_doppler(
-    lines: &mut Vec<u8>,
-    surveys: &[CaptureSurvey],
-    station: u16,
-    taken: MsmKind,
-) -> Result<(), AllocError>
-    ensures { OnOk result (lines.new.items ≡ lines.old.items ++ spec.doppler_line taken surveys.now station) }
-{
-    match taken {
-        MsmKind::Msm4 | MsmKind::Msm6 => Ok(()),
-        MsmKind::Msm5 | MsmKind::Msm7 => put_doppler_of(lines, surveys, station, taken),
-    }
 }
 
 /// Appends the line of a first epoch that a capture tells, if it can be written.
@@ -341,38 +235,8 @@ pub(crate) fn put_date_line(lines: &mut Vec<u8>, told: &Told, name: &str) -> Res
     if LAST_MS < told.first {
         return Ok(());
     }
-    let Some(first) = GpsMs::new(told.first) else {
-        unreachable!();
-    };
     lines.extend_from_slice(b" ")?;
-    put_time(lines, first)?;
+    put_time_at(lines, told.first)?;
     put_message(lines, told.message)?;
-    put_name_line(lines, b" in ", name)
-}
-
-// Appends a coordinate, whose unit is 0.0001 m, in metres.
-fn put_coordinate(lines: &mut Vec<u8>, value: i64) -> Result<(), AllocError> {
-    lines.push(b' ')?;
-    if value < 0 {
-        lines.push(b'-')?;
-    }
-    let value = value.unsigned_abs();
-    put_number(lines, value / 10_000)?;
-    put_named(lines, b".", value / 1_000 % 10)?;
-    put_number(lines, value / 100 % 10)?;
-    put_number(lines, value / 10 % 10)?;
-    put_number(lines, value % 10)
-}
-
-/// Appends the line of the position that a capture tells, in metres.
-pub(crate) fn put_position_line(
-    lines: &mut Vec<u8>,
-    point: &ReferencePoint,
-    name: &str,
-) -> Result<(), AllocError> {
-    lines.extend_from_slice(b" position")?;
-    put_coordinate(lines, point.x)?;
-    put_coordinate(lines, point.y)?;
-    put_coordinate(lines, point.z)?;
     put_name_line(lines, b" in ", name)
 }

@@ -9,7 +9,7 @@ ghost use Rattle.rtk_plan.specs.Causes.{IfRefused, IsStationCause, IsEmptyCause,
 ghost use Rattle.rtk_plan.specs.Kept.{empty_captures};
 ghost use Rattle.rtk_plan.specs.Linking.{places_of, AreLinksOf};
 ghost use Rattle.rtk_plan.specs.Positions.{some_are_far};
-ghost use Rattle.rtk_plan.specs.Plan.{IsChosenStation, msm_chosen, codes_chosen, marker_chosen, captures_of, IsNearOf, ArePlaced, IsInReach, IsSetupFor};
+ghost use Rattle.rtk_plan.specs.Plan.{IsChosenStation, msm_chosen, codes_chosen, marker_chosen, captures_of, IsNearOf, ArePlaced, AreStrays, IsSpanOf, IsInReach, IsSetupFor};
 ghost use Rattle.rtk_plan.specs.Values.{codes_in_captures};
 
 use crate::captures::{Captures, StationCaptures, list_held};
@@ -40,6 +40,8 @@ pub struct Plan {
     pub links: Vec<Vec<usize>>,
     /// The places of the captures that are left out.
     pub skipped: Vec<usize>,
+    /// The places of the captures whose last epoch is more than a day after all others: it is the last one.
+    pub strays: Vec<usize>,
     /// What each capture tells of the station.
     pub captures: Vec<StationCapture>,
 }
@@ -51,6 +53,7 @@ struct Planned {
     span: DatedSpan,
     links: Vec<Vec<usize>>,
     skipped: Vec<usize>,
+    strays: Vec<usize>,
 }
 
 // The station that is named, if it has observations.
@@ -280,6 +283,8 @@ fn plan_of_station(
     ensures one_position { as_given ≡ false → IfOk result (λ plan. some_are_far captured.now.captures.now ≡ false) }
     ensures skipped { IfOk result (λ plan. plan.skipped.items ≡ empty_captures captured.now.captures.now) }
     ensures none_skipped { IfOk result (λ plan. skip_empty ≡ false → plan.skipped.items ≡ []) }
+    ensures strays { IfOk result (λ plan. AreStrays wanted.now.near captured.now.captures.now plan.strays.items) }
+    ensures span { IfOk result (λ plan. IsSpanOf wanted.now.near captured.now.captures.now captured.now.station plan.span) }
     ensures refused { IfErr result (IfRefused (IsCaptureCause captured.now.all.surveys.now wanted.now skip_empty as_given
         captured.now.station captured.now.captures.now)) }
 {
@@ -309,6 +314,7 @@ fn plan_of_station(
         span: dating.span,
         links,
         skipped,
+        strays: dating.strays,
     })
 }
 
@@ -331,6 +337,8 @@ pub fn plan_of(
     ensures one_position { as_given ≡ false → IfOk result (λ plan. some_are_far plan.captures.items ≡ false) }
     ensures skipped { IfOk result (λ plan. plan.skipped.items ≡ empty_captures plan.captures.items) }
     ensures none_skipped { IfOk result (λ plan. skip_empty ≡ false → plan.skipped.items ≡ []) }
+    ensures strays { IfOk result (λ plan. AreStrays wanted.now.near plan.captures.items plan.strays.items) }
+    ensures span { IfOk result (λ plan. IsSpanOf wanted.now.near plan.captures.items plan.setup.station plan.span) }
 
     // A refusal comes only with its cause.
     ensures refused { IfErr result (IfRefused (IsCauseOf captures.now.surveys.now wanted.now skip_empty as_given)) }
@@ -351,6 +359,7 @@ pub fn plan_of(
         span: plan.span,
         links: plan.links,
         skipped: plan.skipped,
+        strays: plan.strays,
         captures: of_station,
     })
 }

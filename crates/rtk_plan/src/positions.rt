@@ -6,14 +6,13 @@ ghost use Rattle.rtk_plan.specs.Causes.{IfRefused};
 ghost use Rattle.rtk_plan.specs.Positions as spec;
 
 use crate::captures::StationCaptures;
-use crate::lists::put_position_line;
-use crate::points::are_far;
+use crate::position_lines::put_position_line;
 use crate::refusal::{PlanFault, Refusal, refused};
 use crate::station_capture::StationCapture;
-use rtk_survey::ReferencePoint;
+use rtk_survey::{ReferencePoint, are_far};
 use std::alloc::{AllocError, Global};
 
-// The reference point of the station in each capture.
+// The reference points of the station in captures: of each the first one, and the first one that is far from it.
 fn points_in(
     alloc: Global,
     captures: &[StationCapture],
@@ -22,7 +21,7 @@ fn points_in(
 {
     let mut points = Vec::new(alloc);
     for capture in captures {
-        points.push(capture.point)?;
+        points.extend_from_slice(&[capture.point, capture.far_point])?;
     }
     Ok(points)
 }
@@ -61,7 +60,7 @@ fn far_points(points: &[Option<ReferencePoint>]) -> Option<(usize, usize)>
     None
 }
 
-// Appends the position of a capture, with its name.
+// Appends the position at this place, with the name of its capture, which has two places.
 fn put_position(
     lines: &mut Vec<u8>,
     captured: &StationCaptures<'_, '_, '_>,
@@ -69,12 +68,12 @@ fn put_position(
     place: usize,
 ) -> Result<(), AllocError> {
     if let Some(Some(point)) = points.get(place) {
-        put_position_line(lines, point, captured.all.name(place))?;
+        put_position_line(lines, point, captured.all.name(place / 2))?;
     }
     Ok(())
 }
 
-// The positions of two captures.
+// Two positions.
 fn list_positions(
     alloc: Global,
     captured: &StationCaptures<'_, '_, '_>,
@@ -87,8 +86,7 @@ fn list_positions(
     Ok(lines)
 }
 
-/// The captures are refused if two of them have reference points of the station that are far from one
-/// another.
+/// The captures are refused if they have reference points of the station that are far from one another.
 pub(crate) fn agree_on_position(
     alloc: Global,
     captured: &StationCaptures<'_, '_, '_>,
@@ -116,6 +114,6 @@ pub(crate) fn put_no_position(lines: &mut Vec<u8>, has_position: bool) -> Result
         return Ok(());
     }
     lines.extend_from_slice(
-        b" no-position: no 1005 or 1006 came in time, and the header has zeros\n",
+        b" no-position: the header has zeros, as no 1005 or 1006 came in time, or the first one has zeros\n",
     )
 }

@@ -1,7 +1,6 @@
 //! The dates of captures that were read.
 
 ghost use Rattle.std.specs.Prelude.{◌≡◌, ◌-◌, ◌%◌, ◌∷◌, [], None, map, length, Some, IfOk};
-ghost use Rattle.rtk_survey.specs.Placing.{second_of};
 ghost use Rattle.rtk_plan.specs.Reach as spec;
 
 use crate::station_capture::StationCapture;
@@ -14,7 +13,8 @@ use std::alloc::{AllocError, Global};
 pub enum Base {
     /// It is given: all captures are dated near it, whatever they tell.
     Given(GpsMs),
-    /// The least first epoch that a capture tells: the captures that tell none are dated near it.
+    /// The least first epoch that a capture tells, or else the least moment that one names: the captures
+    /// that tell none are dated near it.
     Told(GpsMs),
 }
 
@@ -24,8 +24,8 @@ fn moment_told(told: Option<Told>) -> Option<GpsMs>
     GpsMs::new(told?.first)
 }
 
-/// The least first epoch that captures tell; `None` if none tells one.
-pub fn least_told(captures: &[StationCapture]) -> Option<GpsMs>
+// The least first epoch that captures tell; `None` if none tells one.
+fn least_first(captures: &[StationCapture]) -> Option<GpsMs>
     ensures { result ≡ spec.least_of_captures None captures.now }
 {
     let mut least = None;
@@ -33,6 +33,28 @@ pub fn least_told(captures: &[StationCapture]) -> Option<GpsMs>
         least = least_with_if_any(least, moment_told(capture.told));
     }
     least
+}
+
+// The least moment that captures without an epoch name; `None` if none names one.
+fn least_moment(captures: &[StationCapture]) -> Option<GpsMs>
+    ensures { result ≡ spec.least_of_moments None captures.now }
+{
+    let mut least = None;
+    for capture in captures {
+        least = least_with_if_any(least, moment_told(capture.moment));
+    }
+    least
+}
+
+/// The least first epoch that captures tell; if none tells one, the least moment that captures without an
+/// epoch name.
+pub fn least_told(captures: &[StationCapture]) -> Option<GpsMs>
+    ensures { result ≡ spec.least_told captures.now }
+{
+    match least_first(captures) {
+        Some(first) => Some(first),
+        None => least_moment(captures),
+    }
 }
 
 impl Base {
@@ -118,7 +140,7 @@ pub fn reach_of(placed: &[Option<Placed>]) -> Option<Placed>
 /// The moment near which a conversion dates captures of this reach, in ms: the whole second of the least
 /// first epoch.
 pub fn near_of(reach: &Placed) -> u64
-    ensures { result ≡ second_of reach.now.first }
+    ensures { result ≡ spec.second_of reach.now.first }
 {
     reach.first - reach.first % 1000
 }

@@ -33,6 +33,14 @@ pub enum Refusal {
     /// The messages of the captures tell dates that differ.
     #[error("the captures tell dates that differ; choose one by --near")]
     DatesDiffer,
+    /// 1013 or 1029 of the station tell two dates of a capture.
+    #[error("a capture tells two dates; part it, or choose one by --near")]
+    TwoDates {
+        /// The place of the capture.
+        capture: usize,
+        /// How many of its frames come before the second date begins.
+        frame: u64,
+    },
     /// The first epoch lies outside the dates near which a conversion dates.
     #[error("the first epoch is not dated from 1980-01-13 to 2099-12-31; choose a date by --near")]
     OutsideDates,
@@ -48,7 +56,7 @@ pub enum Refusal {
     /// More than 16 captures are of the same time.
     #[error("more than 16 captures are of the same time, and 16 links are taken")]
     TooManyLinks,
-    /// The station stands at two positions.
+    /// The messages of the captures tell positions of the station that are far from one another.
     #[error("the station stands at positions that differ; --links-as-given takes them for one")]
     PositionsDiffer,
 }

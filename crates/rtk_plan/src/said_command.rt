@@ -2,7 +2,8 @@
 //!
 //! If memory is refused, a first part of what is put may stand there.
 
-ghost use Rattle.std.specs.Prelude.{◌≡◌, ◌++◌, OnOk};
+ghost use Rattle.std.specs.Prelude.{◌≡◌, ◌≤◌, ◌++◌, OnOk};
+ghost use Rattle.rtk_obs.specs.declared.time.TheConstants.{LAST_MS};
 ghost use Rattle.rtk_rinex.specs.Reading.{reading_of};
 ghost use Rattle.rtk_survey.specs.SummaryText.{msm_option};
 ghost use Rattle.rtk_plan.specs.SaidCommand as spec;
@@ -29,6 +30,17 @@ pub(crate) fn put_time(line: &mut Vec<u8>, moment: GpsMs) -> Result<(), AllocErr
     put_date(line, reading)?;
     line.push(b'T')?;
     put_clock(line, reading)
+}
+
+/// Appends a moment of so many ms as an option writes it.
+pub(crate) fn put_time_at(line: &mut Vec<u8>, ms: u64) -> Result<(), AllocError>
+    requires { ms ≤ LAST_MS }
+    ensures { OnOk result (line.new.items ≡ line.old.items ++ spec.time_text ms) }
+{
+    let Some(moment) = GpsMs::new(ms) else {
+        unreachable!();
+    };
+    put_time(line, moment)
 }
 
 /// Appends a word that is no name of a file.

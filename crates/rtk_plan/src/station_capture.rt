@@ -5,31 +5,41 @@ ghost use Rattle.std.specs.List.{list_any};
 ghost use Rattle.std.specs.Option.{option_copied};
 ghost use Rattle.rtk_plan.specs.StationCaptures as spec;
 
-use rtk_survey::{CaptureSurvey, Look, ReferencePoint, Span, StationSurvey, Tellings, Told};
+use rtk_survey::{
+    CaptureSurvey, Look, ReferencePoint, Span, StationSurvey, Tellings, Told, UtcDate,
+};
 use std::alloc::{AllocError, Global};
 
-/// What a capture tells of a station. It has at most 200 bytes.
+/// What a capture tells of a station. It has at most 240 bytes.
 #[derive(Clone, Copy, Debug, PartialEq, Eq)]
 pub struct StationCapture {
     /// What the capture looks like, if it has no frame.
     pub look: Option<Look>,
-    /// A message of the station was read: a 1004 to 1006 or a 1074 to 1077.
+    /// A message of the station came: with observations or a position, or one that tells a date, an antenna or a
+    /// receiver.
     pub is_heard: bool,
-    /// The reference point of its first 1005 or 1006.
+    /// Its first reference point.
     pub point: Option<ReferencePoint>,
+    /// The first one that is more than 100 m from it.
+    pub far_point: Option<ReferencePoint>,
     /// Its epochs; `None` if there is none.
     pub span: Option<Span>,
     /// The first epoch, as the first message told it that counts.
     pub told: Option<Told>,
     /// How many first epochs that differ were told by messages that count.
     pub dates: usize,
+    /// The moment that a message names, if the capture has a message of the station and no epoch.
+    pub moment: Option<Told>,
+    /// How many frames come before the place at which a second date begins, if 1013 or 1029 of the
+    /// station tell one.
+    pub parting: Option<u64>,
 }
 
 fn is_heard(station: Option<&StationSurvey>) -> bool
     ensures { result ≡ spec.is_heard (option_copied station.entry) }
 {
     match station {
-        Some(station) => station.counts.messages != 0,
+        Some(_) => true,
         None => false,
     }
 }
@@ -38,6 +48,12 @@ fn point_of(station: Option<&StationSurvey>) -> Option<ReferencePoint>
     ensures { result ≡ spec.point_of (option_copied station.entry) }
 {
     station?.reference_point
+}
+
+fn far_point_of(station: Option<&StationSurvey>) -> Option<ReferencePoint>
+    ensures { result ≡ spec.far_point_of (option_copied station.entry) }
+{
+    station?.far_point
 }
 
 fn is_marked(mark: &bool) -> bool
@@ -135,6 +151,41 @@ fn first_told(told: &[Told]) -> Option<Told>
     told.first().copied()
 }
 
+// The moment that messages of a capture without an epoch name.
+fn moment_in(station: u16, survey: &CaptureSurvey) -> Option<Told>
+    ensures { result ≡ spec.moment_in station survey.now }
+{
+    let target = survey.contents.target.as_ref()?;
+    if target.dates.station.unwrap_or(station) == station {
+        target.dates.capture.own_moment(target.present, station)
+    } else {
+        None
+    }
+}
+
+fn moment_if_heard(is_heard: bool, moment: Option<Told>) -> Option<Told>
+    ensures { result ≡ spec.moment_if_heard is_heard moment }
+{
+    if is_heard { moment } else { None }
+}
+
+// How many frames come before the place at which a second date of the station begins.
+fn parting_in(station: u16, survey: &CaptureSurvey) -> Option<u64>
+    ensures { result ≡ spec.parting_in station survey.now }
+{
+    match &survey.contents.target {
+        Some(target) if is_station(station, target.dates.station) => target.parting.frame(),
+        _ => None,
+    }
+}
+
+/// The first date in a capture that is passed over since it is to come.
+pub(crate) fn to_come_in(survey: &CaptureSurvey) -> Option<UtcDate>
+    ensures { result ≡ spec.to_come_in survey.now }
+{
+    survey.contents.target.as_ref()?.to_come
+}
+
 /// What a capture tells of a station.
 pub(crate) fn capture_of(station: u16, survey: &CaptureSurvey) -> StationCapture
     ensures { result ≡ spec.capture_of station survey.now }
@@ -145,9 +196,12 @@ pub(crate) fn capture_of(station: u16, survey: &CaptureSurvey) -> StationCapture
         look: survey.look,
         is_heard: is_heard(heard),
         point: point_of(heard),
+        far_point: far_point_of(heard),
         span: span_in(station, survey),
         told: first_told(told),
         dates: told.len(),
+        moment: moment_if_heard(is_heard(heard), moment_in(station, survey)),
+        parting: parting_in(station, survey),
     }
 }
 

@@ -181,6 +181,27 @@ pub(crate) fn messages_in_captures(surveys: &[CaptureSurvey], station: u16, kind
     count
 }
 
+fn sbas_of_station(station: Option<&StationSurvey>) -> u64
+    ensures { result ≡ spec.sbas_of_station (option_copied station.entry) }
+{
+    match station {
+        Some(station) => station.counts.sbas_1004,
+        None => 0,
+    }
+}
+
+/// How many 1004 of a station captures have in which there is a satellite of SBAS.
+pub(crate) fn sbas_in_captures(surveys: &[CaptureSurvey], station: u16) -> u64
+    ensures { result ≡ spec.sbas_in_captures surveys.now station }
+{
+    let mut count = 0u64;
+    for survey in surveys {
+        let more = sbas_of_station(survey.contents.stations.get(&station));
+        count = count.saturating_add(more);
+    }
+    count
+}
+
 /// How many messages of a number that is not read captures have.
 pub(crate) fn others_in_captures(surveys: &[CaptureSurvey], number: u16) -> u64
     ensures { result ≡ spec.others_in_captures surveys.now number }
@@ -193,7 +214,9 @@ pub(crate) fn others_in_captures(surveys: &[CaptureSurvey], number: u16) -> u64
 }
 
 // How many messages of a number that is read captures have of a station.
-fn read_of_station(number: u16, station: &StationSurvey) -> u64 {
+fn read_of_station(number: u16, station: &StationSurvey) -> u64
+    ensures { result ≡ spec.read_of_station number station.now }
+{
     match number {
         1004 => station.counts.obs_1004,
         1005 => station.counts.arp_1005,
@@ -207,7 +230,9 @@ fn read_of_station(number: u16, station: &StationSurvey) -> u64 {
 }
 
 // How many messages of a number that is read a capture has, of all stations.
-fn read_in_capture(survey: &CaptureSurvey, number: u16) -> u64 {
+fn read_in_capture(survey: &CaptureSurvey, number: u16) -> u64
+    ensures { result ≡ spec.read_in_capture number survey.now }
+{
     let mut count = 0u64;
     for station in survey.contents.stations.values() {
         count = count.saturating_add(read_of_station(number, station));
@@ -215,11 +240,20 @@ fn read_in_capture(survey: &CaptureSurvey, number: u16) -> u64 {
     count
 }
 
-/// How many messages of a number captures have, whether they are read or not.
-pub(crate) fn held_in_captures(surveys: &[CaptureSurvey], number: u16) -> u64 {
-    let mut count = others_in_captures(surveys, number);
+// How many messages of a number that is read captures have, of all stations.
+fn read_in_captures(surveys: &[CaptureSurvey], number: u16) -> u64
+    ensures { result ≡ spec.read_in_captures surveys.now number }
+{
+    let mut count = 0u64;
     for survey in surveys {
         count = count.saturating_add(read_in_capture(survey, number));
     }
     count
+}
+
+/// How many messages of a number captures have, whether they are read or not.
+pub(crate) fn held_in_captures(surveys: &[CaptureSurvey], number: u16) -> u64
+    ensures { result ≡ spec.held_in_captures surveys.now number }
+{
+    others_in_captures(surveys, number).saturating_add(read_in_captures(surveys, number))
 }

@@ -1,7 +1,9 @@
-//! What a file and a report have that are written, by their texts as they pass: the epochs and satellites of
-//! the file, whether its header has a position, and the conflicts of the report.
+//! What a file has that is written, by its text as it passes: its epochs and satellites, and whether its header
+//! has a position.
 
-ghost use Rattle.std.specs.Prelude.{◌<◌};
+ghost use Rattle.std.specs.Prelude.{◌≡◌, ◌<◌, ◌++◌, count_by, flat_map, OnOk};
+ghost use Rattle.rtk_survey.specs.Counting.{count_of};
+ghost use Rattle.rtk_plan.specs.WrittenFile as spec;
 
 use crate::said_command::put_time;
 use arrayvec::ArrayVec;
@@ -40,7 +42,9 @@ pub struct Step {
 }
 
 impl Step {
-    fn ms(&self) -> u64 {
+    fn ms(&self) -> u64
+        ensures { result ≡ spec.step_ms self.now }
+    {
         self.until.ms().saturating_sub(self.from.ms())
     }
 }
@@ -186,12 +190,16 @@ impl WrittenFile {
     }
 
     /// Has the header a position?
-    pub fn has_position(&self) -> bool {
+    pub fn has_position(&self) -> bool
+        ensures { result ≡ self.now.has_position }
+    {
         self.has_position
     }
 
     /// The first and the last epoch.
-    pub fn span(&self) -> Option<Step> {
+    pub fn span(&self) -> Option<Step>
+        ensures { result ≡ spec.written_span self.now }
+    {
         Some(Step {
             from: self.first?,
             until: self.last?,
@@ -199,16 +207,16 @@ impl WrittenFile {
     }
 
     /// How many satellites of GPS it has.
-    pub fn satellites(&self) -> usize {
-        let mut count = 0usize;
-        for is_there in &self.satellites {
-            count = count.saturating_add(usize::from(*is_there));
-        }
-        count
+    pub fn satellites(&self) -> usize
+        ensures { result ≡ count_by spec.is_satellite_mark self.now.satellites }
+    {
+        count_marks(&self.satellites)
     }
 
     // The most frequent step in ms, the lesser of two alike; 0 without one.
-    fn interval_ms(&self) -> u64 {
+    fn interval_ms(&self) -> u64
+        ensures { result ≡ spec.interval_ms self.now }
+    {
         let (mut interval, mut most) = (0, 0);
         for (step, count) in &self.steps {
             if most < *count {
@@ -220,44 +228,99 @@ impl WrittenFile {
     }
 
     // A step is a gap if it is longer.
-    fn greatest_step_ms(&self) -> u64 {
+    fn greatest_step_ms(&self) -> u64
+        ensures { result ≡ spec.greatest_step_ms self.now }
+    {
         GREATEST_STEP_MS.max(self.interval_ms().saturating_mul(10))
     }
 
-    fn gap_count(&self, greatest: u64) -> u64 {
+    // How many steps are longer than this.
+    fn gap_count(&self, greatest: u64) -> u64
+        ensures { result ≡ spec.gap_count greatest self.now.steps.entries }
+    {
         let mut gaps = 0u64;
         for (step, count) in &self.steps {
-            if greatest < *step {
-                gaps = gaps.saturating_add(*count);
-            }
+            gaps = gaps.saturating_add(count_if_longer(greatest, *step, *count));
         }
         gaps
     }
 
     /// Appends a line for each of the ten longest gaps, and how many more there are.
-    pub fn put_gaps(&self, lines: &mut Vec<u8>) -> Result<(), AllocError> {
+    pub fn put_gaps(&self, lines: &mut Vec<u8>) -> Result<(), AllocError>
+        ensures { OnOk result (lines.new.items ≡ lines.old.items ++ spec.gap_lines self.now) }
+    {
         let greatest = self.greatest_step_ms();
-        let mut listed = 0u64;
-        for gap in &self.longest {
-            if greatest < gap.ms() {
-                put_gap(lines, gap)?;
-                listed = listed.saturating_add(1);
-            }
-        }
-        let more = self.gap_count(greatest).saturating_sub(listed);
-        if more == 0 {
-            return Ok(());
-        }
-        put_named(lines, b" more-gaps ", more)?;
-        lines.extend_from_slice(b"\n")
+        let longest = self.longest.as_slice();
+        put_listed_gaps(lines, longest, greatest)?;
+        let listed = listed_gaps(longest, greatest);
+        put_more_gaps(lines, self.gap_count(greatest).saturating_sub(listed))
     }
 }
 
-fn put_gap(lines: &mut Vec<u8>, gap: &Step) -> Result<(), AllocError> {
+// How many of these are marked.
+fn count_marks(marks: &[bool]) -> usize
+    ensures { result ≡ count_by spec.is_satellite_mark marks.now }
+{
+    marks.iter().filter(|mark| **mark).count()
+}
+
+fn count_if_longer(greatest: u64, step: u64, count: u64) -> u64
+    ensures { result ≡ spec.count_if_longer greatest step count }
+{
+    if greatest < step { count } else { 0 }
+}
+
+// Appends the line of a gap.
+fn put_gap(lines: &mut Vec<u8>, gap: &Step) -> Result<(), AllocError>
+    ensures { OnOk result (lines.new.items ≡ lines.old.items ++ spec.written_gap_line gap.now) }
+{
     lines.extend_from_slice(b" gap ")?;
     put_time(lines, gap.from)?;
     lines.extend_from_slice(b" until ")?;
     put_time(lines, gap.until)?;
+    lines.extend_from_slice(b"\n")
+}
+
+// Appends the line of a step, if it is longer than this.
+fn put_gap_if(lines: &mut Vec<u8>, step: &Step, greatest: u64) -> Result<(), AllocError>
+    ensures { OnOk result (lines.new.items ≡ lines.old.items ++ spec.written_gap_line_if greatest step.now) }
+{
+    if greatest < step.ms() {
+        put_gap(lines, step)
+    } else {
+        Ok(())
+    }
+}
+
+// Appends the lines of those steps that are longer than this.
+fn put_listed_gaps(lines: &mut Vec<u8>, longest: &[Step], greatest: u64) -> Result<(), AllocError>
+    ensures { OnOk result (lines.new.items ≡ lines.old.items ++ flat_map (spec.written_gap_line_if greatest) longest.now) }
+{
+    for step in longest {
+        put_gap_if(lines, step, greatest)?;
+    }
+    Ok(())
+}
+
+// How many steps are longer than this.
+fn listed_gaps(longest: &[Step], greatest: u64) -> u64
+    ensures { result ≡ count_of (spec.is_gap greatest) longest.now }
+{
+    let mut count = 0u64;
+    for step in longest {
+        count = count.saturating_add(u64::from(greatest < step.ms()));
+    }
+    count
+}
+
+// Appends how many gaps have no line, if some have none.
+fn put_more_gaps(lines: &mut Vec<u8>, more: u64) -> Result<(), AllocError>
+    ensures { OnOk result (lines.new.items ≡ lines.old.items ++ spec.more_gaps_line more) }
+{
+    if more == 0 {
+        return Ok(());
+    }
+    put_named(lines, b" more-gaps ", more)?;
     lines.extend_from_slice(b"\n")
 }
 
@@ -271,68 +334,6 @@ impl TakesText for WrittenFile {
             let (line, more) = rest.split_at(end);
             self.take_part(line);
             self.take_line()?;
-            rest = more.split_at(more.len().min(1)).1;
-        }
-        self.take_part(rest);
-        Ok(())
-    }
-}
-
-/// The columns of a line of the report that say of what it is, as `link 16 conflict`.
-const REPORT_COLUMNS: usize = 16;
-
-/// How many conflicts a report lists so far.
-#[derive(Clone, Drop)]
-pub struct Conflicts {
-    // The first columns of a line that goes on.
-    line: ArrayVec<u8, REPORT_COLUMNS>,
-    count: u64,
-}
-
-// Is it the line of a conflict? Links have one digit or two.
-fn is_conflict(line: &[u8]) -> bool {
-    let columns = line.len().min(6);
-    let rest = &line[columns..];
-    line.starts_with(b"link ") && (rest.starts_with(b" conflict") || rest.ends_with(b" conflict"))
-}
-
-impl Conflicts {
-    /// Nothing was written.
-    pub fn new() -> Conflicts {
-        Conflicts {
-            line: ArrayVec::new(),
-            count: 0,
-        }
-    }
-
-    /// How many conflicts the report lists.
-    pub fn count(&self) -> u64 {
-        self.count
-    }
-
-    fn take_part(&mut self, part: &[u8]) {
-        let count = part.len().min(self.line.remaining_capacity());
-        let _kept = self.line.try_extend_from_slice(&part[..count]);
-    }
-
-    fn take_line(&mut self) {
-        if is_conflict(self.line.as_slice()) {
-            self.count = self.count.saturating_add(1);
-        }
-        self.line.clear();
-    }
-}
-
-impl TakesText for Conflicts {
-    fn take(&mut self, text: &[u8]) -> Result<(), AllocError> {
-        let mut rest = text;
-        for _line in 0..text.len() {
-            let Some(end) = memchr(b'\n', rest) else {
-                break;
-            };
-            let (line, more) = rest.split_at(end);
-            self.take_part(line);
-            self.take_line();
             rest = more.split_at(more.len().min(1)).1;
         }
         self.take_part(rest);

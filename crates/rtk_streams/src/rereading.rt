@@ -90,29 +90,25 @@ impl<R: Read> Read for Digested<'_, R> {
     }
 }
 
-/// A reader that gives again what was read before. It fails at its end if what it gave is not the same.
+/// A reader that gives again what was read before. It fails at its end if what it gave is not the same, and
+/// then it puts its mark into a cell.
 #[derive(Drop)]
-pub struct Again<'a, R> {
+pub struct Again<'a, R, M> {
     inner: R,
-    name: &'a str,
+    mark: M,
     before: Digest,
     given: Digest,
-    differing: &'a Cell<Option<&'a str>>,
+    differing: &'a Cell<Option<M>>,
 }
 
-impl<'a, R> Again<'a, R> {
-    /// The reader of this name, which gave this before. Where it is not the same its name is put.
-    pub fn new(
-        inner: R,
-        name: &'a str,
-        before: Digest,
-        differing: &'a Cell<Option<&'a str>>,
-    ) -> Again<'a, R>
+impl<'a, R, M> Again<'a, R, M> {
+    /// The reader with this mark, which gave this before.
+    pub fn new(inner: R, mark: M, before: Digest, differing: &'a Cell<Option<M>>) -> Again<'a, R, M>
         ensures { result.inner ≡ inner }
     {
         Again {
             inner,
-            name,
+            mark,
             before,
             given: Digest::new(),
             differing,
@@ -120,7 +116,7 @@ impl<'a, R> Again<'a, R> {
     }
 }
 
-impl<R: Read> Read for Again<'_, R> {
+impl<R: Read, M: Copy> Read for Again<'_, R, M> {
     ghost remaining = { λ reader. R.remaining reader.inner };
 
     fn read(&mut self, buf: &mut [u8]) -> io::Result<usize>
@@ -131,7 +127,7 @@ impl<R: Read> Read for Again<'_, R> {
         let count = self.inner.read(buf)?;
         self.given = self.given.followed_by(&buf[..count]);
         if count == 0 && !buf.is_empty() && self.given != self.before {
-            self.differing.set(Some(self.name));
+            self.differing.set(Some(self.mark));
             return Err(Error::other("the file has changed"));
         }
         Ok(count)

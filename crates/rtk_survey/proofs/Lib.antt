@@ -6,6 +6,7 @@ pub mod DateLemmas
 pub mod FaultLemmas
 pub mod FourLemmas
 pub mod FrameLemmas
+pub mod FramePlaceLemmas
 pub mod FreshLemmas
 pub mod HeadLemmas
 pub mod LineLemmas

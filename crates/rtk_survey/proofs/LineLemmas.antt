@@ -135,6 +135,7 @@ own-survey ms d e s is = record {
   signals = is.signals;
   msm = is.msm;
   point = is.point;
+  far = is.far;
   dates = refl;
   equipment = refl;
 }

@@ -1,6 +1,6 @@
 -- The phases of the station of a conversion, and its dates.
 use Rattle.std.proofs.Common.{◌≡◌, ◌≢◌, ◌==◌, ℕ, Bool, true, false, cond, List, [], ◌∷◌, ◌++◌, Option, None, Some, refl, sym, ap, subst, ◌∙◌, inl, inr}
-use Rattle.std.specs.Prelude.{filter, unwrap_or}
+use Rattle.std.specs.Prelude.{filter, length, unwrap_or}
 use Rattle.std.proofs.lemmas.Bool.{cases_Bool, cases_eq, eq-eqb, eqb-true}
 use Rattle.rtk_survey.specs.declared.date_message.DateMessage.{DateMessage}
 use Rattle.rtk_message.specs.declared.any_message.AnyMessage.{AnyMessage}
@@ -10,7 +10,11 @@ use Rattle.rtk_message.specs.AnyDecoded.{station_of, tow_of}
 use Rattle.rtk_obs.specs.declared.cell.CellEntry.{CellEntry}
 use Rattle.rtk_survey.specs.ReadFrames.{ReadFrame, messages_from}
 use Rattle.rtk_survey.specs.Tracing.{is_numbered, entries_in, entries_of_message}
-use Rattle.rtk_survey.specs.Targets.{IsAnswer, IsTargetOf, observes, station_at, station_after, HasTargetPhases, with_time_of, with_observation, with_date_if_any}
+use Rattle.rtk_survey.specs.Targets.{IsAnswer, IsTargetOf, observes, station_at, station_after, HasTargetPhases, with_time_of, with_observation, with_date_if_any, dates_of, parting_of}
+use Rattle.rtk_survey.specs.Counting.{shown_count}
+use Rattle.rtk_survey.specs.Parting as parting
+use Rattle.rtk_survey.specs.Parting.{with_epochs}
+use Rattle.rtk_survey.specs.declared.parting.Parting.{Parting}
 use Rattle.rtk_survey.specs.Phases.{entries_numbered, CountsPhases, HasPhases}
 use Rattle.rtk_survey.specs.declared.target.Target.{Target}
 use Rattle.rtk_survey.specs.declared.target.TargetDates.{TargetDates}
@@ -145,3 +149,29 @@ answer-more (Some t) fs more old new step is = step t is
 pub answer-none : (q : Option Target) (fs more : List ReadFrame) → IsAnswer q fs None → IsAnswer q more None
 answer-none None fs more is = is
 answer-none (Some t) fs more is = is
+
+-- ---- where a second date begins
+
+pub parted-message : (q : Target) (fs : List ReadFrame) (t : TargetSurvey) (m : AnyMessage) (frame : ℕ) (new : TargetDates) (p : Parting)
+    → new ≡ with_observation t.present t.dates m → frame ≡ shown_count (length fs) → IsTargetOf q fs t → p ≡ with_epochs t.dates.capture.span new.capture.span frame t.parting
+    → p ≡ with_epochs (dates_of q.present q.station fs).capture.span (with_observation q.present (dates_of q.present q.station fs) m).capture.span (shown_count (length fs)) (parting_of q.present q.station fs)
+parted-message q fs t m frame new p fresh count is parted =
+    let d : TargetDates = dates_of q.present q.station fs in
+    parted
+    ∙ ap (λ (x : TargetDates). with_epochs t.dates.capture.span x.capture.span frame t.parting) fresh
+    ∙ ap (λ (n : ℕ). with_epochs t.dates.capture.span (with_observation n t.dates m).capture.span frame t.parting) is.present
+    ∙ ap (λ (x : TargetDates). with_epochs x.capture.span (with_observation q.present x m).capture.span frame t.parting) is.dates
+    ∙ ap (λ (n : ℕ). with_epochs d.capture.span (with_observation q.present d m).capture.span n t.parting) count
+    ∙ ap (λ (x : Parting). with_epochs d.capture.span (with_observation q.present d m).capture.span (shown_count (length fs)) x) is.parting
+
+pub parted-date : (q : Target) (fs : List ReadFrame) (t : TargetSurvey) (m date : Option DateMessage) (frame : ℕ) (p : Parting)
+    → m ≡ date → frame ≡ shown_count (length fs) → IsTargetOf q fs t → p ≡ parting.parting_with_date t.present t.dates.station t.dates.capture m frame t.parting
+    → p ≡ parting.parting_with_date q.present (dates_of q.present q.station fs).station (dates_of q.present q.station fs).capture date (shown_count (length fs)) (parting_of q.present q.station fs)
+parted-date q fs t m date frame p same count is parted =
+    let d : TargetDates = dates_of q.present q.station fs in
+    parted
+    ∙ ap (λ (x : Option DateMessage). parting.parting_with_date t.present t.dates.station t.dates.capture x frame t.parting) same
+    ∙ ap (λ (n : ℕ). parting.parting_with_date n t.dates.station t.dates.capture date frame t.parting) is.present
+    ∙ ap (λ (x : TargetDates). parting.parting_with_date q.present x.station x.capture date frame t.parting) is.dates
+    ∙ ap (λ (n : ℕ). parting.parting_with_date q.present d.station d.capture date n t.parting) count
+    ∙ ap (λ (x : Parting). parting.parting_with_date q.present d.station d.capture date (shown_count (length fs)) x) is.parting

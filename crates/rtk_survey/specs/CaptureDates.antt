@@ -1,10 +1,10 @@
 -- What a capture tells of the moment of its first epoch (this project's rule).
-use Rattle.std.specs.Prelude.{ℕ, ◌+◌, ◌-◌, ◌==◌, Bool, ◌&&◌, nat_le, nat_lt, List, [], ◌∷◌, ◌++◌, length, Option, None, Some, if◌then◌else◌}
+use Rattle.std.specs.Prelude.{ℕ, ◌+◌, ◌-◌, ◌==◌, Bool, true, false, ◌&&◌, nat_le, nat_lt, List, [], ◌∷◌, ◌++◌, length, Option, None, Some, if◌then◌else◌}
 use Rattle.std.specs.List.{list_any}
 use Rattle.arrayvec.specs.ArrayVec.{ArrayVec}
 use Rattle.rtk_message.specs.Fields.{week_ms}
 use Rattle.rtk_survey.specs.Epochs.{with_time, begun, last_time_of_week}
-use Rattle.rtk_survey.specs.Telling.{told}
+use Rattle.rtk_survey.specs.Telling.{told, own_moment}
 use Rattle.rtk_survey.specs.declared.capture_dates.CaptureDates.{CaptureDates}
 use Rattle.rtk_survey.specs.declared.date_message.DateMessage.{DateMessage}
 use Rattle.rtk_survey.specs.declared.date_message.DateMessage.TheVariants.{Utc, Ephemeris}
@@ -97,6 +97,26 @@ with_date_after now station (Some s) c d = record c { told = with_telling now st
 abbrev pub with_date : ℕ → ℕ → CaptureDates → DateMessage → CaptureDates
 with_date now station c d = with_date_after now station c.span c d
 
+-- ---- the dates of the station
+
+-- the first epoch that a message tells after these epochs, if it is of the station
+abbrev pub first_if_own : Bool → ℕ → Span → DateMessage → Option ℕ
+first_if_own false now s d = None
+first_if_own true now s d = first_epoch_told now s d
+
+-- a 1013 or a 1029 of this station
+abbrev pub is_own : ℕ → DateMessage → Bool
+is_own station (Utc d) = d.station == station
+is_own station (Ephemeris e) = false
+
+-- the first epoch that a message tells, if it is a 1013 or a 1029 of this station and an epoch came
+abbrev pub first_by_own_after : ℕ → ℕ → Option Span → DateMessage → Option ℕ
+first_by_own_after now station None d = None
+first_by_own_after now station (Some s) d = first_if_own (is_own station d) now s d
+
+abbrev pub first_by_own : ℕ → ℕ → CaptureDates → DateMessage → Option ℕ
+first_by_own now station c d = first_by_own_after now station c.span d
+
 -- ---- which of them count
 
 -- the first of these lists that is not empty
@@ -107,3 +127,32 @@ or_else (x ∷ xs) others = x ∷ xs
 -- the dates of the station; if there are none, those of ephemerides; if none, those of other stations
 abbrev pub counting : Tellings → List Told
 counting t = or_else t.own.items (or_else t.weeks.items t.others.items)
+
+-- ---- a capture without an epoch
+
+abbrev pub first_telling : List Told → Option Told
+first_telling [] = None
+first_telling (x ∷ xs) = Some x
+
+abbrev pub reference_if_any : Option ℕ → Option ℕ
+reference_if_any None = None
+reference_if_any (Some t) = if is_reference t then Some t else None
+
+-- the moment that a message names itself, by the present, if a conversion dates near it
+abbrev pub reference_named : ℕ → DateMessage → Option ℕ
+reference_named now d = reference_if_any (own_moment now d)
+
+abbrev pub with_own_moment : ℕ → ℕ → DateMessage → Tellings → Tellings
+with_own_moment now station d t = with_first_if_any station d (reference_named now d) t
+
+abbrev pub with_own_moments : ℕ → ℕ → List DateMessage → Tellings → Tellings
+with_own_moments now station [] t = t
+with_own_moments now station (d ∷ ds) t = with_own_moments now station ds (with_own_moment now station d t)
+
+-- the moment that counts of those that these messages name, chosen as among first epochs
+abbrev pub own_moment_after : ℕ → ℕ → Option Span → List DateMessage → Option Told
+own_moment_after now station None ds = first_telling (counting (with_own_moments now station ds no_tellings))
+own_moment_after now station (Some s) ds = None
+
+abbrev pub own_moment_of : ℕ → ℕ → CaptureDates → Option Told
+own_moment_of now station c = own_moment_after now station c.span c.waiting.items

@@ -19,7 +19,8 @@ use Rattle.rtk_survey.specs.FrameDates.{dates_in, no_station_dates, station_date
 use Rattle.rtk_survey.specs.FrameEquipment.{equipment_among}
 use Rattle.rtk_survey.specs.Proposal.{epochs_in, times_with_value, entries_with}
 use Rattle.rtk_survey.specs.ReadFrames.{ReadFrame, bytes_in, messages_in, faults_in, messages_from}
-use Rattle.rtk_survey.specs.ReferencePoints.{first_point}
+use Rattle.rtk_survey.specs.ReferencePoints.{first_point, far_point}
+use Rattle.rtk_survey.specs.Sbas.{has_sbas}
 use Rattle.rtk_survey.specs.Targets.{IsAnswer}
 use Rattle.rtk_survey.specs.Tracing.{is_numbered, is_other, is_short, is_outside_week, is_no_number, is_too_many_cells, times_of_week, newest_time, oldest_time, changes_in, entries_in, gives_satellite, gives_place}
 use Rattle.rtk_survey.specs.declared.contents.Contents.{Contents}
@@ -119,6 +120,7 @@ pub record CountsMessages (s : MessageCounts) (ms : List AnyMessage) : Type 0 wh
   pub obs_1004 : s.obs_1004 ≡ count_of (is_numbered 1004) ms
   pub arp_1005 : s.arp_1005 ≡ count_of (is_numbered 1005) ms
   pub arp_1006 : s.arp_1006 ≡ count_of (is_numbered 1006) ms
+  pub sbas_1004 : s.sbas_1004 ≡ count_of has_sbas ms
 
 -- what is held of the antenna and the receiver: an entry, or none
 abbrev pub equipment_at : {A : Type 0} → Vec Equipment A → Equipment
@@ -131,6 +133,7 @@ pub record IsStationOf (ms : List AnyMessage) (d : StationDates) (e : Equipment)
   pub signals : HasSignals s.signals (entries_in ms)
   pub msm : HasMsms s.msm ms
   pub point : s.reference_point ≡ first_point ms
+  pub far : s.far_point ≡ far_point ms
   pub dates : s.dates ≡ d
   pub equipment : equipment_at s.equipment ≡ e
 

@@ -13,16 +13,34 @@ abbrev pub undated : ℕ → ℕ
 undated tow = 1024 * week_ms + tow
 
 abbrev pub begun : ℕ → Span
-begun tow = record { first = undated tow; last = undated tow; least = undated tow; greatest = undated tow; falls = false; is_wide = false }
+begun tow = record { first = undated tow; last = undated tow; least = undated tow; greatest = undated tow; next_greatest = None; falls = false; is_wide = false }
 
 -- formula
 -- an epoch at most a week from the first; one that is further is not followed
 abbrev pub is_followed : ℕ → ℕ → Bool
 is_followed first t = nat_le t LAST_MS && (nat_le t (first + week_ms) && nat_le first (t + week_ms))
 
+-- the greater of two moments, if there are two
+abbrev pub greater_if_any : Option ℕ → ℕ → ℕ
+greater_if_any None t = t
+greater_if_any (Some known) t = max known t
+
+-- the greatest moment but one, after one more than these
+abbrev pub next_greatest : Option ℕ → ℕ → ℕ → Option ℕ
+next_greatest known greatest t =
+    if nat_lt greatest t then Some greatest else if nat_lt t greatest then Some (greater_if_any known t) else known
+
 -- an epoch more
 abbrev pub with_moment : Span → ℕ → Span
-with_moment s t = record { first = s.first; last = t; least = min s.least t; greatest = max s.greatest t; falls = s.falls || nat_lt t s.last; is_wide = s.is_wide }
+with_moment s t = record {
+  first = s.first;
+  last = t;
+  least = min s.least t;
+  greatest = max s.greatest t;
+  next_greatest = next_greatest s.next_greatest s.greatest t;
+  falls = s.falls || nat_lt t s.last;
+  is_wide = s.is_wide;
+}
 
 -- the time of week of an epoch more
 abbrev pub with_time : Span → ℕ → Span

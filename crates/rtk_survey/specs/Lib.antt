@@ -10,13 +10,17 @@ pub mod EquipmentMessages
 pub mod EquipmentText
 pub mod FrameDates
 pub mod FrameEquipment
+pub mod FramePlaces
 pub mod Look
 pub mod NumberLaws
+pub mod Parting
 pub mod Phases
 pub mod Placing
+pub mod Points
 pub mod Proposal
 pub mod ReadFrames
 pub mod ReferencePoints
+pub mod Sbas
 pub mod Steps
 pub mod Summary
 pub mod SummaryText

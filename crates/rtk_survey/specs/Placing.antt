@@ -1,5 +1,5 @@
 -- The dates of captures of one station (this project's rule).
-use Rattle.std.specs.Prelude.{ℕ, ◌+◌, ◌-◌, ◌%◌, Bool, ◌&&◌, nat_le, nat_lt, min, List, [], ◌∷◌, Option, None, Some}
+use Rattle.std.specs.Prelude.{ℕ, ◌+◌, ◌-◌, ◌%◌, Bool, ◌&&◌, nat_le, nat_lt, min, Option, None, Some}
 use Rattle.rtk_message.specs.Fields.{week_ms}
 use Rattle.rtk_survey.specs.Telling.{dated, half_week_ms}
 use Rattle.rtk_survey.specs.declared.placing.CaptureEpochs.{CaptureEpochs}
@@ -15,11 +15,6 @@ abbrev pub least_with_if_any : Option ℕ → Option ℕ → Option ℕ
 least_with_if_any least None = least
 least_with_if_any least (Some n) = least_with least n
 
--- the least first epoch that is told, if one is; others are dated near it
-abbrev pub least_told : Option ℕ → List CaptureEpochs → Option ℕ
-least_told least [] = least
-least_told least (c ∷ cs) = least_told (least_with_if_any least c.told) cs
-
 -- formula
 -- the first epoch of a capture: as it is told, else dated near a base
 abbrev pub first_epoch : ℕ → Option ℕ → Span → ℕ
@@ -33,24 +28,6 @@ placed_from first s = record { first = first; from = first + s.least - s.first; 
 
 abbrev pub placed : ℕ → CaptureEpochs → Placed
 placed base c = placed_from (first_epoch base c.told c.span) c.span
-
--- the least first epoch of captures
-abbrev pub least_first : Option ℕ → List Placed → Option ℕ
-least_first least [] = least
-least_first least (p ∷ ps) = least_first (least_with least p.first) ps
-
--- formula
--- the whole second
-abbrev pub second_of : ℕ → ℕ
-second_of t = t - t % 1000
-
-abbrev pub second_if_any : Option ℕ → Option ℕ
-second_if_any None = None
-second_if_any (Some t) = Some (second_of t)
-
--- the moment near which a conversion dates these captures: the whole second of the least first epoch
-abbrev pub near_of : List Placed → Option ℕ
-near_of ps = second_if_any (least_first None ps)
 
 -- formula
 -- all epochs of a capture are dated by a conversion near this moment as they are here

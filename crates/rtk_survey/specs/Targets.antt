@@ -1,22 +1,29 @@
 -- What a capture tells of the station of a conversion (this project's rule). Lists of frames and messages
 -- are newest first.
-use Rattle.std.specs.Prelude.{◌≡◌, ℕ, ◌==◌, Bool, List, [], ◌∷◌, Option, None, Some, unwrap_or, is_some, Result, Ok, Err, if◌then◌else◌}
+use Rattle.std.specs.Prelude.{◌≡◌, ℕ, ◌==◌, Bool, List, [], ◌∷◌, length, Option, None, Some, unwrap_or, is_some, Result, Ok, Err, if◌then◌else◌}
 use Rattle.std.specs.List.{list_any}
 use Rattle.rtk_bits.specs.Bits.{bits}
 use Rattle.rtk_message.specs.declared.any_message.AnyMessage.{AnyMessage}
 use Rattle.rtk_message.specs.declared.any_fault.AnyFault.{AnyFault}
 use Rattle.rtk_message.specs.AnyDecoded.{station_of, tow_of}
 use Rattle.rtk_survey.specs.CaptureDates.{no_dates, with_epoch_time, with_date, with_waiting}
+use Rattle.rtk_survey.specs.Counting.{shown_count}
 use Rattle.rtk_survey.specs.DateMessages.{date_in}
 use Rattle.rtk_survey.specs.Epochs.{last_time_of_week}
 use Rattle.rtk_survey.specs.EquipmentMessages.{equipment_in}
+use Rattle.rtk_survey.specs.Parting as parting
+use Rattle.rtk_survey.specs.Parting.{no_parting, with_epochs}
 use Rattle.rtk_survey.specs.Phases.{HasPhases}
 use Rattle.rtk_survey.specs.Proposal.{entry_has_value}
 use Rattle.rtk_survey.specs.ReadFrames.{ReadFrame, messages_in, messages_from}
+use Rattle.rtk_survey.specs.Telling.{is_to_come}
 use Rattle.rtk_survey.specs.Tracing.{entries_of_message}
 use Rattle.rtk_survey.specs.declared.capture_dates.CaptureDates.{CaptureDates}
 use Rattle.rtk_survey.specs.declared.date_message.DateMessage.{DateMessage}
+use Rattle.rtk_survey.specs.declared.date_message.DateMessage.TheVariants.{Utc, Ephemeris}
+use Rattle.rtk_survey.specs.declared.date_message.UtcDate.{UtcDate}
 use Rattle.rtk_survey.specs.declared.equipment_message.EquipmentMessage.{EquipmentMessage}
+use Rattle.rtk_survey.specs.declared.parting.Parting.{Parting}
 use Rattle.rtk_survey.specs.declared.phases.Phases.{Phases}
 use Rattle.rtk_survey.specs.declared.span.Span.{Span}
 use Rattle.rtk_survey.specs.declared.target.Target.{Target}
@@ -117,6 +124,35 @@ equipment_times_of now named [] = no_times
 equipment_times_of now named (f ∷ before) =
     times_with_reading (dates_of now named before) (equipment_times_of now named before) f.payload f.reading
 
+-- ---- where a second date begins
+
+abbrev pub parting_with_reading : ℕ → TargetDates → ℕ → Parting → Result AnyMessage AnyFault → List ℕ → Parting
+parting_with_reading now d frame p (Ok m) payload = with_epochs d.capture.span (with_observation now d m).capture.span frame p
+parting_with_reading now d frame p (Err fault) payload = parting.parting_with_date now d.station d.capture (date_in (bits payload)) frame p
+
+-- what frames tell, by the present, if this station is named, or none
+abbrev pub parting_of : ℕ → Option ℕ → List ReadFrame → Parting
+parting_of now named [] = no_parting
+parting_of now named (f ∷ before) =
+    parting_with_reading now (dates_of now named before) (shown_count (length before)) (parting_of now named before) f.reading f.payload
+
+-- ---- a date that is to come
+
+abbrev pub first_to_come : ℕ → Option UtcDate → Option DateMessage → Option UtcDate
+first_to_come now (Some d) m = Some d
+first_to_come now None None = None
+first_to_come now None (Some (Utc d)) = if is_to_come now d then Some d else None
+first_to_come now None (Some (Ephemeris e)) = None
+
+abbrev pub to_come_with_reading : ℕ → Option UtcDate → Result AnyMessage AnyFault → List ℕ → Option UtcDate
+to_come_with_reading now known (Ok m) payload = known
+to_come_with_reading now known (Err fault) payload = first_to_come now known (date_in (bits payload))
+
+-- the first 1013 or 1029, of any station, whose date is to come
+abbrev pub to_come_of : ℕ → List ReadFrame → Option UtcDate
+to_come_of now [] = None
+to_come_of now (f ∷ before) = to_come_with_reading now (to_come_of now before) f.reading f.payload
+
 -- ---- all of it
 
 pub record IsTargetOf (q : Target) (fs : List ReadFrame) (t : TargetSurvey) : Type 0 where
@@ -124,6 +160,8 @@ pub record IsTargetOf (q : Target) (fs : List ReadFrame) (t : TargetSurvey) : Ty
   pub dates : t.dates ≡ dates_of q.present q.station fs
   pub phases : HasTargetPhases t.phases t.dates.station (messages_in fs)
   pub equipment : t.equipment ≡ equipment_times_of q.present q.station fs
+  pub parting : t.parting ≡ parting_of q.present q.station fs
+  pub to_come : t.to_come ≡ to_come_of q.present fs
 
 -- what a capture with these frames tells of the station of a conversion, if it is asked for
 abbrev pub IsAnswer : Option Target → List ReadFrame → Option TargetSurvey → Type 0

@@ -54,6 +54,11 @@ abbrev pub is_possible : ℕ → UtcDate → Bool
 is_possible now d = is_date d && nat_le d.day (day_of now + 1)
 
 -- formula
+-- a date that is more than one day after that of now
+abbrev pub is_to_come : ℕ → UtcDate → Bool
+is_to_come now d = is_date d && nat_lt (day_of now + 1) d.day
+
+-- formula
 abbrev pub told_by_utc : ℕ → UtcDate → ℕ → Option ℕ
 told_by_utc now d tow = if is_possible now d then Some (nearest (moment_of d) tow) else None
 
@@ -88,3 +93,17 @@ told_by_ephemeris now e tow =
 abbrev pub told : ℕ → DateMessage → ℕ → Option ℕ
 told now (Utc d) tow = told_by_utc now d tow
 told now (Ephemeris e) tow = told_by_ephemeris now e tow
+
+-- ---- a capture without an epoch
+
+-- formula
+-- the reference time of an ephemeris in its week, if a week has such a time
+abbrev pub own_moment_of_ephemeris : ℕ → EphemerisDate → Option ℕ
+own_moment_of_ephemeris now e =
+    if nat_lt (1000 * e.reference_time_s) week_ms then told_by_ephemeris now e (1000 * e.reference_time_s) else None
+
+-- formula
+-- the moment that a message names itself, by the present
+abbrev pub own_moment : ℕ → DateMessage → Option ℕ
+own_moment now (Utc d) = if is_possible now d then Some (moment_of d) else None
+own_moment now (Ephemeris e) = own_moment_of_ephemeris now e

@@ -1,11 +1,11 @@
 //! The epochs of a station in a capture, and what the capture tells of the first of them.
 
 ghost use Rattle.std.specs.Prelude.{◌≡◌};
-ghost use Rattle.rtk_survey.specs.CaptureDates.{no_dates, with_tellings, with_waiting, with_epoch_time, with_date};
+ghost use Rattle.rtk_survey.specs.CaptureDates.{no_dates, with_tellings, with_waiting, with_epoch_time, with_date, first_by_own, with_own_moments, first_telling, own_moment_of};
 
 use crate::date_message::DateMessage;
 use crate::span::Span;
-use crate::tellings::Tellings;
+use crate::tellings::{Tellings, Told, first_epoch_told};
 use arrayvec::ArrayVec;
 use rtk_obs::GpsMs;
 
@@ -31,6 +31,21 @@ fn take_all(told: &mut Tellings, now: GpsMs, station: u16, span: &Span, messages
     for message in messages {
         told.take(now, station, span, message);
     }
+}
+
+// The moments that messages name, in their order.
+fn take_own_moments(named: &mut Tellings, now: GpsMs, station: u16, messages: &[DateMessage])
+    ensures { named.new ≡ with_own_moments now station messages.now named.old }
+{
+    for message in messages {
+        named.take_own_moment(now, station, message);
+    }
+}
+
+fn first_telling(told: &[Told]) -> Option<Told>
+    ensures { result ≡ first_telling told.now }
+{
+    told.first().copied()
 }
 
 impl CaptureDates {
@@ -75,6 +90,36 @@ impl CaptureDates {
         match &self.span {
             None => self.wait(message),
             Some(span) => self.told.take(now, station, span, &message),
+        }
+    }
+
+    /// The moment that a message names, if no epoch came: the first that counts, as of first epochs.
+    pub fn own_moment(&self, now: GpsMs, station: u16) -> Option<Told>
+        ensures { result ≡ own_moment_of now station self.now }
+    {
+        if self.span.is_some() {
+            return None;
+        }
+        let mut named = Tellings::new();
+        take_own_moments(&mut named, now, station, self.waiting.as_slice());
+        first_telling(named.counting())
+    }
+
+    /// The first epoch that a message tells, if it is a 1013 or a 1029 of this station and an epoch came.
+    pub(crate) fn first_by_own(
+        &self,
+        now: GpsMs,
+        station: u16,
+        message: &DateMessage,
+    ) -> Option<u64>
+        ensures { result ≡ first_by_own now station self.now message.now }
+    {
+        let span = self.span?;
+        match message {
+            DateMessage::Utc(date) if date.station == station => {
+                first_epoch_told(now, &span, message)
+            }
+            _ => None,
         }
     }
 }

@@ -121,12 +121,13 @@ impl Contents {
         ensures { OnOk result ((q : Option Target) (before : List ReadFrame) → HoldsFrames q before self.old
             → HoldsFrames q (read_frame payload.now (Ok message.now) ∷ before) self.new) }
     {
-        self.frames = self.frames.saturating_add(1);
+        let frame = self.frames;
+        self.frames = frame.saturating_add(1);
         self.framed = self.framed.saturating_add(payload.len() as u64 + 6);
         let codes = Codes::of(entries);
         self.codes.join(&codes);
         take_message(alloc, &mut self.stations, message, entries, &codes)?;
-        take_target_message(alloc, &mut self.target, message, entries)
+        take_target_message(alloc, &mut self.target, message, entries, frame)
     }
 
     /// A frame more, whose payload is no message that is read. It may tell a date, an antenna or a
@@ -140,10 +141,11 @@ impl Contents {
         ensures { OnOk result ((q : Option Target) (before : List ReadFrame) → HoldsFrames q before self.old
             → HoldsFrames q (read_frame payload.now (Err fault) ∷ before) self.new) }
     {
-        self.frames = self.frames.saturating_add(1);
+        let frame = self.frames;
+        self.frames = frame.saturating_add(1);
         self.framed = self.framed.saturating_add(payload.len() as u64 + 6);
         self.unread.count_fault(fault)?;
-        take_target_fault(&mut self.target, payload);
+        take_target_fault(&mut self.target, payload, frame);
         take_dates_in(alloc, &mut self.stations, &mut self.weeks, payload)?;
         take_equipment_in(alloc, &mut self.stations, payload)
     }

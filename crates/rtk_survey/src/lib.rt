@@ -43,16 +43,20 @@ mod epochs;
 mod equipment;
 mod equipment_lines;
 mod equipment_message;
+mod frame_place;
 mod laws;
 mod line;
 mod lines;
 mod look;
 mod msm_parts;
+mod parting;
 mod phases;
 mod placing;
+mod points;
 mod proposal_lines;
 mod reading;
 mod reference_point;
+mod sbas;
 mod signal_lines;
 mod signals;
 mod span;
@@ -76,19 +80,19 @@ pub use epochs::Epochs;
 pub use equipment::{Equipment, SetupHistory, TextHistory};
 pub use equipment_lines::put_shown;
 pub use equipment_message::{Antenna, EquipmentMessage, Receiver, Text, equipment_in};
+pub use frame_place::place_of_frame;
 pub use laws::{
     all_are_taken_alike, each_frame_is_counted, four_need_no_option, lines_tell_numbers,
     most_epochs_are_named, parts_stand_in_a_summary, summaries_tell_counts,
 };
 pub use look::{Look, look_of};
 pub use msm_parts::{MsmPart, MsmParts};
+pub use parting::{EpochStep, Parting};
 pub use phases::{PhaseCount, Phases, count_in_table};
-pub use placing::{
-    CaptureEpochs, Placed, base_of, is_dated_near, least_with_if_any, near_of, place,
-    place_captures,
-};
+pub use placing::{CaptureEpochs, Placed, is_dated_near, least_with_if_any, place};
+pub use points::are_far;
 pub use reading::survey_capture;
-pub use reference_point::{ReferencePoint, first_point_with};
+pub use reference_point::{ReferencePoint, far_point_with, first_point_with};
 pub use signals::{Codes, Signals, has_value, have_value};
 pub use span::Span;
 pub use station::{MessageCounts, StationSurvey};

@@ -1,6 +1,7 @@
 //! The epochs of a station in a capture, before its date is known.
 
 ghost use Rattle.std.specs.Prelude.{◌≡◌, Some, None, max, min, if◌then◌else◌};
+ghost use Rattle.rtk_survey.specs.Epochs as spec;
 ghost use Rattle.rtk_survey.specs.Epochs.{begun, is_followed, with_time, with_moment, last_time_of_week};
 
 use crate::telling::dated_ms;
@@ -17,6 +18,8 @@ pub struct Span {
     pub last: GpsMs,
     pub least: GpsMs,
     pub greatest: GpsMs,
+    /// The greatest epoch but one; `None` if there is one epoch alone.
+    pub next_greatest: Option<GpsMs>,
     /// Some epoch is before the one that came before it.
     pub falls: bool,
     /// Some epoch is more than a week from the first. Such epochs are left out.
@@ -33,6 +36,29 @@ fn greater(a: GpsMs, b: GpsMs) -> GpsMs
     ensures { result ≡ max a b }
 {
     if a.ms() <= b.ms() { b } else { a }
+}
+
+// The greatest of two moments, if there are two.
+fn greater_if_any(known: Option<GpsMs>, moment: GpsMs) -> GpsMs
+    ensures { result ≡ spec.greater_if_any known moment }
+{
+    match known {
+        Some(known) => greater(known, moment),
+        None => moment,
+    }
+}
+
+// The greatest moment but one, after one more than these.
+fn next_greatest(known: Option<GpsMs>, greatest: GpsMs, moment: GpsMs) -> Option<GpsMs>
+    ensures { result ≡ spec.next_greatest known greatest moment }
+{
+    if greatest.ms() < moment.ms() {
+        return Some(greatest);
+    }
+    if moment.ms() < greatest.ms() {
+        return Some(greater_if_any(known, moment));
+    }
+    known
 }
 
 // The moment, if it is at most a week from the first.
@@ -60,6 +86,7 @@ impl Span {
             last: first,
             least: first,
             greatest: first,
+            next_greatest: None,
             falls: false,
             is_wide: false,
         }
@@ -69,6 +96,7 @@ impl Span {
         ensures { self.new ≡ with_moment self.old moment }
     {
         self.least = lesser(self.least, moment);
+        self.next_greatest = next_greatest(self.next_greatest, self.greatest, moment);
         self.greatest = greater(self.greatest, moment);
         self.falls = self.falls || moment.ms() < self.last.ms();
         self.last = moment;

@@ -1,7 +1,6 @@
 //! What a capture tells of one station.
 
 ghost use Rattle.std.specs.Prelude.{◌≡◌, List, [], ◌∷◌, OnOk};
-ghost use Rattle.rtk_message.specs.AnyDecoded.{number_of};
 ghost use Rattle.rtk_message.specs.declared.any_message.AnyMessage.{AnyMessage};
 ghost use Rattle.rtk_survey.specs.Contents.{equipment_at, CountsMessages, HasCodes, IsStationOf};
 ghost use Rattle.rtk_survey.specs.EquipmentHistory.{no_equipment, with_message};
@@ -17,7 +16,8 @@ use crate::date_message::UtcDate;
 use crate::equipment::Equipment;
 use crate::equipment_message::EquipmentMessage;
 use crate::msm_parts::MsmParts;
-use crate::reference_point::{ReferencePoint, first_point_with};
+use crate::reference_point::{ReferencePoint, far_point_with, first_point_with};
+use crate::sbas::has_sbas;
 use crate::signals::{Codes, Signals};
 use crate::station_dates::StationDates;
 use crate::times_of_week::Times;
@@ -33,6 +33,8 @@ pub struct MessageCounts {
     pub obs_1004: u64,
     pub arp_1005: u64,
     pub arp_1006: u64,
+    /// The 1004 that have a satellite of SBAS.
+    pub sbas_1004: u64,
 }
 
 /// What one capture tells of a station that was heard in it.
@@ -44,8 +46,10 @@ pub struct StationSurvey {
     /// The satellites and codes that have a value.
     pub signals: Signals,
     pub msm: MsmParts,
-    /// That of its first 1005 or 1006.
+    /// That of its first 1005 or 1006 that has one.
     pub reference_point: Option<ReferencePoint>,
+    /// The first one that is more than 100 m from it.
+    pub far_point: Option<ReferencePoint>,
     /// The dates that its 1013 and 1029 tell.
     pub dates: StationDates,
     /// What its 1007, 1008 and 1033 tell: an entry, or none if there is no such message.
@@ -62,18 +66,20 @@ impl MessageCounts {
             obs_1004: 0,
             arp_1005: 0,
             arp_1006: 0,
+            sbas_1004: 0,
         }
     }
 
     /// Counts a message under its number.
-    pub fn count_number(&mut self, number: u16)
-        ensures { (ms : List AnyMessage) (m : AnyMessage) → number ≡ number_of m
-            → CountsMessages self.old ms → CountsMessages self.new (m ∷ ms) }
+    pub fn count_message(&mut self, message: &AnyMessage)
+        ensures { (ms : List AnyMessage) → CountsMessages self.old ms → CountsMessages self.new (message.now ∷ ms) }
     {
+        let number = message.number();
         self.messages = count_if(self.messages, true);
         self.obs_1004 = count_if(self.obs_1004, number == 1004);
         self.arp_1005 = count_if(self.arp_1005, number == 1005);
         self.arp_1006 = count_if(self.arp_1006, number == 1006);
+        self.sbas_1004 = count_if(self.sbas_1004, has_sbas(message));
     }
 }
 
@@ -99,6 +105,7 @@ impl StationSurvey {
             signals: Signals::new(),
             msm: MsmParts::new(),
             reference_point: None,
+            far_point: None,
             dates: StationDates::new(),
             equipment: Vec::new(alloc),
         }
@@ -116,11 +123,13 @@ impl StationSurvey {
         ensures { (ms : List AnyMessage) (d : StationDates) (e : Equipment) → IsStationOf ms d e self.old
             → IsStationOf (message.now ∷ ms) d e self.new }
     {
-        self.counts.count_number(message.number());
+        self.counts.count_message(message);
         self.times.note_message(message);
         self.signals.mark_entries(entries);
         self.msm.add_message(message, entries, codes);
-        self.reference_point = first_point_with(self.reference_point, message);
+        let first = self.reference_point;
+        self.far_point = far_point_with(first, self.far_point, message);
+        self.reference_point = first_point_with(first, message);
     }
 
     /// A 1013 or a 1029 more of the station.

@@ -1,10 +1,12 @@
 //! The station of a conversion: the one that is named, or else the first one that has an observation.
 
-ghost use Rattle.std.specs.Prelude.{◌≡◌, ◌≢◌, ℕ, List, [], ◌∷◌, Option, Some, Ok, Err, true, OnOk};
+ghost use Rattle.std.specs.Prelude.{◌≡◌, ◌≢◌, ℕ, List, [], ◌∷◌, length, Option, Some, Ok, Err, true, OnOk};
 ghost use Rattle.rtk_bits.specs.Bits.{bits};
 ghost use Rattle.rtk_message.specs.declared.any_message.AnyMessage.{AnyMessage};
 ghost use Rattle.rtk_message.specs.declared.any_fault.AnyFault.{AnyFault};
 ghost use Rattle.rtk_survey.specs.CaptureDates.{no_dates};
+ghost use Rattle.rtk_survey.specs.Counting.{shown_count};
+ghost use Rattle.rtk_survey.specs.Parting as parting;
 ghost use Rattle.rtk_survey.specs.ReadFrames.{ReadFrame, read_frame};
 ghost use Rattle.rtk_survey.specs.Targets as spec;
 ghost use Rattle.rtk_survey.specs.Targets.{IsTargetOf, IsAnswer};
@@ -12,10 +14,12 @@ ghost use Rattle.rtk_survey.specs.Tracing.{entries_of_message};
 ghost use Rattle.rtk_survey.specs.declared.target.Target.{Target};
 
 use crate::capture_dates::CaptureDates;
-use crate::date_message::{DateMessage, date_in};
+use crate::date_message::{DateMessage, UtcDate, date_in};
 use crate::equipment_message::{EquipmentMessage, equipment_in};
+use crate::parting::Parting;
 use crate::phases::Phases;
 use crate::signals::have_value;
+use crate::telling::is_to_come;
 use rtk_message::AnyMessage;
 use rtk_obs::{CellEntry, GpsMs};
 use std::alloc::{AllocError, Global};
@@ -56,6 +60,10 @@ pub struct TargetSurvey {
     pub phases: Phases,
     /// When its antenna and its receiver were told last.
     pub equipment: EquipmentTimes,
+    /// Where a second date begins.
+    pub parting: Parting,
+    /// The date of the first 1013 or 1029, of any station, that is passed over since it is to come.
+    pub to_come: Option<UtcDate>,
 }
 
 // Has a message with these cells an observation?
@@ -110,7 +118,9 @@ impl TargetDates {
 fn time_at(dates: &TargetDates, station: u16) -> Option<u32>
     ensures { result ≡ spec.time_at dates.now station }
 {
-    let span = dates.capture.span?;
+    let Some(span) = &dates.capture.span else {
+        return None;
+    };
     if dates.station.unwrap_or(station) == station {
         Some(span.last_time_of_week())
     } else {
@@ -149,6 +159,20 @@ impl EquipmentTimes {
         if let Some(tow) = time_at(dates, message.station) {
             self.take_at(tow, message.receiver.is_some());
         }
+    }
+}
+
+// The first date that is to come: one that was told before, or else this one.
+fn first_to_come(
+    now: GpsMs,
+    before: Option<UtcDate>,
+    message: Option<DateMessage>,
+) -> Option<UtcDate>
+    ensures { result ≡ spec.first_to_come now before message }
+{
+    match (before, message) {
+        (None, Some(DateMessage::Utc(date))) if is_to_come(now, date) => Some(date),
+        _ => before,
     }
 }
 
@@ -192,6 +216,8 @@ impl TargetSurvey {
             dates: TargetDates::new(target.station),
             phases: Phases::new(alloc),
             equipment: EquipmentTimes::new(),
+            parting: Parting::new(),
+            to_come: None,
         }
     }
 
@@ -201,12 +227,16 @@ impl TargetSurvey {
         alloc: Global,
         message: &AnyMessage,
         entries: &[CellEntry],
+        frame: u64,
     ) -> Result<(), AllocError>
         requires { entries.now ≡ entries_of_message message.now }
-        ensures { OnOk result ((q : Target) (fs : List ReadFrame) (payload : List ℕ) → IsTargetOf q fs self.old
-            → IsTargetOf q (read_frame payload (Ok message.now) ∷ fs) self.new) }
+        ensures { OnOk result ((q : Target) (fs : List ReadFrame) (payload : List ℕ) → frame ≡ shown_count (length fs)
+            → IsTargetOf q fs self.old → IsTargetOf q (read_frame payload (Ok message.now) ∷ fs) self.new) }
     {
+        let before = self.dates.capture.span;
         take_message(&mut self.dates, self.present, message, entries);
+        self.parting
+            .take_epochs(before, self.dates.capture.span, frame);
         take_phases(
             alloc,
             &mut self.phases,
@@ -216,13 +246,27 @@ impl TargetSurvey {
         )
     }
 
+    // A message more, if it has a date.
+    fn take_date(&mut self, message: Option<DateMessage>, frame: u64)
+        ensures dates { self.new.dates ≡ spec.with_date_if_any self.old.present self.old.dates message }
+        ensures parting { self.new.parting ≡ parting.parting_with_date self.old.present self.old.dates.station self.old.dates.capture message frame self.old.parting }
+        ensures to_come { self.new.to_come ≡ spec.first_to_come self.old.present self.old.to_come message }
+        ensures others { (self.new.present ≡ self.old.present) × (self.new.phases ≡ self.old.phases) × (self.new.equipment ≡ self.old.equipment) }
+    {
+        self.to_come = first_to_come(self.present, self.to_come, message);
+        let (station, capture) = (self.dates.station, &self.dates.capture);
+        self.parting
+            .take_date(self.present, station, capture, message, frame);
+        self.dates.take_date(self.present, message);
+    }
+
     // A frame more that is no message.
-    fn take_fault(&mut self, payload: &[u8])
-        ensures { (q : Target) (fs : List ReadFrame) (fault : AnyFault) → IsTargetOf q fs self.old
+    fn take_fault(&mut self, payload: &[u8], frame: u64)
+        ensures { (q : Target) (fs : List ReadFrame) (fault : AnyFault) → frame ≡ shown_count (length fs) → IsTargetOf q fs self.old
             → IsTargetOf q (read_frame payload.now (Err fault) ∷ fs) self.new }
     {
         self.equipment.take(&self.dates, equipment_in(payload));
-        self.dates.take_date(self.present, date_in(payload));
+        self.take_date(date_in(payload), frame);
     }
 }
 
@@ -236,29 +280,30 @@ pub(crate) fn answer_to(alloc: Global, target: Option<Target>) -> Option<TargetS
     }
 }
 
-/// A frame more that is this message, if the station is asked for.
+/// A frame more that is this message, if the station is asked for; so many frames came before it.
 pub(crate) fn take_target_message(
     alloc: Global,
     answer: &mut Option<TargetSurvey>,
     message: &AnyMessage,
     entries: &[CellEntry],
+    frame: u64,
 ) -> Result<(), AllocError>
     requires { entries.now ≡ entries_of_message message.now }
-    ensures { OnOk result ((q : Option Target) (fs : List ReadFrame) (payload : List ℕ) → IsAnswer q fs answer.old
-        → IsAnswer q (read_frame payload (Ok message.now) ∷ fs) answer.new) }
+    ensures { OnOk result ((q : Option Target) (fs : List ReadFrame) (payload : List ℕ) → frame ≡ shown_count (length fs)
+        → IsAnswer q fs answer.old → IsAnswer q (read_frame payload (Ok message.now) ∷ fs) answer.new) }
 {
     match answer {
-        Some(survey) => survey.take_message(alloc, message, entries),
+        Some(survey) => survey.take_message(alloc, message, entries, frame),
         None => Ok(()),
     }
 }
 
-/// A frame more that is no message, if the station is asked for.
-pub(crate) fn take_target_fault(answer: &mut Option<TargetSurvey>, payload: &[u8])
-    ensures { (q : Option Target) (fs : List ReadFrame) (fault : AnyFault) → IsAnswer q fs answer.old
+/// A frame more that is no message, if the station is asked for; so many frames came before it.
+pub(crate) fn take_target_fault(answer: &mut Option<TargetSurvey>, payload: &[u8], frame: u64)
+    ensures { (q : Option Target) (fs : List ReadFrame) (fault : AnyFault) → frame ≡ shown_count (length fs) → IsAnswer q fs answer.old
         → IsAnswer q (read_frame payload.now (Err fault) ∷ fs) answer.new }
 {
     if let Some(survey) = answer {
-        survey.take_fault(payload);
+        survey.take_fault(payload, frame);
     }
 }

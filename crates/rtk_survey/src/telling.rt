@@ -56,12 +56,26 @@ pub fn is_date(date: UtcDate) -> bool
     EARLIEST_DAY <= date.day && u64::from(date.second) <= LAST_SECOND
 }
 
+// The last day that may be a date: the one after that of now.
+fn last_day(now: GpsMs) -> u64
+    ensures { result ≡ spec.day_of now + 1 }
+{
+    FIRST_DAY + now.ms() / DAY_MS + 1
+}
+
 // Is it a date, and none that is still to come?
 fn is_possible(now: GpsMs, date: UtcDate) -> bool
     ensures { result ≡ spec.is_possible now date }
 {
-    let tomorrow = FIRST_DAY + now.ms() / DAY_MS + 1;
+    let tomorrow = last_day(now);
     is_date(date) && u64::from(date.day) <= tomorrow
+}
+
+/// Is it a date that is still to come?
+pub(crate) fn is_to_come(now: GpsMs, date: UtcDate) -> bool
+    ensures { result ≡ spec.is_to_come now date }
+{
+    is_date(date) && last_day(now) < u64::from(date.day)
 }
 
 fn told_by_utc(now: GpsMs, date: UtcDate, tow: u32) -> Option<u64>
@@ -95,6 +109,29 @@ fn told_by_ephemeris(now: GpsMs, ephemeris: EphemerisDate, tow: u32) -> Option<u
         return None;
     }
     Some(WEEK_MS * (present - before) + u64::from(tow))
+}
+
+fn own_moment_of_ephemeris(now: GpsMs, ephemeris: EphemerisDate) -> Option<u64>
+    ensures { result ≡ spec.own_moment_of_ephemeris now ephemeris }
+{
+    let tow = 1000 * u64::from(ephemeris.reference_time_s);
+    if tow < WEEK_MS {
+        told_by_ephemeris(now, ephemeris, tow as u32)
+    } else {
+        None
+    }
+}
+
+/// The moment that a message names itself: that of its day and second, or the reference time of its
+/// ephemeris; `None` if its date is passed over, as in `told`.
+pub fn own_moment(now: GpsMs, message: &DateMessage) -> Option<u64>
+    ensures { result ≡ spec.own_moment now message.now }
+{
+    match message {
+        DateMessage::Utc(date) if is_possible(now, *date) => Some(moment_of(*date).ms()),
+        DateMessage::Utc(_) => None,
+        DateMessage::Ephemeris(ephemeris) => own_moment_of_ephemeris(now, *ephemeris),
+    }
 }
 
 /// The moment that a message tells of an epoch with this time of week (DF004, in ms), in ms since

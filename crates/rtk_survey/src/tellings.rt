@@ -2,11 +2,11 @@
 
 ghost use Rattle.std.specs.Prelude.{◌≡◌, ◌^◌, ◌<◌, Some};
 ghost use Rattle.std.specs.List.{list_any};
-ghost use Rattle.rtk_survey.specs.CaptureDates.{tells_same, is_reference, first_epoch_from, first_epoch_told, with_told, with_first, with_telling, no_tellings, counting};
+ghost use Rattle.rtk_survey.specs.CaptureDates.{tells_same, is_reference, first_epoch_from, first_epoch_told, with_told, with_first, with_telling, reference_named, with_own_moment, no_tellings, counting};
 
 use crate::date_message::DateMessage;
 use crate::span::Span;
-use crate::telling::told;
+use crate::telling::{own_moment, told};
 use arrayvec::ArrayVec;
 use rtk_obs::{GpsMs, WEEK_MS};
 
@@ -56,12 +56,24 @@ fn first_epoch_from(span: &Span, last: u64) -> Option<u64>
     }
 }
 
-// The first epoch that a message tells after these epochs.
-fn first_epoch_told(now: GpsMs, span: &Span, message: &DateMessage) -> Option<u64>
+/// The first epoch that a message tells after these epochs.
+pub(crate) fn first_epoch_told(now: GpsMs, span: &Span, message: &DateMessage) -> Option<u64>
     ensures { result ≡ first_epoch_told now span.now message.now }
 {
     let last = told(now, message, span.last_time_of_week())?;
     first_epoch_from(span, last)
+}
+
+// The moment that a message names itself, if a conversion dates near it.
+fn reference_named(now: GpsMs, message: &DateMessage) -> Option<u64>
+    ensures { result ≡ reference_named now message.now }
+{
+    let moment = own_moment(now, message)?;
+    if is_reference(moment) {
+        Some(moment)
+    } else {
+        None
+    }
 }
 
 fn is_known(list: &[Told], first: u64) -> bool
@@ -111,6 +123,15 @@ impl Tellings {
     {
         if let Some(first) = first_epoch_told(now, span, message) {
             self.put_first(station, message, first);
+        }
+    }
+
+    /// A message more of a capture without an epoch: the moment that it names itself.
+    pub(crate) fn take_own_moment(&mut self, now: GpsMs, station: u16, message: &DateMessage)
+        ensures { self.new ≡ with_own_moment now station message.now self.old }
+    {
+        if let Some(moment) = reference_named(now, message) {
+            self.put_first(station, message, moment);
         }
     }
 

@@ -57,12 +57,12 @@ pub(crate) fn window_arg<'a>(alloc: Global, help: &'a str) -> Arg<'a> {
     )
 }
 
-/// Which MSM is converted beside 1004, or shown.
+/// Which MSM is converted beside 1004.
 pub(crate) fn msm_arg<'a>(alloc: Global, help: &'a str) -> Arg<'a> {
     number_arg(alloc, "msm", 4, 7, help)
 }
 
-/// The kinds of MSM that are converted. clap's numbers are no lists, and its texts are anything. So texts are taken only
+/// The kinds of MSM that are converted or shown. clap's numbers are no lists, and its texts are anything. So texts are taken only
 /// if some word is a good list, and else each word is refused as a number is.
 pub(crate) fn kinds_arg<'a>(alloc: Global, takes_lists: bool, help: &'a str) -> Arg<'a> {
     if takes_lists {

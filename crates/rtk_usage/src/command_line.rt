@@ -3,8 +3,7 @@
 //! clap is the costly part of the proof, so its command is built here alone, in small functions.
 
 use crate::arguments::{
-    file_arg, kinds_arg, marker_arg, msm_arg, number_arg, option_arg, station_arg, switch_arg,
-    window_arg,
+    file_arg, kinds_arg, marker_arg, number_arg, option_arg, station_arg, switch_arg, window_arg,
 };
 use crate::auto_command::auto_command;
 use crate::help_texts;
@@ -25,13 +24,13 @@ const WINDOW: &str = "64";
 /// The MSM if none is given: 1074.
 const MSM: &str = "4";
 
-fn show_command<'a>(alloc: Global) -> Result<Command<'a>, AllocError> {
-    let msm = "Which MSM is shown: 4 is 1074, 5 is 1075, 6 is 1076, 7 is 1077; 4 if not given";
+fn show_command<'a>(alloc: Global, takes_lists: bool) -> Result<Command<'a>, AllocError> {
+    let msm = "Which MSM of all systems is shown, as 7 or 7,E4; 1074 alone if not given";
     Command::new(alloc, "show")
         .about("Shows the messages of a capture, a line for each frame")
         .after_long_help(help_texts::SHOW)
         .arg(switch_arg(alloc, "hex", "The capture is hex text"))?
-        .arg(msm_arg(alloc, msm))?
+        .arg(kinds_arg(alloc, takes_lists, msm))?
         .arg(file_arg(alloc, "The capture, or stdin for standard input"))
 }
 
@@ -124,12 +123,17 @@ fn every_arg<'a>(alloc: Global) -> Arg<'a> {
 // One of the options of `cut` must be given.
 fn cut_options_group<'a>(alloc: Global) -> Result<ArgGroup<'a>, AllocError> {
     let group = ArgGroup::new(alloc, "PART").required(true).multiple(true);
-    group.arg("from")?.arg("until")?.arg("every")
+    group
+        .arg("from")?
+        .arg("until")?
+        .arg("every")?
+        .arg("systems")
 }
 
 fn cut_command<'a>(alloc: Global) -> Result<Command<'a>, AllocError> {
     let from = "The GPS time of the first records that are kept";
     let until = "The GPS time before which records are kept";
+    let systems = "Only these systems are kept, as GE";
     Command::new(alloc, "cut")
         .about("Writes the file of a part of a file; no slip is lost")
         .after_long_help(help_texts::CUT)
@@ -137,6 +141,7 @@ fn cut_command<'a>(alloc: Global) -> Result<Command<'a>, AllocError> {
         .arg(option_arg(alloc, "from", "T", from))?
         .arg(option_arg(alloc, "until", "T", until))?
         .arg(every_arg(alloc))?
+        .arg(option_arg(alloc, "systems", "LETTERS", systems))?
         .group(cut_options_group(alloc)?)
 }
 
@@ -197,14 +202,14 @@ fn with_command<'a>(
     program.subcommand(command?)
 }
 
-/// The whole command line. If `takes_lists`, `--msm` of `convert` takes texts.
+/// The whole command line. If `takes_lists`, `--msm` of `convert` and `show` takes texts.
 pub fn program_command<'a>(alloc: Global, takes_lists: bool) -> Result<Command<'a>, AllocError> {
     let program = program_alone(alloc)?
         .no_binary_name(true)
         .subcommand_required(true);
     let program = with_command(program, auto_command(alloc))?;
     let program = with_command(program, convert_command(alloc, takes_lists))?;
-    let program = with_command(program, show_command(alloc))?;
+    let program = with_command(program, show_command(alloc, takes_lists))?;
     let program = with_command(program, check_command(alloc))?;
     let program = with_command(program, summary_command(alloc))?;
     let program = with_command(program, chart_command(alloc))?;

@@ -73,7 +73,9 @@ Manual: man rtcm2rinex, or docs/MANUAL.md";
 
 pub(crate) const SHOW: &str = "\
 Which MSM:
-  --msm 7 shows 1077 in the place of 1074, whose lines are then 1074 other.
+  Without --msm 1074 is shown, and all other MSM are as 1077 other. --msm 7 shows
+  MSM7 of all systems, as 1077 and 1087, and 1074 is then 1074 other.
+  --msm 7,E4,C4 shows MSM7 of all systems, but MSM4 of Galileo and BeiDou.
 
 Example:
   rtcm2rinex show capture.rtcm
@@ -147,18 +149,21 @@ Example:
   rtcm2rinex cut --every 30 base.rnx >base_30s.rnx
   rtcm2rinex cut --from 2024-05-17T12:00:00 --until 2024-05-17T13:00:00 \\
       day.rnx >hour.rnx
+  rtcm2rinex cut --systems GE day.rnx >gps_galileo.rnx
 
 Exit status:
   0  the file is written
   1  it is not, or in part; standard error says why
   2  the words are refused
-  3  the file is not as convert or label writes it; standard error says where
+  3  the file is not as convert or label writes it, and standard error says where;
+     or it has no codes of a system
 
 Manual: man rtcm2rinex, or docs/MANUAL.md";
 
 pub(crate) const LABEL: &str = "\
 Which fields:
   Those that are not given are blank, also if an earlier label filled them.
+  A line that is not asked for goes in the same way.
 
 Example:
   rtcm2rinex label --agency 'Survey of Somewhere' --receiver-type 'LEICA GR50' \\

@@ -61,11 +61,26 @@ const FIELDS: [(&str, &str, &str); 12] = [
     ),
 ];
 
+/// The options for lines that follow from the records: the name, and what the line is.
+const LINES: [(&str, &str); 2] = [
+    (
+        "interval",
+        "A line with the interval of the records, if the file has two",
+    ),
+    (
+        "last",
+        "A line with the time of the last observation, if the file has a record",
+    ),
+];
+
 // All fields are blank: no other option may stand beside it.
 fn blank_arg<'a>(alloc: Global) -> Result<Arg<'a>, AllocError> {
     let help = "No field: the file is again as convert wrote it";
     let mut blank = switch_arg(alloc, "blank", help);
     for (name, _, _) in FIELDS {
+        blank = blank.conflicts_with(name)?;
+    }
+    for (name, _) in LINES {
         blank = blank.conflicts_with(name)?;
     }
     Ok(blank)
@@ -75,6 +90,9 @@ fn blank_arg<'a>(alloc: Global) -> Result<Arg<'a>, AllocError> {
 fn label_group<'a>(alloc: Global) -> Result<ArgGroup<'a>, AllocError> {
     let mut group = ArgGroup::new(alloc, "FIELDS").required(true).multiple(true);
     for (name, _, _) in FIELDS {
+        group = group.arg(name)?;
+    }
+    for (name, _) in LINES {
         group = group.arg(name)?;
     }
     group.arg("blank")
@@ -89,13 +107,22 @@ fn with_fields<'a>(alloc: Global, command: Command<'a>) -> Result<Command<'a>, A
     Ok(command)
 }
 
+fn with_lines<'a>(alloc: Global, command: Command<'a>) -> Result<Command<'a>, AllocError> {
+    let mut command = command;
+    for (name, help) in LINES {
+        command = command.arg(switch_arg(alloc, name, help))?;
+    }
+    Ok(command)
+}
+
 /// The command `label`.
 pub(crate) fn label_command<'a>(alloc: Global) -> Result<Command<'a>, AllocError> {
     let command = Command::new(alloc, "label")
         .about("Writes a file with more fields in its header")
         .after_long_help(help_texts::LABEL)
         .arg(file_arg(alloc, "The file, or stdin for standard input"))?;
-    with_fields(alloc, command)?
+    let command = with_fields(alloc, command)?;
+    with_lines(alloc, command)?
         .arg(blank_arg(alloc)?)?
         .group(label_group(alloc)?)
 }

@@ -12,11 +12,11 @@ returns-in-Gps c =
     IfOk-weaker c.picture_if_any.result
     (λ (drawn : Rendered). DrawsFile c.args.chart.now c.in-Gps.table.text drawn.answer drawn.bytes.items)
     (λ (drawn : Rendered). MakesOfFile (DrawsTable c.args.chart.now) (text_of c.args.table.now) drawn.answer drawn.bytes.items)
-    (λ drawn draws f l. of-gps (λ f. DrawsTable c.args.chart.now f l drawn.answer drawn.bytes.items) c.args.table.now c.in-Gps.table c.in-Gps.is c.requires.letter
+    (λ drawn draws f w l. of-gps (λ f. DrawsTable c.args.chart.now f w l drawn.answer drawn.bytes.items) c.args.table.now c.in-Gps.table c.in-Gps.is c.requires.letter
     (λ t good e. subst (λ (x : List ℕ). DrawsFile c.args.chart.now x drawn.answer drawn.bytes.items) e draws) f)
     c.picture_if_any.ensures
 
 pub returns-in-Mixed : goal.returns-in-Mixed
-returns-in-Mixed c f l =
-    of-mixed (λ f. DrawsTable c.args.chart.now f l c.other_systems.result.answer c.other_systems.result.bytes.items) c.args.table.now c.in-Mixed.field-0 c.in-Mixed.is c.requires.letter
+returns-in-Mixed c f w l =
+    of-mixed (λ f. DrawsTable c.args.chart.now f w l c.other_systems.result.answer c.other_systems.result.bytes.items) c.args.table.now c.in-Mixed.field-0 c.in-Mixed.is c.requires.letter
     (λ t good e. (c.other_systems.ensures.answer, c.other_systems.ensures.bytes)) f

@@ -10,6 +10,7 @@ returns c = rw (
   c.in_ok-put_named-2.ensures,
   c.in_ok-put_named.ensures,
   c.in_ok-put_number.ensures,
+  c.clock_word.ensures,
   c.signal_count.ensures.value,
   c.satellite_count.ensures.value,
 ) (simp append_assoc)

@@ -1,5 +1,5 @@
 use Rattle.std.proofs.Common.{◌≡◌, ◌++◌, ◌∷◌, [], List, ℕ, ap, append_assoc}
-use Rattle.rtk_commands.specs.ShownByKind.{any_line_of, any_message_text, any_unread_text}
+use Rattle.rtk_commands.specs.ShownBySet.{any_line_of, any_message_text, any_unread_text}
 use Rattle.rtk_commands.proofs.payload_line.put_reading.Goals as goal
 use Rattle.rtk_commands.proofs.payload_line.put_reading.Goals.{in-Ok+in_ok-put_any_message_text-in-Ok, in-Err+in_ok-put_unread-in-Err}
 

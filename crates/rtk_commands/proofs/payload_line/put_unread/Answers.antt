@@ -1,7 +1,7 @@
 use Rattle.std.proofs.Common.{◌≡◌, ℕ, refl}
 use Rattle.rtk_message.specs.declared.any_fault.AnyFault.{AnyFault}
 use Rattle.rtk_message.specs.declared.any_fault.AnyFault.TheVariants.{NoNumber, Other, Short, EpochRange, TooManyCells}
-use Rattle.rtk_commands.specs.ShownByKind.{any_refusal_text, any_unread_text}
+use Rattle.rtk_commands.specs.ShownBySet.{any_refusal_text, any_unread_text}
 use Rattle.rtk_commands.proofs.payload_line.put_unread.Goals as goal
 
 -- every fault but the number of another message is shown as a refusal

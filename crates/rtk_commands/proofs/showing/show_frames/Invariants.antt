@@ -1,5 +1,5 @@
 use Rattle.std.proofs.Common.{◌≡◌, ◌-◌, ◌≤◌, length}
-use Rattle.rtk_commands.specs.ShownByKind.{IsLineOfKind}
+use Rattle.rtk_commands.specs.ShownBySet.{IsLineBy}
 use Rattle.rtk_commands.proofs.ShownLemmas.{Progress}
 use Rattle.rtk_commands.proofs.showing.show_frames.Given as goal
 
@@ -8,7 +8,7 @@ invariant-loop-found g l = record {
   text : l.rest.text ≡ l.capture;
   within : l.rest.from ≤ length l.capture;
   few : l.count ≤ l.rest.from;
-  shown : Progress (IsLineOfKind l.msm) l.capture l.rest.from (g.W.Sink.taken l.fn.out) (g.W.Sink.taken l.out) l.lines.items l.count;
+  shown : Progress (IsLineBy l.accepted) l.capture l.rest.from (g.W.Sink.taken l.fn.out) (g.W.Sink.taken l.out) l.lines.items l.count;
   failures : g.W.Sink.failures l.out ≡ g.W.Sink.failures l.fn.out;
 }
 

@@ -11,5 +11,5 @@ none-listed name link number None cells h = refl
 none-listed name link number (Some e) [] h = refl
 none-listed name link number (Some e) (c ∷ cells) h = let q : suc (length cells) ≡ 0 = eqb-true (suc (length cells)) 0 (sym h) in absurd (omega arith)
 
-pub returns : goal.returns
-returns g c = search (rules, none-listed) depth 5 fits 300
+pub returns-then-is_empty : goal.returns-then-is_empty
+returns-then-is_empty g c = search (rules, none-listed) depth 5 fits 300

@@ -28,7 +28,7 @@ returns-clause-cut c =
     let low : from ≤ length lines = c.len_in-from.ensures.within in
     let sum : from + (whole - from) ≡ whole = omega (arith, size, low) in
     let short : length text < 810 = c.requires in
-    cut_is text lines c.completed-ten.result.items c.number_in-number.result.items c.reading_of-reading.result.front.items _ from (length text / 81) c.reading_of-reading.result.unlabelled.label
+    cut_is text lines c.completed-ten.result.items c.number_in-number.result.items c.reading_of-reading.result.front.items _ from (length text / 81) c.reading_of-reading.result.label
     c.columns_at-lines.ensures.value
     (record {
       many = size;
@@ -38,6 +38,6 @@ returns-clause-cut c =
       read = rw c.as_slice-2.ensures.value at c.reading_of-reading.ensures.read;
       front_is = rw c.as_slice-2.ensures.value at c.reading_of-reading.ensures.front;
     })
-    (rw (c.reading_of-reading.ensures.same, c.copy_from_slice.ensures.after, c.columns_at.ensures.value, c.as_slice-3.ensures.value, size)
+    (rw (c.copy_from_slice.ensures.after, c.columns_at.ensures.value, c.as_slice-3.ensures.value, size)
     (drop-over from (whole - from) (whole - from) text (take (whole - from) c.reading_of-reading.result.front.items) (omega (arith, size, low)) refl
     ∙ ap (λ (n : ℕ). take (whole - from) c.reading_of-reading.result.front.items ++ drop n text) sum))

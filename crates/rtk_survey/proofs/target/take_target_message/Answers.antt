@@ -7,6 +7,6 @@ use Rattle.rtk_survey.proofs.TargetLemmas.{answer-more}
 use Rattle.rtk_survey.proofs.target.take_target_message.Goals as goal
 
 pub returns-in-Some : goal.returns-in-Some
-returns-in-Some c = on-ok c.take_message.result (λ took q fs payload is.
-    answer-more q fs (read_frame payload (Ok c.args.message.now) ∷ fs) c.in-Some.survey c.take_message.new.self (λ t had. took t fs payload had)
+returns-in-Some c = on-ok c.take_message.result (λ took q fs payload count is.
+    answer-more q fs (read_frame payload (Ok c.args.message.now) ∷ fs) c.in-Some.survey c.take_message.new.self (λ t had. took t fs payload count had)
     (subst (λ (o : Option TargetSurvey). IsAnswer q fs o) c.in-Some.is is)) c.take_message.ensures

@@ -25,5 +25,5 @@ returns c = on-ok c.take_equipment_in.result (λ took q before stands.
       codes = stands.codes;
       weeks = dates.weeks ds stands.weeks;
       unread = c.in_ok-count_fault.ensures (faults_in before) stands.unread;
-      target = c.take_target_fault.ensures q before c.args.fault stands.target;
+      target = c.take_target_fault.ensures q before c.args.fault stands.frames stands.target;
     }) c.take_equipment_in.ensures

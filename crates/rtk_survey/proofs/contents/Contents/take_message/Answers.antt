@@ -24,5 +24,5 @@ returns c = on-ok c.take_target_message.result (λ answered q before stands.
       codes = c.join.ensures (entries_of_message c.args.message.now) (entries_in (messages_in before)) (subst (λ (es : List CellEntry). HasCodes c.of-codes.result es) c.requires c.of-codes.ensures) stands.codes;
       weeks = stands.weeks;
       unread = stands.unread;
-      target = answered q before c.args.payload.now stands.target;
+      target = answered q before c.args.payload.now stands.frames stands.target;
     }) c.take_target_message.ensures

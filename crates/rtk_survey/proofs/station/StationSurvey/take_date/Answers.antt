@@ -8,6 +8,7 @@ returns c = λ ms ds e stands. record {
   signals = stands.signals;
   msm = stands.msm;
   point = stands.point;
+  far = stands.far;
   dates = c.count.ensures c.args.date.station ds refl stands.dates;
   equipment = stands.equipment;
 }

@@ -11,6 +11,7 @@ returns c = on-ok c.take_equipment.result (λ took ms d e stands. record {
   signals = stands.signals;
   msm = stands.msm;
   point = stands.point;
+  far = stands.far;
   dates = stands.dates;
   equipment = took ∙ ap (λ (x : Equipment). with_message c.args.message x) stands.equipment;
 }) c.take_equipment.ensures

@@ -8,4 +8,6 @@ returns c = record {
   dates = c.new.ensures;
   phases = no-phases c.new-2.result c.new.result.station c.new-2.ensures;
   equipment = c.new-3.ensures;
+  parting = c.new-4.ensures;
+  to_come = refl;
 }

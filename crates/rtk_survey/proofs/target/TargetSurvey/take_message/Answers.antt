@@ -3,11 +3,11 @@ use Rattle.rtk_survey.specs.ReadFrames.{messages_in}
 use Rattle.rtk_survey.specs.Targets.{with_observation}
 use Rattle.rtk_survey.specs.declared.target.TargetDates.{TargetDates}
 use Rattle.rtk_survey.proofs.ResultLemmas.{on-ok}
-use Rattle.rtk_survey.proofs.TargetLemmas.{station-of-dates}
+use Rattle.rtk_survey.proofs.TargetLemmas.{station-of-dates, parted-message}
 use Rattle.rtk_survey.proofs.target.TargetSurvey.take_message.Goals as goal
 
 pub returns : goal.returns
-returns c = on-ok c.take_phases.result (λ took q fs payload is.
+returns c = on-ok c.take_phases.result (λ took q fs payload count is.
     let old = c.args.self.now in
     let m = c.args.message.now in
     let station = ap (λ (d : TargetDates). d.station) c.take_message.ensures ∙ station-of-dates old.present old.dates m in
@@ -18,4 +18,6 @@ returns c = on-ok c.take_phases.result (λ took q fs payload is.
           ∙ ap (λ (d : TargetDates). with_observation q.present d m) is.dates;
       phases = took old.dates.station (messages_in fs) station is.phases;
       equipment = is.equipment;
+      parting = parted-message q fs old m c.args.frame c.take_message.new.dates c.take_epochs.new.self c.take_message.ensures count is c.take_epochs.ensures;
+      to_come = is.to_come;
     }) c.take_phases.ensures

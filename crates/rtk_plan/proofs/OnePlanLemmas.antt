@@ -1,0 +1,107 @@
+-- Surveys and words have one plan.
+use Rattle.std.proofs.Common.{◌≡◌, ◌-◌, ◌%◌, ℕ, Bool, true, false, List, map, Option, None, Some, sym, ap, subst, ◌∙◌, arith}
+use Rattle.rtk_obs.specs.AnyCode.{code_of_gps}
+use Rattle.rtk_obs.specs.declared.any_code.AnyCode.{AnyCode}
+use Rattle.rtk_rinex.specs.MixedHead.{GlonassView}
+use Rattle.rtk_setup.specs.Setup.{SetupView, all_of}
+use Rattle.rtk_setup.specs.declared.system_kinds.SystemKinds.{SystemKinds}
+use Rattle.rtk_survey.specs.declared.placing.Placed.{Placed}
+use Rattle.rtk_survey.specs.declared.survey.CaptureSurvey.{CaptureSurvey}
+use Rattle.rtk_plan.specs.Kept.{empty_captures}
+use Rattle.rtk_plan.specs.Laws.{OnePlan, NearIsWholeSecond}
+use Rattle.rtk_plan.specs.Linking.{links_found, AreLinksOf}
+use Rattle.rtk_plan.specs.Plan.{IsChosenStation, msm_chosen, codes_chosen, marker_chosen, captures_of, IsBaseOf, IsReachOf, ArePlaced, IsNearOf, AreStrays, IsSetupFor}
+use Rattle.rtk_plan.specs.Reach.{least_told, placed_if_any, reach_after, second_of}
+use Rattle.rtk_plan.specs.Stray.{strays}
+use Rattle.rtk_plan.specs.declared.reach.Base.{Base}
+use Rattle.rtk_plan.specs.declared.reach.Base.TheVariants.{Told}
+use Rattle.rtk_plan.specs.declared.station_capture.StationCapture.{StationCapture}
+use Rattle.rtk_plan.specs.declared.wanted.Wanted.{Wanted}
+
+one-some : {A : Type 0} (o : Option A) (a b : A) → o ≡ Some a → o ≡ Some b → a ≡ b
+one-some o a b is also = let same : Some a ≡ Some b = sym is ∙ also in cc
+
+one-station : (ss : List CaptureSurvey) (named : Option ℕ) (a b : ℕ) → IsChosenStation ss named a → IsChosenStation ss named b → a ≡ b
+one-station ss None a b is also = also.alone a is.observed
+one-station ss (Some n) a b is also = is.0 ∙ sym also.0
+
+one-base : (given : Option ℕ) (cs : List StationCapture) (a b : Base) → IsBaseOf given cs a → IsBaseOf given cs b → a ≡ b
+one-base None cs a b is also = is.2 ∙ ap Told (one-some (least_told cs) is.0 also.0 is.1 also.1) ∙ sym also.2
+one-base (Some near) cs a b is also = is ∙ sym also
+
+one-reach : (cs : List StationCapture) (a b : Base) (r s : Placed) → a ≡ b → IsReachOf a cs r → IsReachOf b cs s → r ≡ s
+one-reach cs a b r s same is also = one-some (reach_after None (map (placed_if_any a) cs)) r s is (subst (λ (base : Base). IsReachOf base cs s) (sym same) also)
+
+one-near : (given : Option ℕ) (cs : List StationCapture) (m n : ℕ) → IsNearOf given cs m → IsNearOf given cs n → m ≡ n
+one-near given cs m n is also =
+    let base = one-base given cs is.0 also.0 is.1 also.1 in
+    let reach : is.2.0 ≡ also.2.0 = one-reach cs is.0 also.0 is.2.0 also.2.0 base is.2.1 also.2.1 in
+    is.2.2 ∙ ap (λ (r : Placed). second_of r.first) reach ∙ sym also.2.2
+
+one-strays : (given : Option ℕ) (cs : List StationCapture) (xs ys : List ℕ) → AreStrays given cs xs → AreStrays given cs ys → xs ≡ ys
+one-strays given cs xs ys is also =
+    let base = one-base given cs is.0 also.0 is.1 also.1 in
+    let reach : is.2.0 ≡ also.2.0 = one-reach cs is.0 also.0 is.2.0 also.2.0 base is.2.1 also.2.1 in
+    is.2.2 ∙ ap (λ (r : Placed). strays cs (map (placed_if_any is.0) cs) r.until) reach
+    ∙ ap (λ (b : Base). strays cs (map (placed_if_any b) cs) also.2.0.until) base ∙ sym also.2.2
+
+one-placed : (given : Option ℕ) (cs : List StationCapture) (xs ys : List (Option Placed)) → ArePlaced given cs xs → ArePlaced given cs ys → xs ≡ ys
+one-placed given cs xs ys is also =
+    is.2 ∙ ap (λ (b : Base). map (placed_if_any b) cs) (one-base given cs is.0 also.0 is.1 also.1) ∙ sym also.2
+
+one-links : (as_given : Bool) (given : Option ℕ) (cs : List StationCapture) (xs ys : List (List ℕ)) → AreLinksOf as_given given cs xs → AreLinksOf as_given given cs ys → xs ≡ ys
+one-links true given cs xs ys is also = is ∙ sym also
+one-links false given cs xs ys is also =
+    is.2 ∙ ap (λ (ps : List (Option Placed)). links_found cs ps) (one-placed given cs is.0 also.0 is.1 also.1) ∙ sym also.2
+
+abbrev setup_with : ℕ → ℕ → List ℕ → List AnyCode → Option GlonassView → ℕ → ℕ → SystemKinds → Option ℕ → SetupView
+setup_with station near marker listed glonass made window kinds leap_seconds =
+    record {
+      station = station;
+      near = near;
+      head = record { marker = marker; listed = listed; glonass = glonass; made = made };
+      window = window;
+      kinds = kinds;
+      leap_seconds = leap_seconds;
+    }
+
+one-setup : (ss : List CaptureSurvey) (links : List (List ℕ)) (w : Wanted) (made : ℕ) (s t : SetupView) → IsSetupFor ss links w made s → IsSetupFor ss links w made t → s ≡ t
+one-setup ss links w made s t is also =
+    let station : s.station ≡ t.station = one-station ss w.station s.station t.station is.station also.station in
+    let kinds : s.kinds ≡ t.kinds = is.kinds ∙ ap (λ (n : ℕ). all_of (msm_chosen w.msm ss links n)) station ∙ sym also.kinds in
+    let listed : s.head.listed ≡ t.head.listed =
+    is.listed ∙ ap (λ (n : ℕ). map code_of_gps (codes_chosen w.codes ss n s.kinds.gps)) station
+    ∙ ap (λ (ks : SystemKinds). map code_of_gps (codes_chosen w.codes ss t.station ks.gps)) kinds ∙ sym also.listed in
+    let marker : s.head.marker ≡ t.head.marker = is.marker ∙ ap (λ (n : ℕ). marker_chosen w.marker n) station ∙ sym also.marker in
+    let glonass : s.head.glonass ≡ t.head.glonass = is.glonass ∙ sym also.glonass in
+    let made_at : s.head.made ≡ t.head.made = is.made_at ∙ sym also.made_at in
+    let window : s.window ≡ t.window = is.window ∙ sym also.window in
+    let leap_seconds : s.leap_seconds ≡ t.leap_seconds = is.leap_seconds ∙ sym also.leap_seconds in
+    let near : s.near ≡ t.near =
+    one-near w.near (captures_of ss s.station) s.near t.near is.near_by (subst (λ (n : ℕ). IsNearOf w.near (captures_of ss n) t.near) (sym station) also.near_by) in
+    ap (λ (n : ℕ). setup_with n s.near s.head.marker s.head.listed s.head.glonass s.head.made s.window s.kinds s.leap_seconds) station
+    ∙ ap (λ (n : ℕ). setup_with t.station n s.head.marker s.head.listed s.head.glonass s.head.made s.window s.kinds s.leap_seconds) near
+    ∙ ap (λ (name : List ℕ). setup_with t.station t.near name s.head.listed s.head.glonass s.head.made s.window s.kinds s.leap_seconds) marker
+    ∙ ap (λ (codes : List AnyCode). setup_with t.station t.near t.head.marker codes s.head.glonass s.head.made s.window s.kinds s.leap_seconds) listed
+    ∙ ap (λ (g : Option GlonassView). setup_with t.station t.near t.head.marker t.head.listed g s.head.made s.window s.kinds s.leap_seconds) glonass
+    ∙ ap (λ (n : ℕ). setup_with t.station t.near t.head.marker t.head.listed t.head.glonass n s.window s.kinds s.leap_seconds) made_at
+    ∙ ap (λ (n : ℕ). setup_with t.station t.near t.head.marker t.head.listed t.head.glonass t.head.made n s.kinds s.leap_seconds) window
+    ∙ ap (λ (ks : SystemKinds). setup_with t.station t.near t.head.marker t.head.listed t.head.glonass t.head.made t.window ks s.leap_seconds) kinds
+    ∙ ap (λ (leap : Option ℕ). setup_with t.station t.near t.head.marker t.head.listed t.head.glonass t.head.made t.window t.kinds leap) leap_seconds
+
+pub one-plan : OnePlan
+one-plan ss w made as_given s t links others skipped left strays strayed is also =
+    let station : s.station ≡ t.station = one-station ss w.station s.station t.station is.setup.station also.setup.station in
+    let same : links ≡ others =
+    one-links as_given w.near (captures_of ss s.station) links others is.links (subst (λ (n : ℕ). AreLinksOf as_given w.near (captures_of ss n) others) (sym station) also.links) in (
+      one-setup ss links w made s t is.setup (subst (λ (ls : List (List ℕ)). IsSetupFor ss ls w made t) (sym same) also.setup),
+      same,
+      is.skipped ∙ ap (λ (n : ℕ). empty_captures (captures_of ss n)) station ∙ sym also.skipped,
+      one-strays w.near (captures_of ss s.station) strays strayed is.strays (subst (λ (n : ℕ). AreStrays w.near (captures_of ss n) strayed) (sym station) also.strays),
+    )
+
+whole-second : (t : ℕ) → (t - t % 1000) % 1000 ≡ 0
+whole-second t = omega arith
+
+pub near-whole : NearIsWholeSecond
+near-whole given cs near is = ap (λ (n : ℕ). n % 1000) is.2.2 ∙ whole-second is.2.0.first

@@ -1,0 +1,268 @@
+//! The lines of captures that a person should know of: whose dates do not count, that are dated near the others,
+//! that have a stray epoch, that are left out, or whose epochs are missing or fall.
+//!
+//! If memory is refused, a first part of what is put may stand there.
+
+ghost use Rattle.std.specs.Prelude.{◌≡◌, ◌++◌, OnOk};
+ghost use Rattle.rtk_plan.specs.KnownLines as spec;
+ghost use Rattle.rtk_plan.specs.Linking.{places_of};
+ghost use Rattle.rtk_plan.specs.StationCaptures.{dates_in};
+
+use crate::captures::Captures;
+use crate::lists::{
+    put_capture_line, put_date_line, put_name_line, put_stray_line, put_undated_line,
+};
+use crate::planning::Plan;
+use crate::span_line::DateSource;
+use crate::station_capture::{StationCapture, passed_over_in, span_in, told_in};
+use rtk_obs::GpsMs;
+use rtk_setup::Setup;
+use rtk_survey::{CaptureEpochs, CaptureSurvey, Span, Told, place};
+use std::alloc::AllocError;
+
+// Is this another first epoch than a conversion near this moment gives a capture with these epochs?
+fn is_told_otherwise(near: GpsMs, told: &Told, span: &Span) -> bool
+    ensures { result ≡ spec.is_told_otherwise near span.now told.now }
+{
+    let epochs = CaptureEpochs {
+        told: None,
+        span: *span,
+    };
+    told.first != place(near, &epochs).first
+}
+
+// Appends a date, if it is another first epoch than a conversion near this moment gives the capture.
+fn put_other_date(
+    lines: &mut Vec<u8>,
+    near: GpsMs,
+    span: &Span,
+    name: &str,
+    told: &Told,
+) -> Result<(), AllocError>
+    ensures { OnOk result (lines.new.items ≡ lines.old.items ++ spec.other_date_line near span.now name.now told.now) }
+{
+    if !is_told_otherwise(near, told, span) {
+        return Ok(());
+    }
+    lines.extend_from_slice(b" other-date")?;
+    put_date_line(lines, told, name)
+}
+
+fn put_those_of(
+    lines: &mut Vec<u8>,
+    near: GpsMs,
+    span: &Span,
+    name: &str,
+    dates: &[Told],
+) -> Result<(), AllocError>
+    ensures { OnOk result (lines.new.items ≡ lines.old.items ++ spec.other_date_lines near span.now name.now dates.now) }
+{
+    for told in dates {
+        put_other_date(lines, near, span, name, told)?;
+    }
+    Ok(())
+}
+
+// Appends the dates of a capture that tell another first epoch than the conversion gives it: those by the
+// messages that date, and those by 1019 beside them.
+fn put_other_dates_of(
+    lines: &mut Vec<u8>,
+    survey: &CaptureSurvey,
+    setup: &Setup,
+    span: &Span,
+    name: &str,
+) -> Result<(), AllocError>
+    ensures { OnOk result (lines.new.items ≡ lines.old.items
+        ++ spec.other_dates setup.now.station setup.now.near span.now survey.now name.now) }
+{
+    let (station, near) = (setup.station(), setup.near());
+    put_those_of(lines, near, span, name, told_in(station, survey))?;
+    put_those_of(lines, near, span, name, passed_over_in(station, survey))
+}
+
+// Appends such dates of a capture, if it has epochs.
+fn put_other_dates_at(
+    lines: &mut Vec<u8>,
+    survey: &CaptureSurvey,
+    setup: &Setup,
+    name: &str,
+) -> Result<(), AllocError>
+    ensures { OnOk result (lines.new.items ≡ lines.old.items
+        ++ spec.other_dates_if_any setup.now.station setup.now.near (dates_in setup.now.station survey.now).span survey.now name.now) }
+{
+    match span_in(setup.station(), survey) {
+        Some(span) => put_other_dates_of(lines, survey, setup, &span, name),
+        None => Ok(()),
+    }
+}
+
+/// Appends the dates of all captures that tell another first epoch than the conversion gives them.
+pub(crate) fn put_other_dates(
+    lines: &mut Vec<u8>,
+    captures: &Captures<'_, '_>,
+    setup: &Setup,
+) -> Result<(), AllocError>
+    ensures { OnOk result (lines.new.items ≡ lines.old.items
+        ++ spec.all_other_dates captures.now.names.now setup.now.station setup.now.near captures.now.surveys.now) }
+{
+    for (at, survey) in captures.surveys.iter().enumerate() {
+        put_other_dates_at(lines, survey, setup, captures.name(at))?;
+    }
+    Ok(())
+}
+
+// Has a capture epochs, and does it tell no date?
+fn is_undated(capture: &StationCapture) -> bool
+    ensures { result ≡ spec.is_undated capture.now }
+{
+    capture.span.is_some() && capture.told.is_none()
+}
+
+// Appends the line of a capture that is dated near the others, if it is.
+fn put_undated_at(
+    lines: &mut Vec<u8>,
+    capture: &StationCapture,
+    name: &str,
+) -> Result<(), AllocError>
+    ensures { OnOk result (lines.new.items ≡ lines.old.items ++ spec.undated_line_if capture.now name.now) }
+{
+    if is_undated(capture) {
+        put_undated_line(lines, name)
+    } else {
+        Ok(())
+    }
+}
+
+// Appends the captures that are dated near the others.
+fn put_all_undated(
+    lines: &mut Vec<u8>,
+    captures: &Captures<'_, '_>,
+    told: &[StationCapture],
+) -> Result<(), AllocError>
+    ensures { OnOk result (lines.new.items ≡ lines.old.items ++ spec.all_undated captures.now.names.now told.now) }
+{
+    for (at, capture) in told.iter().enumerate() {
+        put_undated_at(lines, capture, captures.name(at))?;
+    }
+    Ok(())
+}
+
+/// Appends them, unless words date all captures.
+pub(crate) fn put_undated(
+    lines: &mut Vec<u8>,
+    captures: &Captures<'_, '_>,
+    plan: &Plan,
+) -> Result<(), AllocError>
+    ensures { OnOk result (lines.new.items ≡ lines.old.items
+        ++ spec.undated_lines plan.now.span.source captures.now.names.now plan.now.captures.items) }
+{
+    match plan.span.source {
+        DateSource::Words => Ok(()),
+        DateSource::Station(_) | DateSource::OtherStation(_, _) | DateSource::Ephemerides => {
+            put_all_undated(lines, captures, plan.captures.as_slice())
+        }
+    }
+}
+
+/// Appends the captures with a stray epoch.
+pub(crate) fn put_strays(
+    lines: &mut Vec<u8>,
+    captures: &Captures<'_, '_>,
+    epoch: GpsMs,
+    places: &[usize],
+) -> Result<(), AllocError>
+    ensures { OnOk result (lines.new.items ≡ lines.old.items ++ spec.stray_lines captures.now.names.now epoch places.now) }
+{
+    for place in places {
+        put_stray_line(lines, epoch, captures.name(*place))?;
+    }
+    Ok(())
+}
+
+// Appends the line of a capture that is left out.
+fn put_skipped_at(
+    lines: &mut Vec<u8>,
+    captures: &Captures<'_, '_>,
+    told: &[StationCapture],
+    place: usize,
+) -> Result<(), AllocError>
+    ensures { OnOk result (lines.new.items ≡ lines.old.items ++ spec.skipped_line captures.now.names.now told.now place) }
+{
+    match told.get(place) {
+        Some(capture) => {
+            put_capture_line(lines, b" skipped ", captures.name(place), capture.look)
+        }
+        None => Ok(()),
+    }
+}
+
+/// Appends the captures that are left out.
+pub(crate) fn put_skipped(
+    lines: &mut Vec<u8>,
+    captures: &Captures<'_, '_>,
+    told: &[StationCapture],
+    places: &[usize],
+) -> Result<(), AllocError>
+    ensures { OnOk result (lines.new.items ≡ lines.old.items ++ spec.skipped_lines captures.now.names.now told.now places.now) }
+{
+    for place in places {
+        put_skipped_at(lines, captures, told, *place)?;
+    }
+    Ok(())
+}
+
+// Appends the line of a capture with these epochs, if it has none, or if they fall.
+fn put_epochs_of(lines: &mut Vec<u8>, span: Option<Span>, name: &str) -> Result<(), AllocError>
+    ensures { OnOk result (lines.new.items ≡ lines.old.items ++ spec.epochs_line span name.now) }
+{
+    match span {
+        None => put_name_line(lines, b" no-epoch ", name),
+        Some(span) if span.falls => put_name_line(lines, b" time-falls ", name),
+        Some(_) => Ok(()),
+    }
+}
+
+fn put_epochs_at(
+    lines: &mut Vec<u8>,
+    captures: &Captures<'_, '_>,
+    told: &[StationCapture],
+    place: usize,
+) -> Result<(), AllocError>
+    ensures { OnOk result (lines.new.items ≡ lines.old.items ++ spec.epochs_line_at captures.now.names.now told.now place) }
+{
+    match told.get(place) {
+        Some(capture) => put_epochs_of(lines, capture.span, captures.name(place)),
+        None => Ok(()),
+    }
+}
+
+// Appends such lines of the captures of a link.
+fn put_epochs_in_link(
+    lines: &mut Vec<u8>,
+    captures: &Captures<'_, '_>,
+    told: &[StationCapture],
+    link: &[usize],
+) -> Result<(), AllocError>
+    ensures { OnOk result (lines.new.items ≡ lines.old.items ++ spec.epochs_lines_of captures.now.names.now told.now link.now) }
+{
+    for place in link {
+        put_epochs_at(lines, captures, told, *place)?;
+    }
+    Ok(())
+}
+
+/// Appends such lines of the captures of all links.
+pub(crate) fn put_epochs(
+    lines: &mut Vec<u8>,
+    captures: &Captures<'_, '_>,
+    told: &[StationCapture],
+    links: &[Vec<usize>],
+) -> Result<(), AllocError>
+    ensures { OnOk result (lines.new.items ≡ lines.old.items
+        ++ spec.epochs_lines captures.now.names.now told.now (places_of links.now)) }
+{
+    for link in links {
+        put_epochs_in_link(lines, captures, told, link.as_slice())?;
+    }
+    Ok(())
+}
