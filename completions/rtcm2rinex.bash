@@ -56,12 +56,12 @@ _rtcm2rinex() {
             arguments='files stdin'
             ;;
         cut)
-            options='--from --until --every -h --help'
-            values='--from --until --every'
+            options='--from --until --every --systems -h --help'
+            values='--from --until --every --systems'
             arguments='files stdin'
             ;;
         label)
-            options='--run-by --marker-number --observer --agency --receiver-number --receiver-type --receiver-version --antenna-number --antenna-type --delta-height --delta-east --delta-north --blank -h --help'
+            options='--run-by --marker-number --observer --agency --receiver-number --receiver-type --receiver-version --antenna-number --antenna-type --delta-height --delta-east --delta-north --interval --last --blank -h --help'
             values='--run-by --marker-number --observer --agency --receiver-number --receiver-type --receiver-version --antenna-number --antenna-type --delta-height --delta-east --delta-north'
             arguments='files stdin'
             ;;

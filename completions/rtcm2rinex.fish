@@ -41,7 +41,7 @@ complete -c rtcm2rinex -n '__fish_seen_subcommand_from convert' -l leap-seconds 
 complete -c rtcm2rinex -n '__fish_seen_subcommand_from convert' -s h -l help -d 'Print help (see more with \'--help\')'
 complete -c rtcm2rinex -n '__fish_seen_subcommand_from convert' -F -a stdin
 complete -c rtcm2rinex -n '__fish_seen_subcommand_from show' -l hex -d 'The capture is hex text'
-complete -c rtcm2rinex -n '__fish_seen_subcommand_from show' -l msm -x -d 'Which MSM is shown: 4 is 1074, 5 is 1075, 6 is 1076, 7 is 1077; 4 if not given'
+complete -c rtcm2rinex -n '__fish_seen_subcommand_from show' -l msm -x -d 'Which MSM of all systems is shown, as 7 or 7,E4; 1074 alone if not given'
 complete -c rtcm2rinex -n '__fish_seen_subcommand_from show' -s h -l help -d 'Print help (see more with \'--help\')'
 complete -c rtcm2rinex -n '__fish_seen_subcommand_from show' -F -a stdin
 complete -c rtcm2rinex -n '__fish_seen_subcommand_from check' -s h -l help -d 'Print help (see more with \'--help\')'
@@ -61,6 +61,7 @@ complete -c rtcm2rinex -n '__fish_seen_subcommand_from quality' -F -a stdin
 complete -c rtcm2rinex -n '__fish_seen_subcommand_from cut' -l from -x -d 'The GPS time of the first records that are kept'
 complete -c rtcm2rinex -n '__fish_seen_subcommand_from cut' -l until -x -d 'The GPS time before which records are kept'
 complete -c rtcm2rinex -n '__fish_seen_subcommand_from cut' -l every -x -d 'Records at whole multiples of this step are kept, 1 to 86400'
+complete -c rtcm2rinex -n '__fish_seen_subcommand_from cut' -l systems -x -d 'Only these systems are kept, as GE'
 complete -c rtcm2rinex -n '__fish_seen_subcommand_from cut' -s h -l help -d 'Print help (see more with \'--help\')'
 complete -c rtcm2rinex -n '__fish_seen_subcommand_from cut' -F -a stdin
 complete -c rtcm2rinex -n '__fish_seen_subcommand_from label' -l run-by -x -d 'Who runs the program, up to 20 characters'
@@ -75,6 +76,8 @@ complete -c rtcm2rinex -n '__fish_seen_subcommand_from label' -l antenna-type -x
 complete -c rtcm2rinex -n '__fish_seen_subcommand_from label' -l delta-height -x -d 'The antenna\'s height above the marker, as +1.5000, if the file tells none'
 complete -c rtcm2rinex -n '__fish_seen_subcommand_from label' -l delta-east -x -d 'How far east of the marker the antenna stands, as -0.0120'
 complete -c rtcm2rinex -n '__fish_seen_subcommand_from label' -l delta-north -x -d 'How far north of the marker the antenna stands, as +0.0000'
+complete -c rtcm2rinex -n '__fish_seen_subcommand_from label' -l interval -d 'A line with the interval of the records, if the file has two'
+complete -c rtcm2rinex -n '__fish_seen_subcommand_from label' -l last -d 'A line with the time of the last observation, if the file has a record'
 complete -c rtcm2rinex -n '__fish_seen_subcommand_from label' -l blank -d 'No field: the file is again as convert wrote it'
 complete -c rtcm2rinex -n '__fish_seen_subcommand_from label' -s h -l help -d 'Print help (see more with \'--help\')'
 complete -c rtcm2rinex -n '__fish_seen_subcommand_from label' -F -a stdin

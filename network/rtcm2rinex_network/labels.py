@@ -13,6 +13,8 @@ from .ends import Again, Refused
 from .program import Program, of_program
 from .table import Dates, Row, lines_of_table, read_dates
 
+SWITCHES = ("--interval", "--last")  # options of `label` without a value: lines that follow from the records
+
 
 @dataclass(frozen=True)
 class Label:
@@ -99,6 +101,8 @@ def fields_of_options(options: Sequence[str]) -> Dict[str, str]:
     found: Dict[str, str] = {}
     words = iter(options)
     for word in words:
+        if word in SWITCHES:
+            continue
         name, is_joined, value = word.partition("=")
         found[name[2:]] = value if is_joined else next(words, "")
     return {name: value for name, value in found.items() if value}

@@ -18,11 +18,12 @@ Line = Tuple[List[Any], List[float]]  # times and strengths
 
 
 def strengths_of(file: str) -> Dict[str, Dict[str, Line]]:
-    """The strengths in dB-Hz by code and satellite."""
+    """The strengths in dB-Hz by code and satellite. A code of another system than GPS has the letter of the system before it."""
     found: Dict[str, Dict[str, Line]] = {}
     for row in rtcm2rinex.observations(file):
         if row.strength is not None:
-            times, strengths = found.setdefault(row.code, {}).setdefault(row.satellite, ([], []))
+            code = row.code if row.satellite.startswith("G") else row.satellite[0] + row.code
+            times, strengths = found.setdefault(code, {}).setdefault(row.satellite, ([], []))
             times.append(row.time)
             strengths.append(row.strength)
     return found

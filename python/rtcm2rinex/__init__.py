@@ -1,4 +1,4 @@
-"""Converts RTCM 3 captures of a GPS base station to RINEX 3.05, by the program `rtcm2rinex`.
+"""Converts RTCM 3 captures of a base station to RINEX 3.05, by the program `rtcm2rinex`.
 
 - `auto` and `convert` convert captures, and `Converter` converts what a station sends while it comes.
 - `summary` says what a capture holds.

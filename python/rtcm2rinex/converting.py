@@ -13,11 +13,12 @@ from .faults import CapturesError, FormError, NoRecordError
 from .inputs import Input, Name, Readable, is_open, listed, pieces_of, word_of
 from .program import Location, Ran, fail, lines_of, run
 from .reports import COUNTS, Report, read_report, time_in
-from .words import Codes, Time, Value, code_word, gps_word, option_words, present, utc_word
+from .words import Channels, Codes, Kinds, Time, Value, channel_word, code_word, gps_word, kind_word, option_words, present, utc_word
 from .writing import Written, output_of
 
 SPAN = re.compile(r" from (\S{19}) until (\S{19}) by (\S+(?: of station \d+)?)(?: \(or (.*)\))?", re.ASCII)
 BY_HAND = " the same by hand:"
+OF_REPORT = ("link ", "other-channel ", "no-channel ", "no-message ", "frames ")  # one of these begins the first line of a report
 WROTE = "wrote "
 
 
@@ -55,21 +56,33 @@ class AutoConversion(Conversion):
     found: Found
 
 
-def convert_words(station: int, near: Time, made: Optional[Time], marker: str, codes: Codes, window: int, msm: int) -> List[str]:
+def convert_words(station: int, near: Time, made: Optional[Time], marker: str, codes: Codes, window: int, msm: Kinds,
+                  channels: Optional[Channels], leap_seconds: Optional[int]) -> List[str]:
     """The words of `convert` before its links."""
     return ["convert", *option_words({"station": station, "near": gps_word(near), "made": utc_word(made or present()), "marker": marker,
-        "codes": code_word(codes), "window": window, "msm": msm})]
+        "codes": code_word(codes), "window": window, "msm": kind_word(msm), "channels": channel_word(channels),
+        "leap_seconds": leap_seconds})]
 
 
 def convert(links: Union[Input, Sequence[Input]], *, station: int, near: Time, marker: str, codes: Codes, made: Optional[Time] = None,
-            window: int = 64, msm: int = 4, output: Optional[Name] = None, force: bool = False,
-            program: Optional[Location] = None) -> Conversion:
+            window: int = 64, msm: Kinds = 4, channels: Optional[Channels] = None, leap_seconds: Optional[int] = None,
+            output: Optional[Name] = None, force: bool = False, program: Optional[Location] = None) -> Conversion:
     """Converts the captures of one station by the options that you give.
 
     `links` is one capture or several, each a name or an open binary file, and each a link. `station` is the ID of the reference
-    station, and `near` a GPS time within half a week of all messages. `marker` names the marker, and `codes` lists the signals, as
-    `"1C,2W"` or `["1C", "2W"]`. `made` is the UTC time of making, or the present time if it is not given. `window` is how many epochs
-    are kept open, and `msm` which MSM is converted beside the 1004. A time is a `datetime` or a text such as `2024-05-17T12:00:00`.
+    station, and `near` a GPS time within half a week of all messages. `marker` names the marker. `made` is the UTC time of making, or
+    the present time if it is not given. `window` is how many epochs are kept open. A time is a `datetime` or a text such as
+    `2024-05-17T12:00:00`.
+
+    `codes` lists the signals, as `"1C,2W,E1X"` or `["1C", "2W", "E1X"]`. A code of GPS has two characters, and a code of another system
+    begins with the letter of the system.
+
+    `msm` is the kind of MSM that is converted, from 4 (MSM4) to 7. It may differ between systems, as in `{"G": 7, "E": 5}`, where a
+    system that is left out has MSM4. The text `"7,E4"` stands for MSM7 of all systems but MSM4 of Galileo.
+
+    With codes of GLONASS, `channels` must have the frequency channel of each slot, as `{1: 1, 9: -6}`. A satellite whose slot it lacks
+    gets no phases, and with an empty mapping no slot has a channel. `leap_seconds` says how many seconds GPS time is ahead of UTC, by
+    which clocks of GLONASS are dated. Without it the program takes them from a table.
 
     The file goes to `output`, which gets its name when it is whole, or else into `text` of the result. A file that is there is
     replaced only with `force`.
@@ -77,7 +90,7 @@ def convert(links: Union[Input, Sequence[Input]], *, station: int, near: Time, m
     Raises `WorkError` or `WordsError` if the program ends with a fault, and `FileExistsError` if `output` is there.
     """
     given = listed(links)
-    words = convert_words(station, near, made, marker, codes, window, msm)
+    words = convert_words(station, near, made, marker, codes, window, msm, channels, leap_seconds)
     with output_of(output, force, given) as file:
         ran = run(program, words, given, out=file)
         report = read_report(lines_of(ran.told))
@@ -137,7 +150,7 @@ def conversion_of(ran: Ran, output: Optional[Name]) -> AutoConversion:
         lines.pop()
     if ran.status == 3:
         lines.pop()
-    begin = first_line(lines, ("link ", "frames "))
+    begin = first_line(lines, OF_REPORT)
     end = first_line(lines, (COUNTS[-1],)) + 1
     report = read_report(lines[begin:end], begin + 1)
     for number, line in enumerate(lines[end:], end + 1):

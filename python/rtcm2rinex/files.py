@@ -80,12 +80,13 @@ def label(file: Input, *, blank: bool = False, run_by: Optional[str] = None, mar
           observer: Optional[str] = None, agency: Optional[str] = None, receiver_number: Optional[str] = None,
           receiver_type: Optional[str] = None, receiver_version: Optional[str] = None, antenna_number: Optional[str] = None,
           antenna_type: Optional[str] = None, delta_height: Optional[Metres] = None, delta_east: Optional[Metres] = None,
-          delta_north: Optional[Metres] = None, output: Optional[Name] = None, force: bool = False,
-          program: Optional[Location] = None) -> Written:
+          delta_north: Optional[Metres] = None, interval: bool = False, last: bool = False, output: Optional[Name] = None,
+          force: bool = False, program: Optional[Location] = None) -> Written:
     """Copies a file, and gives its header these fields and no others. With `blank` the file is again as `convert` wrote it.
 
     A text has up to 20 printable ASCII characters, or as `agency` up to 40. The offsets of the antenna are in metres (m), as a number,
-    which is rounded to 0.0001 m, or as a text such as `+1.5000`. The copy goes to `output`, or else into `text` of the result. A file
+    which is rounded to 0.0001 m, or as a text such as `+1.5000`. `interval` and `last` write lines with the interval of the records and
+    the time of the last one, if the file has two records, or one. The copy goes to `output`, or else into `text` of the result. A file
     that is there is replaced only with `force`.
 
     Raises `FileError` if the file is not as the program writes it, and `WorkError` or `WordsError` for other faults.
@@ -93,7 +94,7 @@ def label(file: Input, *, blank: bool = False, run_by: Optional[str] = None, mar
     fields: Dict[str, Value] = {"blank": blank, "run_by": run_by, "marker_number": marker_number, "observer": observer, "agency": agency,
         "receiver_number": receiver_number, "receiver_type": receiver_type, "receiver_version": receiver_version,
         "antenna_number": antenna_number, "antenna_type": antenna_type, "delta_height": metre_word(delta_height),
-        "delta_east": metre_word(delta_east), "delta_north": metre_word(delta_north)}
+        "delta_east": metre_word(delta_east), "delta_north": metre_word(delta_north), "interval": interval, "last": last}
     with output_of(output, force, [file]) as written:
         ran = run(program, ["label", *option_words(fields)], [file], out=written, third=FileError)
     return Written(None if output is not None else ran.out, None if output is None else Path(output))

@@ -3,14 +3,17 @@
 from __future__ import annotations
 
 import re
-from dataclasses import dataclass
+from dataclasses import dataclass, field
 from datetime import datetime, timedelta
-from typing import Callable, List, Optional, Sequence, Tuple
+from typing import Callable, Dict, List, Optional, Sequence, Tuple
 
 from .faults import FormError
+from .systems import GLONASS, SYSTEMS, names_of
 
-CODES = frozenset("1C 1P 1W 1S 1L 1X 2C 2D 2P 2W 2S 2L 2X 5I 5Q 5X".split())
-TYPES = "SYS / # / OBS TYPES"
+SEVERAL = "M"  # in place of the letter of one system
+TYPES, UNIT, SLOTS = "SYS / # / OBS TYPES", "SIGNAL STRENGTH UNIT", "GLONASS SLOT / FRQ #"
+SLOT = re.compile("R([0-9]{2}) ( [0-6]|-[1-7]) ")
+INTERVAL, LAST = "INTERVAL", "TIME OF LAST OBS"
 LONGEST = 1000  # bytes of a line; a line of the program has at most 772
 FIRST_DAY, LAST_YEAR = datetime(1980, 1, 6), 2100
 OFFSET = re.compile(r" *([+-][0-9]{1,4}\.[0-9]{4})")
@@ -22,9 +25,14 @@ class Header:
 
     `marker` is the name of the marker, and `made` the UTC time of making. `position` has x, y and z of the antenna reference point in
     metres (ECEF), or zeros if the station told none. `antenna_delta` says how far the antenna stands above the marker, and east and
-    north of it, in metres. `codes` has the signals in the order of the columns. `first` is the GPS time of the first record.
+    north of it, in metres. `codes` has the signals in the order of the columns, by the names that `convert` takes: `1C` is a code of
+    GPS, and `E1X` a code of Galileo. `first` is the GPS time of the first record.
 
-    The other fields are those that `label` fills in. A field that the file leaves blank is an empty text.
+    A file with codes of GLONASS has `channels`, the frequency channels by slots, and `leap_seconds`. Without these codes `channels` is
+    empty and `leap_seconds` is None.
+
+    The other fields are those that `label` fills in. A field that the file leaves blank is an empty text. `interval`, in seconds, and
+    `last`, a GPS time, are None if the file does not have their lines.
     """
 
     marker: str
@@ -42,6 +50,10 @@ class Header:
     receiver_version: str = ""
     antenna_number: str = ""
     antenna_type: str = ""
+    channels: Dict[int, int] = field(default_factory=dict, hash=False)
+    leap_seconds: Optional[int] = None
+    interval: Optional[float] = None
+    last: Optional[datetime] = None
 
 
 class Lines:
@@ -125,7 +137,9 @@ def moment_in(date: Sequence[str], seconds: str) -> Optional[datetime]:
 
 def read_header(lines: Lines) -> Header:
     """Reads the lines of a header to its end."""
-    lines.fixed("RINEX VERSION / TYPE", f"{'3.05':>9}{'':11}{'OBSERVATION DATA':20}G")
+    columns, _ = lines.header("RINEX VERSION / TYPE")
+    letter = columns[40]
+    lines.want(columns == f"{'3.05':>9}{'':11}{'OBSERVATION DATA':20}{letter:20}" and letter in (*SYSTEMS, SEVERAL), "C1 HeaderLine")
     run_by, made = read_program(lines)
     marker, _ = lines.header("MARKER NAME")
     lines.want(re.fullmatch("[!-~][ -~]*", marker), "C1 HeaderLine")
@@ -142,13 +156,18 @@ def read_header(lines: Lines) -> Header:
     lines.want(not antenna[2], "C1 HeaderLine")
     position = read_position(lines)
     delta = read_delta(lines)
-    codes = read_types(lines)
-    lines.fixed("SIGNAL STRENGTH UNIT", "DBHZ")
+    interval, last, columns = read_times(lines)
+    codes = read_codes(lines, letter, columns)
     first = read_first(lines)
-    lines.fixed("SYS / PHASE SHIFT", "G")
+    for letter in codes:
+        lines.fixed("SYS / PHASE SHIFT", letter)
+    channels: Dict[int, int] = {}
+    leap_seconds: Optional[int] = None
+    if GLONASS in codes:
+        channels, leap_seconds = read_glonass(lines)
     lines.fixed("END OF HEADER", "")
-    return Header(marker.rstrip(" "), made, position, delta, codes, first, run_by, marker_number, observer, agency, *receiver,
-        *antenna[:2])
+    return Header(marker.rstrip(" "), made, position, delta, names_of(codes), first, run_by, marker_number, observer, agency,
+        receiver[0], receiver[1], receiver[2], antenna[0], antenna[1], channels, leap_seconds, interval, last)
 
 
 def read_program(lines: Lines) -> Tuple[str, datetime]:
@@ -184,11 +203,45 @@ def read_delta(lines: Lines) -> Tuple[float, float, float]:
     return values[0], values[1], values[2]
 
 
-def read_types(lines: Lines) -> Tuple[str, ...]:
-    """The codes, each of which has the types C, L and S in this order. A line has thirteen types."""
-    columns, _ = lines.header(TYPES)
+def read_times(lines: Lines) -> Tuple[Optional[float], Optional[datetime], str]:
+    """The interval and the time of the last record, if their lines are there, and the columns of the line behind them."""
+    interval: Optional[float] = None
+    last: Optional[datetime] = None
+    columns, label = lines.header(INTERVAL, LAST, TYPES)
+    if label == INTERVAL:
+        found = number_in(columns[:10], 3)
+        if not found or columns[10:] != " " * 50:
+            raise lines.fault("C1 HeaderLine")
+        interval = found / 1000
+        columns, label = lines.header(LAST, TYPES)
+    if label == LAST:
+        last = read_moment(lines, columns)
+        columns, label = lines.header(TYPES)
+    return interval, last, columns
+
+
+def read_codes(lines: Lines, letter: str, columns: str) -> Dict[str, Tuple[str, ...]]:
+    """The codes of the systems by their letters, and the line of the unit, which ends them. A file of several systems has at least two,
+    in their order. The first of their lines has these columns."""
+    due = list(SYSTEMS) if letter == SEVERAL else [letter]
+    codes: Dict[str, Tuple[str, ...]] = {}
+    label = TYPES
+    while label == TYPES:
+        lines.want(columns[0] in due, "C1 HeaderLine")
+        due = due[due.index(columns[0]) + 1 :]
+        lines.want(due or codes or letter != SEVERAL, "C1 HeaderLine")  # the last system is not the first of several
+        codes[columns[0]] = read_types(lines, columns)
+        columns, label = lines.header(TYPES, UNIT)
+    lines.want(len(codes) >= (2 if letter == SEVERAL else 1) and columns == f"{'DBHZ':60}", "C1 HeaderLine")
+    return codes
+
+
+def read_types(lines: Lines, columns: str) -> Tuple[str, ...]:
+    """The codes of the system that these columns begin with, each of which has the types C, L and S in this order. A line has thirteen
+    types."""
+    known = SYSTEMS[columns[0]].codes
     count = digits_in(columns[3:6])
-    if columns[:3] != "G  " or count is None or count not in range(3, 49, 3):
+    if columns[1:3] != "  " or count is None or count not in range(3, 3 * len(known) + 1, 3):
         raise lines.fault("C1 HeaderLine")
     codes: List[str] = []
     for row in range(0, count, 13):
@@ -197,13 +250,51 @@ def read_types(lines: Lines) -> Tuple[str, ...]:
         shown = range(row, min(row + 13, count))
         codes += [columns[8 + 4 * (at - row) :][:2] for at in shown if at % 3 == 0]
         due = (" " * 6 if row else columns[:6]) + "".join(f" {'CLS'[at % 3]}{codes[at // 3]}" for at in shown)
-        lines.want(columns == f"{due:60}" and len(set(codes) & CODES) == len(codes), "C1 HeaderLine")
+        lines.want(columns == f"{due:60}" and len(set(codes) & set(known)) == len(codes), "C1 HeaderLine")
     return tuple(codes)
+
+
+def read_glonass(lines: Lines) -> Tuple[Dict[int, int], int]:
+    """The frequency channels by slots, and the leap seconds."""
+    channels = read_slots(lines)
+    lines.fixed("GLONASS COD/PHS/BIS", "")
+    columns, _ = lines.header("LEAP SECONDS")
+    leap_seconds = digits_in(columns[:6])
+    if leap_seconds is None or leap_seconds > 99 or columns[6:] != " " * 54:
+        raise lines.fault("C1 HeaderLine")
+    return channels, leap_seconds
+
+
+def read_slots(lines: Lines) -> Dict[int, int]:
+    """The frequency channels by slots, of which a line has eight. The slots rise, and leave room for those that are still due."""
+    greatest = SYSTEMS[GLONASS].numbers[-1]
+    channels: Dict[int, int] = {}
+    columns, _ = lines.header(SLOTS)
+    count, last = digits_in(columns[:3]), 0
+    if count is None or count > greatest:
+        raise lines.fault("C1 HeaderLine")
+    for row in range(0, max(count, 1), 8):
+        if row:
+            columns, _ = lines.header(SLOTS)
+        due = " " * 4 if row else f"{count:3} "
+        for at in range(row, min(row + 8, count)):
+            word = columns[4 + 7 * (at - row) :][:7]
+            match = SLOT.fullmatch(word)
+            if match is None or not last < int(match[1]) <= greatest - (count - 1 - at):
+                raise lines.fault("C1 HeaderLine")
+            last, due = int(match[1]), due + word
+            channels[last] = int(match[2])
+        lines.want(columns == f"{due:60}", "C1 HeaderLine")
+    return channels
 
 
 def read_first(lines: Lines) -> datetime:
     """The GPS time of the first record."""
-    columns, _ = lines.header("TIME OF FIRST OBS")
+    return read_moment(lines, lines.header("TIME OF FIRST OBS")[0])
+
+
+def read_moment(lines: Lines, columns: str) -> datetime:
+    """The GPS time in the columns of the line that was read last."""
     date = [columns[at : at + 6] for at in range(0, 30, 6)]
     time = moment_in(date, columns[30:43]) if all(digits_in(it) is not None for it in date) else None
     if time is None or columns[43:] != f"{'     GPS':17}":

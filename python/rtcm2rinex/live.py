@@ -17,7 +17,7 @@ from .inputs import PIECE, Inputs
 from .program import Location, fail, lines_of, start
 from .reports import Report, read_report
 from .rinex import Epoch, read_epochs
-from .words import Codes, Time
+from .words import Channels, Codes, Kinds, Time
 
 
 class Fed:
@@ -123,9 +123,10 @@ class Converter:
     records. One converter may be fed and read by several threads.
     """
 
-    def __init__(self, *, station: int, near: Time, marker: str, codes: Codes, made: Optional[Time] = None, window: int = 64, msm: int = 4,
-                 links: int = 1, output: Optional[IO[bytes]] = None, program: Optional[Location] = None) -> None:
-        self._words = convert_words(station, near, made, marker, codes, window, msm)
+    def __init__(self, *, station: int, near: Time, marker: str, codes: Codes, made: Optional[Time] = None, window: int = 64,
+                 msm: Kinds = 4, channels: Optional[Channels] = None, leap_seconds: Optional[int] = None, links: int = 1,
+                 output: Optional[IO[bytes]] = None, program: Optional[Location] = None) -> None:
+        self._words = convert_words(station, near, made, marker, codes, window, msm, channels, leap_seconds)
         self._links = [Fed() for _ in range(links)]
         self._output, self._program = output, program
         self._process: Optional[subprocess.Popen[bytes]] = None

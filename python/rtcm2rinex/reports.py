@@ -1,4 +1,4 @@
-"""The report of a conversion: the late, conflicting and refused messages, and the counts."""
+"""The report of a conversion: the late, conflicting and refused messages, what is told of systems, and the counts."""
 
 from __future__ import annotations
 
@@ -68,19 +68,28 @@ class Counts:
 
 @dataclass(frozen=True)
 class Report:
-    """What became of the messages of a conversion. The three lists are in the order in which the messages came."""
+    """What became of the messages of a conversion. The first three lists are in the order in which the messages came.
+
+    `other_channel` names the slots of GLONASS, such as `R09`, of which messages told another frequency channel than the option
+    `channels`. `no_channel` names those that messages had and `channels` lacks. `no_message` has the letters of the systems that have
+    codes, but no message that was taken. These three are empty with codes of GPS alone.
+    """
 
     counts: Counts
     late: Tuple[LateMessage, ...] = ()
     conflicts: Tuple[Conflict, ...] = ()
     refused: Tuple[RefusedMessage, ...] = ()
+    other_channel: Tuple[str, ...] = ()
+    no_channel: Tuple[str, ...] = ()
+    no_message: Tuple[str, ...] = ()
 
 
 COUNTS = [field.name for field in fields(Counts)]
 MOMENT = r"(\d{4}-\d\d-\d\d \d\d:\d\d:\d\d\.\d{3})"
 LATE = re.compile(rf"link (\d+) late (\d+) (?:{MOMENT}|-)", re.ASCII)
-CONFLICT = re.compile(rf"link (\d+) conflict (\d+) (?:{MOMENT} (G\d\d) (\w\w)|-)", re.ASCII)
+CONFLICT = re.compile(rf"link (\d+) conflict (\d+) (?:{MOMENT} ([GRECJSI]\d\d) (\w\w)|-)", re.ASCII)
 REFUSED = re.compile(r"link (\d+) refused (M\d) (?:(\d+)|-)", re.ASCII)
+OF_SYSTEMS = re.compile(r"(?:(?:other|no)-channel (?:-|R\d\d(?: R\d\d)*)|no-message [GRECJSI](?: [GRECJSI])*)", re.ASCII)
 
 
 def moment_of(text: Optional[str]) -> Optional[datetime]:
@@ -99,6 +108,7 @@ def read_report(lines: Sequence[str], first: int = 1) -> Report:
     late: List[LateMessage] = []
     conflicts: List[Conflict] = []
     refused: List[RefusedMessage] = []
+    names: Dict[str, Tuple[str, ...]] = {}
     for number, line in enumerate(lines, first):
         if match := LATE.fullmatch(line):
             late.append(LateMessage(int(match[1]), int(match[2]), time_in(number, line, match[3]) if match[3] else None))
@@ -107,11 +117,14 @@ def read_report(lines: Sequence[str], first: int = 1) -> Report:
             conflicts.append(Conflict(int(match[1]), int(match[2]), epoch, match[4], match[5]))
         elif match := REFUSED.fullmatch(line):
             refused.append(RefusedMessage(int(match[1]), match[2], whole(match[3])))
+        elif OF_SYSTEMS.fullmatch(line) and not found:  # before the counts
+            word, *told = line.split(" ")
+            names[word.replace("-", "_")] = () if told == ["-"] else tuple(told)
         else:
             found.update([count_of(number, line, len(found))])
     if len(found) != len(COUNTS):
         raise FormError(first + len(lines), "the report ends before its last count")
-    return Report(Counts(**found), tuple(late), tuple(conflicts), tuple(refused))
+    return Report(Counts(**found), tuple(late), tuple(conflicts), tuple(refused), **names)
 
 
 def time_in(number: int, line: str, text: str) -> datetime:

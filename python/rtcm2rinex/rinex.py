@@ -8,17 +8,17 @@ from __future__ import annotations
 import re
 from contextlib import contextmanager
 from datetime import datetime
-from typing import Iterator, List, NamedTuple, Optional, Protocol, Tuple, Union, cast
+from typing import Iterator, List, NamedTuple, Optional, Protocol, Sequence, Tuple, Union, cast
 
 from .faults import FormError
 from .headers import Header, Lines, digits_in, moment_in, read_header
 from .inputs import Name, text_of
+from .systems import GLONASS, PLACES, Columns, columns_of, count_of_satellites
 
 CELL = 48  # columns of range, phase and strength
 VALUE = r"( {0,10}-?[0-9]{1,10}\.[0-9]{3})"
 VALUES = re.compile(rf"(?:{VALUE} ([1-9 ])| {{16}})(?:{VALUE}([ 123])([1-9 ])| {{16}})(?:{VALUE}  | {{16}})")
 EPOCH = re.compile(r"> ([0-9]{4}) ([0-9]{2}) ([0-9]{2}) ([0-9]{2}) ([0-9]{2})(.{11})  0(.{3})")
-SATELLITE = re.compile("G(?:0[1-9]|[12][0-9]|3[0-2])")
 
 
 class ReadableLines(Protocol):
@@ -34,9 +34,9 @@ class Observation(NamedTuple):
     time: datetime
     """The GPS time of the epoch, without a time zone."""
     satellite: str
-    """The satellite, such as `G05`."""
+    """The satellite, such as `G05`, which begins with the letter of its system."""
     code: str
-    """The signal, such as `1C`."""
+    """The signal, such as `1C`, without the letter of the system."""
     range: Optional[float]
     """The pseudorange in metres (m)."""
     phase: Optional[float]
@@ -100,37 +100,42 @@ def observations(file: Union[Name, ReadableLines]) -> Iterator[Observation]:
 
 def read_epochs(lines: Lines, head: Header) -> Iterator[Epoch]:
     """The records behind a header. The first is at the time of first observation, and each other is later than the one before."""
+    columns = columns_of(head.codes)
+    most = count_of_satellites(columns)
     last: Optional[datetime] = None
     while (line := lines.next_or_end()) is not None:
-        time, count = epoch_line(lines, line)
+        time, count = epoch_line(lines, line, most)
         lines.want(time == head.first if last is None else time > last, "C4 Order")
-        last, satellite, rows = time, "", []
+        last, place, rows = time, 0, []
         for _ in range(count):
             line = lines.next()
-            satellite = satellite_of(lines, line, satellite, len(head.codes))
-            rows += cells_of(lines, line, time, head.codes)
+            place = place_of(lines, line, place, columns)
+            cells = cells_of(lines, line, time, columns[line[0]])
+            if line[0] == GLONASS and int(line[1:3]) not in head.channels:
+                lines.want(all(it.phase is None for it in cells), "C3 Value")
+            rows += cells
         yield Epoch(time, tuple(rows))
 
 
-def epoch_line(lines: Lines, line: str) -> Tuple[datetime, int]:
-    """The time of an epoch line, and its count of satellite lines."""
+def epoch_line(lines: Lines, line: str, most: int) -> Tuple[datetime, int]:
+    """The time of an epoch line, and its count of satellite lines, of which there are at most so many."""
     match = EPOCH.fullmatch(line)
     time = moment_in(match.groups()[:5], match[6]) if match else None
     count = digits_in(match[7]) if match else None
-    if time is None or count is None or not 1 <= count <= 32:
+    if time is None or count is None or not 1 <= count <= most:
         raise lines.fault("C2 Columns")
     return time, count
 
 
-def satellite_of(lines: Lines, line: str, before: str, codes: int) -> str:
-    """The satellite of a line, which is greater than the one before."""
-    satellite = line[:3]
-    lines.want(SATELLITE.fullmatch(satellite) and not line.endswith(" ") and len(line) <= 3 + CELL * codes, "C2 Columns")
-    lines.want(satellite > before, "C4 Order")
-    return satellite
+def place_of(lines: Lines, line: str, before: int, columns: Columns) -> int:
+    """The place of the satellite of a line among all satellites, which is greater than the one before."""
+    codes, place = columns.get(line[:1], ()), PLACES.get(line[:3], 0)
+    lines.want(codes and place and not line.endswith(" ") and len(line) <= 3 + CELL * len(codes), "C2 Columns")
+    lines.want(place > before, "C4 Order")
+    return place
 
 
-def cells_of(lines: Lines, line: str, time: datetime, codes: Tuple[str, ...]) -> List[Observation]:
+def cells_of(lines: Lines, line: str, time: datetime, codes: Sequence[str]) -> List[Observation]:
     """The observations of a satellite line, of which there is at least one."""
     columns = line[3:].ljust(CELL * len(codes))
     rows = []

@@ -14,7 +14,7 @@ def arrays(file: Union[Name, ReadableLines]) -> Dict[str, Any]:
     """Gives the observations of a RINEX file as arrays of numpy, which must be installed. All arrays have the same length.
 
     - `time` has GPS times as `datetime64[ms]`.
-    - `satellite` and `code` have texts such as `G05` and `1C`.
+    - `satellite` and `code` have texts such as `G05` and `1C`. The letter of the system is in `satellite` alone.
     - `range` is in metres (m), `phase` in cycles, and `strength` in dB-Hz. A value that the file lacks is NaN.
     - `loss_of_lock` and `half_cycle` are true where the file has these marks.
 

@@ -4,10 +4,12 @@ from __future__ import annotations
 
 from datetime import datetime, timezone
 from decimal import Decimal
-from typing import Dict, List, Optional, Sequence, Union
+from typing import Dict, List, Mapping, Optional, Sequence, Union
 
 Time = Union[str, datetime]
 Codes = Union[str, Sequence[str]]
+Kinds = Union[int, str, Mapping[str, int]]
+Channels = Union[str, Mapping[int, int]]
 Metres = Union[str, float, Decimal]
 Value = Union[None, bool, int, str]
 
@@ -51,6 +53,20 @@ def present() -> datetime:
 def code_word(codes: Optional[Codes]) -> Optional[str]:
     """Codes as the program takes them, joined by commas."""
     return codes if codes is None or isinstance(codes, str) else ",".join(codes)
+
+
+def kind_word(kinds: Kinds) -> str:
+    """Kinds of MSM as the program takes them. In a mapping they stand by the letters of systems, and a system that it lacks has MSM4."""
+    if isinstance(kinds, Mapping):
+        return ",".join(["4", *(f"{letter}{kind}" for letter, kind in kinds.items())])
+    return str(kinds)
+
+
+def channel_word(channels: Optional[Channels]) -> Optional[str]:
+    """Channels by slots as the program takes them. An empty mapping says that no slot has a channel."""
+    if isinstance(channels, Mapping):
+        return ",".join(f"{slot}:{channel}" for slot, channel in channels.items()) or "none"
+    return channels
 
 
 def metre_word(metres: Optional[Metres]) -> Optional[str]:

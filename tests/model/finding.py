@@ -15,6 +15,7 @@ from math import dist
 from pathlib import Path
 from typing import NamedTuple
 
+from equipment import equipment_of
 from messages import CODES, Refusal, cells_of, frames_of, read_message
 from model import civil, moment
 from wire import MSMS, WEEK_MS, BitReader, Fields, Message, table
@@ -99,20 +100,24 @@ class Capture(NamedTuple):
     """The messages of a capture in their order: each one that is read, or the fields of one with a date."""
 
     read: list[Message | Fields]
+    places: list[int]  # the byte at which the frame of each begins
     frames: int
+    equipped: set[int]  # the stations of which messages tell an antenna
 
     @classmethod
     def of(cls, text: bytes) -> Capture:
         read: list[Message | Fields] = []
+        places: list[int] = []
         frames = frames_of(text)
+        equipped = {it[0] for frame in frames for it in [equipment_of(frame.payload)] if it}
         for frame in frames:
             message = read_message(frame.payload, MSMS)
             date = date_of(frame.payload)
-            if not isinstance(message, Refusal):
-                read.append(message)
-            elif date is not None:
-                read.append(date)
-        return cls(read, len(frames))
+            if isinstance(message, Refusal) and date is None:
+                continue
+            read.append(date if isinstance(message, Refusal) else message)
+            places.append(frame.place)
+        return cls(read, places, len(frames), equipped)
 
     def messages(self) -> list[Message]:
         return [it for it in self.read if isinstance(it, Message)]
@@ -124,13 +129,23 @@ class Capture(NamedTuple):
     def of_station(self, station: int) -> list[Message]:
         return [it for it in self.messages() if it.header["station"] == station]
 
-    def point(self, station: int) -> list[tuple[int, ...]]:
-        """The position of the station's first 1005 or 1006, if there is one."""
-        return [tuple(it.header[axis] for axis in "xyz") for it in self.of_station(station) if "x" in it.header][:1]
+    def is_of_station(self, station: int) -> bool:
+        """Whether a message of it came, be it one with observations, with a position, with a date, or with an antenna."""
+        return station in self.equipped or any(it.get("station") == station for it in map(fields_of, self.read))
+
+    def points(self, station: int) -> list[tuple[int, ...]]:
+        """The first position of the station, and the first one that is far from it. Zeros are none."""
+        points = [tuple(it.header[axis] for axis in "xyz") for it in self.of_station(station) if "x" in it.header]
+        known = [it for it in points if any(it)]
+        return [*known[:1], *[it for it in known if dist(it, known[0]) > METRES_100][:1]]
 
     def times(self, station: int) -> list[int]:
         """The times of week of the station's messages that have an observation."""
         return [it.header["tow"] for it in self.messages() if is_observation_of(station, it)]
+
+
+def fields_of(entry: Message | Fields) -> Fields:
+    return entry.header if isinstance(entry, Message) else entry
 
 
 def has_observation(message: Message) -> bool:
@@ -156,6 +171,7 @@ class Told(NamedTuple):
 
     first: int
     fields: Fields
+    at: int  # the place of the message among those that are read
 
 
 WAITING = 64  # how many messages before the first epoch are looked at
@@ -165,7 +181,7 @@ def tellings(now: int, capture: Capture, station: int) -> list[Told]:
     """What each message tells. Its date is that of the last epoch before it, or else of the first one."""
     times = capture.times(station)
     told, epochs, waited = [], 0, 0
-    for entry in capture.read:
+    for place, entry in enumerate(capture.read):
         epochs += is_observation_of(station, entry)
         if isinstance(entry, Message) or not times:
             continue
@@ -176,7 +192,7 @@ def tellings(now: int, capture: Capture, station: int) -> list[Told]:
         date = told_moment(now, entry, times[at])
         first = None if date is None else date_of_first(times[: at + 1], date)
         if first is not None and FIRST_NEAR <= first <= LAST_NEAR:
-            told.append(Told(first, entry))
+            told.append(Told(first, entry, place))
     return told
 
 
@@ -197,6 +213,25 @@ def counting(told: list[Told], station: int) -> list[Told]:
     weeks = [it for it in told if "week" in it.fields]
     others = [it for it in told if "station" in it.fields and it not in own]
     return own or weeks or others
+
+
+def second_begins(capture: Capture, told: list[Told], station: int) -> int | None:
+    """The byte at which a second date of the station begins: that of its first message; or of an epoch before it, if no epoch
+    between the last message of the first date and the first epoch behind that message steps back, or on by more than 60 s, by more.
+    None without a second date, and if it came before all epochs."""
+    own = [it for it in told if it.fields.get("station") == station]
+    others = [it for it in own if it.first != own[0].first]
+    epochs = [at for at, it in enumerate(capture.read) if is_observation_of(station, it)]
+    if not others or epochs[0] > others[0].at:
+        return None
+    second = others[0].at
+    last = max(it.at for it in own if it.at < second)
+    times = [capture.read[at].header["tow"] for at in epochs]
+    moments = chain(WEEK_MS * 1024 + times[0], times)
+    steps = [(after - before, at) for before, after, at in zip(moments, moments[1:], epochs[1:]) if after != before and at > last]
+    behind = next((at for _, at in steps if at > second), len(capture.read))
+    breaks = [(abs(step), at) for step, at in steps if at <= behind and not 0 <= step <= 60_000]
+    return capture.places[min(second, max(breaks, default=(0, second))[1])]
 
 
 def passed_over(told: list[Told], station: int) -> list[Told]:
@@ -237,6 +272,7 @@ class Found(NamedTuple):
     without: list[int]  # captures without an epoch of the station
     skipped: list[int]  # captures without a message of it
     few: list[str]  # codes with few phases
+    stray: tuple[int, list[int]] | None  # an epoch more than a day after all others, and the captures that have it
 
 
 def station_of(captures: list[Capture], named: int | None) -> int:
@@ -265,15 +301,44 @@ def msm_of(links: list[list[Message]]) -> int:
 
 def first_told(now: int, captures: list[Capture], station: int) -> dict[int, Told]:
     """By capture the first epoch that is told."""
-    firsts: dict[int, Told] = {}
-    for place, capture in enumerate(captures):
-        told = counting(tellings(now, capture, station), station)
-        different = {it.first: it for it in told[::-1]}
-        if len(different) > 1:
-            raise Stopped("dates differ", place, *sorted(different))
-        if told:
-            firsts[place] = told[0]
-    return firsts
+    all_told = [tellings(now, capture, station) for capture in captures]
+    counted = [counting(told, station) for told in all_told]
+    if any(len({it.first for it in told}) > 1 for told in counted):
+        begins = [second_begins(capture, told, station) for capture, told in zip(captures, all_told)]
+        parted = [(at, byte) for at, byte in enumerate(begins) if byte is not None]
+        if parted:
+            raise Stopped("two dates", *parted[0])
+        raise Stopped("dates differ", "-", *sorted(it.first for told in counted for it in told))
+    return {place: told[0] for place, told in enumerate(counted) if told}
+
+
+def named_moment(now: int, capture: Capture, station: int) -> Told | None:
+    """The moment that a date names in a capture without an epoch, chosen as among those that tell a first epoch."""
+    dates = [(at, it) for at, it in enumerate(capture.read) if not isinstance(it, Message)][:WAITING]
+    named = [Told(moment, it, at) for at, it in dates for moment in [moment_named(now, it)] if moment is not None]
+    return next(iter(counting([it for it in named if FIRST_NEAR <= it.first <= LAST_NEAR], station)), None)
+
+
+def moment_named(now: int, fields: Fields) -> int | None:
+    """That of its day and second, or the reference time of an ephemeris in its week."""
+    if "week" in fields:
+        return told_moment(now, fields, 16_000 * fields["toe"]) if 16_000 * fields["toe"] < WEEK_MS else None
+    at = DAY_MS * (fields["day"] - FIRST_DAY) + 1000 * fields["second"]
+    return None if told_moment(now, fields, 0) is None else at
+
+
+def first_to_come(now: int, capture: Capture) -> Fields | None:
+    """The first 1013 or 1029 whose day is more than one day after that of the present, which is why it tells nothing."""
+    dates = [it for it in capture.read if not isinstance(it, Message) and "day" in it]
+    return next((it for it in dates if it["day"] > FIRST_DAY + max(6, now // DAY_MS + 1) and it["second"] <= 86_400), None)
+
+
+def stray_of(epochs: list[list[int]], places: list[int]) -> tuple[int, list[int]] | None:
+    """An epoch that is more than a day after all others, and the captures that have it; they are at these places."""
+    *others, last = sorted(set().union(*epochs))
+    if not others or last <= others[-1] + DAY_MS:
+        return None
+    return last, [at for at, of in zip(places, epochs) if last in of]
 
 
 def few_phases(taken: list[Message], codes: list[str]) -> list[str]:
@@ -299,15 +364,17 @@ def find(texts: list[bytes], now: int, station: int | None = None, near: int | N
     if not any(it.frames for it in everything):
         raise Stopped("no frame")
     number = station_of(everything, station)
-    skipped = [at for at, it in enumerate(everything) if not it.of_station(number)]
+    skipped = [at for at, it in enumerate(everything) if not it.is_of_station(number)]
     if skipped and not skip_empty:
         raise Stopped("nothing of the station", *skipped)
     captures = [it for at, it in enumerate(everything) if at not in skipped]
     times = [capture.times(number) for capture in captures]
     told = {} if near is not None else first_told(now, captures, number)
-    if near is None and not told:
+    named = [it for capture, of in zip(captures, times) if not of for it in [named_moment(now, capture, number)] if it is not None]
+    dating = [*told.values()] or ([] if near is not None else named)
+    if near is None and not dating:
         raise Stopped("no date")
-    base = near if near is not None else min(it.first for it in told.values())
+    base = near if near is not None else min(it.first for it in dating)
     if len({"week" in it.fields for it in told.values()}) > 1 and any(it.first - base > HALF_WEEK_MS for it in told.values()):
         raise Stopped("dates differ", "-", *sorted(it.first for it in told.values()))
     firsts = [told[at].first if at in told else dated(base, of[0]) if of else None for at, of in enumerate(times)]
@@ -317,11 +384,11 @@ def find(texts: list[bytes], now: int, station: int | None = None, near: int | N
         raise Stopped("give them in parts")
     if not FIRST_NEAR <= near <= LAST_NEAR:
         raise Stopped("outside the dates")
-    by = min(told.values(), default=None, key=lambda it: it.first)
+    by = min(dating, default=None, key=lambda it: it.first)
     links = links_of(epochs, as_given)
     if len(links) > MOST_LINKS:
         raise Stopped("too many links", len(links))
-    points = [point for capture in captures for point in capture.point(number)]
+    points = [point for capture in captures for point in capture.points(number)]
     if not as_given and any(dist(a, b) > METRES_100 for a, b in combinations(points, 2)):
         raise Stopped("positions differ")
     places = [at for at in range(len(texts)) if at not in skipped]
@@ -331,7 +398,7 @@ def find(texts: list[bytes], now: int, station: int | None = None, near: int | N
     codes = [it for it in CODES if it in set().union(*map(codes_in, taken))]
     return Found(
         number, msm, codes, near, None if by is None else by.fields, [[places[at] for at in link] for link in links], epochs,
-        [places[at] for at, of in enumerate(epochs) if not of], skipped, few_phases(taken, codes),
+        [places[at] for at, of in enumerate(epochs) if not of], skipped, few_phases(taken, codes), stray_of(epochs, places),
     )
 
 

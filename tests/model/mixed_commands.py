@@ -1,6 +1,7 @@
-"""`check`, `label --blank` and `cut` on mixed files that chance makes, beside the model.
+"""`check`, `label` and `cut` on mixed files that chance makes, and `show` on such captures, beside the model.
 
-    mixed_commands.py PROGRAM COUNT    so many changed files, a third as many labelled ones, and a tenth as many parts
+    mixed_commands.py PROGRAM COUNT    so many changed files, a third as many labelled ones, and a tenth as many parts, as many
+                                       with lines of their records, as many with some systems alone, and as many captures
 
 The last line is 'N passed, M failed'.
 """
@@ -14,13 +15,16 @@ from pathlib import Path
 from random import Random
 from typing import Iterator, NamedTuple
 
+import kept_systems
 import mixed_cases
 import mixed_damages
 import mixed_labels
 import mixed_parts
+import mixed_shown
+import time_lines
 from mixed_checker import mixed_fault
 from mixed_tables import some_table
-from parts import part_of
+from parts import Part, part_of
 from program import Program
 from properties import ends_with
 from systems import LETTERS
@@ -83,9 +87,53 @@ def cuts(count: int) -> Iterator[Due]:
     for text, part in [*(mixed_parts.some_file(rng) for _ in range(count)), mixed_parts.a_day(rng), mixed_parts.all_satellites(rng)]:
         due = part_of(text, part).encode()
         told = b"records %d written %d\n" % (counts(text.encode())[0], counts(due)[0])
-        is_refused = part.since is not None and part.until is not None and part.since > part.until
-        if part.words() and not is_refused:
+        if part.words() and not is_empty(part):
             yield Due(["cut", *part.words()], text.encode(), 0, due, told)
+
+
+def is_empty(part: Part) -> bool:
+    """Whether the part is refused, because it ends before it begins."""
+    return part.since is not None and part.until is not None and part.since > part.until
+
+
+def lines(count: int) -> Iterator[Due]:
+    """Files with lines of their records, and parts of them."""
+    rng = Random(time_lines.SEED)
+    for _ in range(count):
+        text, part = mixed_parts.some_file(rng)
+        asked = rng.choice(((True, False), (False, True), (True, True)))
+        told = time_lines.with_lines(text, *asked)
+        words = [word for word, is_asked in zip(("--interval", "--last"), asked) if is_asked]
+        yield Due(["label", *words], text.encode(), 0, told.encode(), b"")
+        due = part_of(text, part)
+        counted = b"records %d written %d\n" % (counts(text.encode())[0], counts(due.encode())[0])
+        if part.words() and not is_empty(part):
+            yield Due(["cut", *part.words()], told.encode(), 0, time_lines.with_lines(due, *asked).encode(), counted)
+
+
+def kept(count: int) -> Iterator[Due]:
+    """Parts with some systems alone, of files without and with lines of their records."""
+    rng = Random(kept_systems.SEED)
+    for file, part in (kept_systems.some_part(rng) for _ in range(count)):
+        asked = rng.choice(((False, False), (True, False), (True, True)))
+        words, text = ["cut", *part.words()], time_lines.with_lines(file, *asked).encode()
+        absent = kept_systems.absent(file, part.systems)
+        if is_empty(part):
+            yield Due(words, text, 2, b"", b"rtcm2rinex: bad --until\n")
+        elif absent is not None:
+            yield Due(words, text, 3, b"", f"rtcm2rinex: the file has no codes of {absent}\n".encode())
+        else:
+            due = kept_systems.kept_part(file, part)
+            read = counts(kept_systems.kept(file, part.systems).encode())[0]
+            told = b"records %d written %d\n" % (read, counts(due.encode())[0])
+            yield Due(words, text, 0, time_lines.with_lines(due, *asked).encode(), told)
+
+
+def shows(count: int) -> Iterator[Due]:
+    rng = Random(mixed_shown.SEED)
+    for _ in range(count):
+        text, options, due = mixed_shown.some_lines(rng)
+        yield Due(["show", *options], text, 0, due, b"")
 
 
 def main() -> None:
@@ -94,7 +142,8 @@ def main() -> None:
     with tempfile.TemporaryDirectory() as folder:
         chdir(folder)
         program = Program(path)
-        for number, due in enumerate((*checks(count), *labels(count // 3), *cuts(count // 10))):
+        files = (*checks(count), *labels(count // 3), *cuts(count // 10), *lines(count // 10), *kept(count // 10))
+        for number, due in enumerate((*files, *shows(count // 10))):
             differs = ends_with(program.on(due.text, *due.words), due.status, due.out, due.err)
             passed, failed = passed + (not differs), failed + bool(differs)
             if differs and failed <= 5:

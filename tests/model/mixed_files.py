@@ -120,12 +120,12 @@ class Digits:
 
     def shown(self, time: int, name: str, code: str, cell: Cell) -> Shown:
         """What a line shows of the cell, which follows those of the epochs before."""
-        digit = " "
-        if cell.phase is not None:
-            slip, rolls = step(self.last.get((name, code)), time, cell, code)
-            self.last[name, code] = Step(time, cell, rolls)
-            digit = str(slip + 2 * cell.half) if slip or cell.half else " "
-        return Shown(cell.range, cell.phase, cell.strength, digit)
+        if cell.phase is None:
+            return Shown(cell.range, None, cell.strength)
+        slip, rolls = step(self.last.get((name, code)), time, cell, code)
+        self.last[name, code] = Step(time, cell, rolls)
+        digit = str(slip + 2 * cell.half) if slip or cell.half else " "
+        return Shown(cell.range, cell.phase + 1_500_000 * rolls, cell.strength, digit)
 
 
 def taken_cells(setup: MixedSetup, payloads: Iterable[bytes]) -> dict[int, dict[str, dict[str, Cell]]]:
@@ -145,20 +145,30 @@ def taken_cells(setup: MixedSetup, payloads: Iterable[bytes]) -> dict[int, dict[
     return epochs
 
 
-def mixed_file(setup: MixedSetup, payloads: Iterable[bytes]) -> str:
-    """The file of MSM that come in time, whatever their order."""
+def records_of(setup: MixedSetup, epochs: Mapping[int, Mapping[str, Mapping[str, Cell]]]) -> dict[int, list[str]]:
+    """The lines of each epoch that has some, from its cells of listed codes by satellites and codes."""
     digits = Digits()
     records = {}
-    for time, epoch in sorted(taken_cells(setup, payloads).items()):
+    for time, epoch in sorted(epochs.items()):
         shown = {
             name: {code: digits.shown(time, name, code, cell) for code, cell in cells.items()}
             for name, cells in epoch.items()
         }
         records[time] = record(setup, time, shown)
-    first = min((time for time, lines in records.items() if lines), default=setup.near)
+    return {time: lines for time, lines in records.items() if lines}
+
+
+def text_of(setup: MixedSetup, records: Mapping[int, list[str]], stations: Mapping[int, Fields] | None = None) -> str:
+    """The file of these records: the leap seconds of its header are those of the first one."""
+    first = min(records, default=setup.near)
     leap = leap_seconds_at(first) if setup.leap is None else setup.leap
-    lines = mixed_header(setup, first, leap) + [line for lines in records.values() for line in lines]
+    lines = mixed_header(setup, first, leap, stations) + [line for lines in records.values() for line in lines]
     return "".join(f"{line}\n" for line in lines)
+
+
+def mixed_file(setup: MixedSetup, payloads: Iterable[bytes]) -> str:
+    """The file of MSM that come in time, whatever their order."""
+    return text_of(setup, records_of(setup, taken_cells(setup, payloads)))
 
 
 def listed(names: str) -> dict[str, tuple[str, ...]]:

@@ -1,4 +1,4 @@
-"""Mixed files with the fields of a label, some of them changed behind the lines of the fields."""
+"""Mixed files with the fields of a label and with lines of their records, some of them changed in these lines or behind them."""
 
 from __future__ import annotations
 
@@ -9,6 +9,7 @@ from mixed_checker import mixed_fault
 from mixed_damages import damaged_mixed
 from mixed_files import header_line
 from mixed_parts import some_file
+from time_lines import FRONT, lines_due, wrong_line
 
 SEED = 7373
 SOLID = [chr(it) for it in range(0x21, 0x7F)]
@@ -62,14 +63,31 @@ def labelled(front: list[str], fields: Fields) -> list[str]:
     ]
 
 
-def some_text(rng: Random) -> tuple[bytes, bytes, tuple[int, str] | None]:
-    """A text, the same without the fields, and the first wrong line of the text and its cause, if one is wrong."""
-    lines = some_file(rng)[0].splitlines()
-    front, rest = lines[:9], "".join(f"{line}\n" for line in lines[9:]).encode()
-    fields = some_fields(rng, float(front[8][:14]) != 0)
-    rest = damaged_mixed(rng, rest) if rng.random() < 0.7 else rest
-    plain, text = ("".join(f"{line}\n" for line in its).encode() + rest for its in (front, labelled(front, fields)))
+def some_lines(rng: Random, text: str) -> list[str]:
+    """Lines of the records of a file, perhaps none, one of them perhaps with another character in its columns."""
+    lines = lines_due(text, rng.random() < 0.5, rng.random() < 0.5)
+    if lines and rng.random() < 0.2:
+        at, column = rng.randrange(len(lines)), rng.randrange(60)
+        lines[at] = lines[at][:column] + rng.choice([*SOLID, " "]) + lines[at][column + 1 :]
+    return lines
+
+
+def fault_of(plain: bytes, told: list[str], has_number: bool) -> tuple[int, str] | None:
+    """The first wrong line of a text and its cause, by the text without its fields and lines."""
     fault = mixed_fault(plain)
-    if fault is None:
-        return text, plain, None
-    return text, plain, (fault[0] + (fault[0] > 3 and bool(fields.number.strip())), fault[1])
+    if fault is not None:
+        return fault[0] + (fault[0] > 3 and has_number) + (fault[0] > FRONT) * len(told), fault[1]
+    wrong = wrong_line(told, plain.decode())
+    return None if wrong is None else (FRONT + 1 + has_number + wrong, "C1 HeaderLine")
+
+
+def some_text(rng: Random) -> tuple[bytes, bytes, tuple[int, str] | None]:
+    """A text, the same without its fields and lines, and the first wrong line of the text and its cause, if one is wrong."""
+    file = some_file(rng)[0]
+    lines = file.splitlines()
+    front, rest = lines[:FRONT], "".join(f"{line}\n" for line in lines[FRONT:]).encode()
+    fields = some_fields(rng, float(front[8][:14]) != 0)
+    told = some_lines(rng, file)
+    rest = damaged_mixed(rng, rest) if rng.random() < 0.7 else rest
+    plain, text = ("".join(f"{line}\n" for line in its).encode() + rest for its in (front, labelled(front, fields) + told))
+    return text, plain, fault_of(plain, told, bool(fields.number.strip()))

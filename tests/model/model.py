@@ -10,9 +10,9 @@ from __future__ import annotations
 from collections import Counter
 from dataclasses import dataclass
 from datetime import datetime, timedelta
-from typing import Iterator, NamedTuple
+from typing import Iterator, NamedTuple, Sequence
 
-from messages import FREQUENCY, LIGHT, Cell, Placed, Refusal, cells_of, fixed, read_message, scan
+from messages import FREQUENCY, LIGHT, Cell, CellOf, Placed, Refusal, cells_of, fixed, read_message, scan
 from wire import WEEK_MS, Fields, Message, paired
 
 READ_SIZE = 512
@@ -47,6 +47,21 @@ class Setup:
             f"--window={self.window}",
             *([] if self.msm is None else [f"--msm={self.msm}"]),
         ]
+
+    def read(self, payload: bytes) -> Message | Refusal:
+        """What a payload says."""
+        return read_message(payload, (self.msm_number,))
+
+    def time_of(self, message: Message) -> int | None:
+        """The moment of observations."""
+        tow = message.header.get("tow")
+        return None if tow is None else dated(self.near, tow)
+
+    def cells_of(self, message: Message) -> list[CellOf]:
+        return cells_of(message)
+
+    def name_of(self, satellite: int) -> str:
+        return f"G{satellite:02}"
 
 
 FIRST_DAY = datetime(1980, 1, 6)
@@ -95,8 +110,7 @@ class Link:
         frames, end = scan(self.text[self.pending : self.taken], ended=not self.is_open)
         moved = [Placed(self.pending + frame.place, frame.payload) for frame in frames]
         self.pending += end
-        msms = (self.setup.msm_number,)
-        found = [Found(self.number, it, read_message(it.payload, msms)) for it in moved]
+        found = [Found(self.number, it, self.setup.read(it.payload)) for it in moved]
         for _, _, message in found:
             self.newest = max(self.newest, self.epoch_of(message))
         return found
@@ -105,8 +119,8 @@ class Link:
         """-1 if it has none, or isn't of the station."""
         if isinstance(message, Refusal) or message.header["station"] != self.setup.station:
             return -1
-        tow = message.header.get("tow")
-        return -1 if tow is None else dated(self.setup.near, tow)
+        time = self.setup.time_of(message)
+        return -1 if time is None else time
 
 
 def found_frames(setup: Setup, texts: list[bytes]) -> Iterator[Found]:
@@ -147,10 +161,8 @@ class Kept:
             return Judged(found, "refused", [f"{link} refused {message}"])
         if message.header["station"] != self.setup.station:
             return Judged(found, "foreign", [])
-        if "tow" in message.header:
-            kind, told = self._observation(message, dated(self.setup.near, message.header["tow"]))
-        else:
-            kind, told = self._station(message.header)
+        time = self.setup.time_of(message)
+        kind, told = self._station(message.header) if time is None else self._observation(message, time)
         number = message.header["number"]
         return Judged(found, kind, [f"{link} {case} {number} {rest}" for case, rest in told])
 
@@ -177,11 +189,11 @@ class Kept:
         is_new = epoch not in self.epochs
         kept = self.epochs.setdefault(epoch, {})
         told = []
-        for satellite, code, cell in cells_of(message):
+        for satellite, code, cell in self.setup.cells_of(message):
             key = (satellite, code, cell.source)
             is_new |= key not in kept
             if kept.setdefault(key, cell) != cell:
-                told.append(("conflict", f"{time} G{satellite:02} {code}"))
+                told.append(("conflict", f"{time} {self.setup.name_of(satellite)} {code}"))
         return "taken" if is_new else "conflict" if told else "repeat", told
 
     def shown_cells(self, epoch: int) -> dict[tuple[int, str], Cell]:
@@ -304,10 +316,12 @@ def header(setup: Setup, stations: dict[int, Fields], first: int) -> list[str]:
     return [f"{text:60}{label:20}" for text, label in lines]
 
 
-def report_of(judged: list[Judged], epochs: int) -> str:
+def report_of(judged: list[Judged], epochs: int, more: Sequence[str] = ()) -> str:
+    """A line for what is not taken, frame by frame; these lines; and the counts."""
     counts = Counter(frame.kind for frame in judged)
     counts.update(frames=len(judged), epochs=epochs)
     lines = [line for frame in judged for line in frame.lines]
+    lines += more
     return "".join(f"{line}\n" for line in lines + [f"{name} {counts[name]}" for name in COUNTS])
 
 

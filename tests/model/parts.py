@@ -15,17 +15,19 @@ TYPES = "SYS / # / OBS TYPES"
 
 
 class Part(NamedTuple):
-    """A span and a step; what isn't given is None."""
+    """A span, a step and the letters of systems; what isn't given is None."""
 
     since: datetime | None
     until: datetime | None
     every: int | None
+    systems: str | None = None
 
     def words(self) -> list[str]:
         """The options of `cut`."""
         given = {"--from": self.since, "--until": self.until}
         words = [f"{name}={it:%Y-%m-%dT%H:%M:%S}" for name, it in given.items() if it is not None]
-        return words + ([] if self.every is None else [f"--every={self.every}"])
+        words += [] if self.every is None else [f"--every={self.every}"]
+        return words + ([] if self.systems is None else [f"--systems={self.systems}"])
 
     def has_step(self, time: datetime, near: int) -> bool:
         """Whether the time is at most so many ms before or after a multiple of the step."""

@@ -32,7 +32,7 @@ from pictures import svg_picture, text_picture
 from program import Ended, Program
 from sender import pick_any
 from summaries import UNTAKEN, look_of, sh_quoted, summary_of
-from wire import MSMS, WEEK_MS, BitWriter, Message, frame_of
+from wire import MSMS, WEEK_MS, BitWriter, Fields, Message, frame_of
 
 MOST_LINKS = 16
 HOLDS = ""
@@ -130,7 +130,8 @@ def counts_add_up(case: Case) -> Answer:
 def valid_line(text: bytes) -> bytes:
     """What `check` is due to print of a file: its counts."""
     records = text.partition(b"END OF HEADER")[2]
-    return b"valid: %d epochs, %d satellite lines\n" % (records.count(b"\n>"), records.count(b"\nG"))
+    epochs = records.count(b"\n>")
+    return b"valid: %d epochs, %d satellite lines\n" % (epochs, records.count(b"\n") - 1 - epochs)
 
 
 def file_is_valid(case: Case) -> Answer:
@@ -225,6 +226,8 @@ def auto_as_modelled(case: Case) -> Answer:
         found = find(texts, now, station, near, as_given, skip_empty)
     except Stopped as stopped:
         listed = stations_text(stopped.about, texts) if "station" in STOPPED[stopped.cause] else ""
+        if stopped.cause in ("two dates", "no date"):
+            listed = re.escape(two_dates_text(now, texts, station, *stopped.about) if stopped.about else to_come_text(now, texts))
         line = f"rtcm2rinex: {STOPPED[stopped.cause]}\n".replace("STATION", str(station)) + listed
         is_said = re.match(line.encode(), run.err)
         return ends_with(run, 3, b"", None) or (HOLDS if is_said else f"{run.err!r} and not {line!r}")
@@ -257,12 +260,39 @@ STOPPED = {
     "several stations": "several stations have GPS observations; choose one by --station",
     "nothing of the station": r"captures have nothing of [^;]*; --skip-empty leaves them out",
     "dates differ": "the captures tell dates that differ; choose one by --near",
+    "two dates": "a capture tells two dates; part it, or choose one by --near",
     "no date": "the captures tell no date; give one, as in --near GPS-TIME-WITHIN-HALF-A-WEEK",
     "give them in parts": "the captures are longer than half a week; convert them in parts",
     "outside the dates": "the first epoch is not dated from 1980-01-13 to 2099-12-31; choose a date by --near",
     "too many links": "more than 16 captures are of the same time, and 16 links are taken",
     "positions differ": "the station stands at positions that differ; --links-as-given takes them for one",
 }
+
+
+def date_text(fields: Fields, moment: int, name: str) -> str:
+    """A date, the message that tells it, and its capture."""
+    station = f" of station {fields['station']}" if "station" in fields else ""
+    return f" {shown_time(moment)} by {fields['number']}{station} in {name}"
+
+
+def two_dates_text(now: int, texts: list[bytes], station: int | None, at: int, byte: int) -> str:
+    """The dates of the captures that tell several, and the commands that part the one at this place at a byte."""
+    captures = [finding.Capture.of(text) for text in texts]
+    number = finding.station_of(captures, station)
+    told = [distinct(finding.counting(finding.tellings(now, it, number), number)) for it in captures]
+    lines = [date_text(it.fields, it.first, name_of(place)) for place, of in enumerate(told) for it in of if len(of) > 1]
+    kept = [place for place, it in enumerate(captures) if it.is_of_station(number)]
+    name = name_of(kept[at])
+    lines += [f" {name}: the second date begins at byte {byte}; these commands part it there:"]
+    lines += [f"head -c {byte} {name} >{name}.1", f"tail -c +{byte + 1} {name} >{name}.2"]
+    return "".join(f"{line}\n" for line in lines)
+
+
+def to_come_text(now: int, texts: list[bytes]) -> str:
+    """The first date of each capture that is passed over since it is to come."""
+    dates = [(at, finding.first_to_come(now, finding.Capture.of(text))) for at, text in enumerate(texts)]
+    moments = [(at, it, finding.DAY_MS * (it["day"] - FIRST_DAY) + 1000 * it["second"]) for at, it in dates if it is not None]
+    return "".join(f"{date_text(it, moment, name_of(at))}: it is after the time of making\n" for at, it, moment in moments)
 
 
 def parts_of(rng: Random, text: bytes) -> list[bytes]:
@@ -347,7 +377,7 @@ def auto_text(found: Found, said: Setup, due: Conversion, texts: list[bytes], is
     if epochs:
         lines.append(f" from {shown_time(epochs[0])} until {shown_time(epochs[-1])} by {source}")
     if re.search(r"^ {8}0\.0000 {8}0\.0000 {8}0\.0000 +APPROX POSITION XYZ", due.file, re.M):
-        lines.append(" no-position: no 1005 or 1006 came in time, and the header has zeros")
+        lines.append(" no-position: the header has zeros, as no 1005 or 1006 came in time, or the first one has zeros")
     lines += gap_lines(epochs)
     conflicts = sum(" conflict " in line for line in due.report.splitlines()[:-9])
     lines += [f" conflict {conflicts}: later copies differ from the first, which the file has"] * (conflicts > 0)
@@ -358,10 +388,15 @@ def auto_text(found: Found, said: Setup, due: Conversion, texts: list[bytes], is
         lines += [f" undated {name_of(at)}: dated near the others" for (at, of), epochs in zip(told.items(), found.epochs) if epochs and not of]
     passed = {at: distinct(finding.passed_over(finding.tellings(said.made, it, said.station), said.station)) for at, it in captures.items()}
     others = [(at, it) for at, epochs in zip(kept, found.epochs) for it in told[at] + passed[at] if it.first != epochs[0]]
-    lines += [f" other-date {civil(it.first):%Y-%m-%dT%H:%M:%S} by {it.fields['number']}"
-              + (f" of station {it.fields['station']}" if "station" in it.fields else "") + f" in {name_of(at)}" for at, it in others]
+    lines += [f" other-date{date_text(it.fields, it.first, name_of(at))}" for at, it in others]
     lines += [f" few-phases {code}: its satellites have more than twice as many in another code" for code in found.few]
-    lines += [f" late {counts['late']}: messages after {said.window} newer epochs are left out"] * (counts["late"] != "0")
+    moment, strays = found.stray or (0, [])
+    lines += [f" stray {name_of(at)} {shown_time(moment)}" for at in strays]
+    with_stray = {number for number, link in enumerate(found.links, 1) if set(link) & set(strays)}
+    by_stray = sum(line.split()[2] == "late" and int(line.split()[1]) in with_stray for line in due.report.splitlines()[:-9])
+    of_them = f", {by_stray} of them on a link with the stray epoch" if by_stray else ""
+    late = f" late {counts['late']}: observations after {said.window} newer epochs, and new positions after {said.window} epochs, are left out"
+    lines += [late + of_them] * (counts["late"] != "0")
     looks = {at: look_of(texts[at]) for at in found.skipped if not frames_of(texts[at])}
     shown = {"unknown": "", "empty": " is empty", "gzip": " looks like gzip; unpack it: gzip -dc NAME >NAME.rtcm"}
     lines += [f" skipped {name_of(at)}{shown.get(looks.get(at), '').replace('NAME', name_of(at))}" for at in found.skipped]
@@ -378,6 +413,10 @@ def auto_text(found: Found, said: Setup, due: Conversion, texts: list[bytes], is
     doppler = sum(isinstance(it, Message) and it.header["station"] == said.station and it.header["number"] == found.msm for it in read)
     at = sum(it in MSMS for it in numbers)
     left_out[at:at] = [f" not in the file: Doppler of {found.msm}, {doppler} messages"] * (found.msm in (1075, 1077) and doppler > 0)
+    has_sbas = [any(40 <= row["satellite"] <= 58 for row in it.satellites) for it in read if isinstance(it, Message)
+                and it.header["number"] == 1004 and it.header["station"] == said.station]
+    at += doppler > 0 and found.msm in (1075, 1077)
+    left_out[at:at] = [f" not in the file: SBAS of 1004, {sum(has_sbas)} messages"] * any(has_sbas)
     lines += left_out
     lines += ["rtcm2rinex: no record came; the file is a header alone"] * (due.epochs == 0)
     return "".join(f"{line}\n" for line in lines)

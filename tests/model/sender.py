@@ -147,41 +147,53 @@ class Sender:
         return self.msm_of(tow, sorted(set(satellites)), sorted(set(signals)), **values)
 
     def msm_of(self, tow: int, satellites: list[int], signals: list[int], **values: int) -> bytes:
-        number = self.rng.choice(self.msms)
-        told_satellites = self.told_satellites.setdefault((number, tow), {})
+        return payload_of(self.message_of(self.rng.choice(self.msms), tow, satellites, signals, **values))
+
+    def message_of(self, number: int, tow: int, satellites: list[int], signals: list[int], **values: int) -> Message:
+        """An MSM of any system, with some of the cells of these satellites and signals."""
+        kind = MSMS[number % 10 - 4]
         told_cells = self.told_cells.setdefault((number, tow), {})
         share = self.rng.choice((0, 0.5, 0.9, 1, 1))
         pairs = [(satellite, signal) for satellite in satellites for signal in signals]
         cell_mask = [int(self.rng.random() < share) for _ in pairs]
-        header = self.header(
-            number,
-            tow=tow,
-            satellite_mask=sum(1 << 64 - satellite for satellite in satellites),
-            signal_mask=sum(1 << 32 - signal for signal in signals),
-            **values,
-        )
-        rows = [self.told(told_satellites, it, MSM_SATELLITE[number]) for it in satellites]
+        masks = {
+            "satellite_mask": sum(1 << 64 - satellite for satellite in satellites),
+            "signal_mask": sum(1 << 32 - signal for signal in signals),
+        }
+        header = self.header(kind, tow=tow, **masks, **values) | {"number": number}
+        rows = [self.satellite_row(number, tow, it) for it in satellites]
         cells = [
-            self.told(told_cells, pair, MSM_CELL[number])
+            self.told(told_cells, pair, MSM_CELL[kind])
             for pair, is_set in paired(pairs, cell_mask)
             if is_set
         ]
-        return payload_of(Message(header, rows, cell_mask, cells))
+        return Message(header, rows, cell_mask, cells)
+
+    def satellite_row(self, number: int, tow: int, satellite: int) -> Fields:
+        """What an MSM has for a satellite."""
+        told = self.told_satellites.setdefault((number, tow), {})
+        return self.told(told, satellite, MSM_SATELLITE[MSMS[number % 10 - 4]])
 
     def observation(self, tow: int) -> bytes:
-        """A 1004 or an MSM, or one of this time again, with a bit changed if it isn't calm."""
+        """A 1004 or an MSM, or one of this time again."""
         sent = self.sent.setdefault(tow, [])
         if sent and self.rng.random() < 0.4:
-            payload = self.rng.choice(sent)
-            if not self.is_calm:
-                width = 8 * len(payload) - 24
-                bit = self.rng.randrange(self.rng.choice((16, 32, width)))
-                changed = int.from_bytes(payload, "big") ^ 1 << bit
-                payload = changed.to_bytes(len(payload), "big")
+            payload = self.again(self.rng.choice(sent))
         else:
-            payload = self.rng.choice((self.legacy, self.msm))(tow)
+            payload = self.any_observation(tow)
         sent.append(payload)
         return payload
+
+    def again(self, payload: bytes) -> bytes:
+        """A payload, with a bit changed if the sender isn't calm."""
+        if self.is_calm:
+            return payload
+        width = 8 * len(payload) - 24
+        bit = self.rng.randrange(self.rng.choice((16, 32, width)))
+        return (int.from_bytes(payload, "big") ^ 1 << bit).to_bytes(len(payload), "big")
+
+    def any_observation(self, tow: int, **values: int) -> bytes:
+        return self.rng.choice((self.legacy, self.msm))(tow, **values)
 
     def station(self) -> bytes:
         """A 1005 or a 1006."""
@@ -199,7 +211,7 @@ class Sender:
         if self.rng.random() < 0.5:
             number = self.rng.choice((1005, 1006))
             return payload_of(Message(self.header(number, station=station)))
-        return self.rng.choice((self.legacy, self.msm))(tow, station=station)
+        return self.any_observation(tow, station=station)
 
     def of_other_kind(self) -> bytes:
         number = self.rng.choice((0, 1003, 1007, 1019, 1033, 1073, 1074, 1075, 1076, 1077, 4095))

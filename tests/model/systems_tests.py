@@ -8,7 +8,6 @@ from __future__ import annotations
 import sys
 from pathlib import Path
 from random import Random
-from typing import Callable
 
 import mixed_cases
 import worked_rows as rows
@@ -24,41 +23,10 @@ from mixed_tables import some_table
 from model import civil, moment
 from msm import HEADER_1012, SATELLITE_1012, message_of, payload_of_msm, read_1012, read_any
 from systems import GLONASS, INDEX, KINDS, LETTERS, SATELLITES, SYSTEMS, TYPES, carrier, number_of
+from tested import NOON, message_of_row, ms, row_named, run_tests, same, test
 from wire import LEGACY_SATELLITE, BitWriter, Fields, Message
 
 ALL = frozenset(TYPES)
-NOON = moment(rows.NOON)
-
-TESTS: list[Callable[[], object]] = []
-
-
-def test(function: Callable[[], object]) -> Callable[[], object]:
-    TESTS.append(function)
-    return function
-
-
-def same(what: object, got: object, due: object) -> None:
-    assert got == due, f"{what}: {got!r} where {due!r} is due"
-
-
-def ms(text: str) -> int:
-    """The time of a reading to the ms."""
-    return moment(text[:19]) + int(text[20:] or 0)
-
-
-def message_of_row(row: rows.Row, extended: int | None = None) -> Message:
-    """The message of a row by its fields alone."""
-    system = next(it for it in SYSTEMS if it.letter == row.name[0])
-    bit = int(row.name[1:]) - system.first_name + 1
-    rates = {"rough_rate": -300, "extended": row.extended if extended is None else extended}
-    header = {"number": number_of(system, row.kind), "station": 1, "tow": clock_of(system, NOON)}
-    satellite = {"rough_ms": row.rough[0], "rough_fraction": row.rough[1], **rates}
-    cell = {"fine_range": row.fine[0], "fine_phase": row.fine[1], "lock": row.lock[0], "cnr": row.cnr, "fine_rate": 100}
-    return message_of(header, {bit: satellite}, {(bit, row.signal): cell})
-
-
-def row_named(name: str) -> rows.Row:
-    return next(row for row in rows.ROWS if row.name == name)
 
 
 @test
@@ -333,18 +301,5 @@ def files_of_one_system() -> None:
     same("the checker of GPS", fault(mixed_cases.file_of_one("G")), None)
 
 
-def main() -> int:
-    failed = 0
-    for function in TESTS:
-        try:
-            function()
-            print(f"ok {function.__name__}")
-        except AssertionError as fault:
-            failed += 1
-            print(f"FAILED {function.__name__}: {fault}")
-    print(f"{len(TESTS) - failed} passed, {failed} failed")
-    return failed > 0
-
-
 if __name__ == "__main__":
-    sys.exit(main())
+    sys.exit(run_tests())

@@ -19,7 +19,7 @@ unfinished() { ls | grep '^file' >>err; rm -f file*; }
 while IFS='|' read -r want words lines <&3; do
     eval "auto -o file.rnx $words"
     unfinished
-    # pins: words_and_name, look_text, looks_like, unpacker, unpacking, unpacking_by, count_line_of, unread_line, unread_gps, unread_glonass_to_sbas, unread_qzss_to_navic, all_unread, station_line, epochs_text, epochs_heard, number_and_station, date_message_text, is_told_later
+    # pins: words_and_name, look_text, looks_like, unpacker, unpacking, unpacking_by, count_line_of, unread_line, unread_gps, unread_glonass_to_sbas, unread_qzss_to_navic, all_unread, station_line, epochs_text, epochs_heard, number_and_station, date_message_text, is_told_later, Parting.apart_ms, is_time_break, parted_frame, parting_text, part_command, to_come_line, is_to_come, from_until, reach_line, msm_words, system_words, held_line, read_of_station, position_line, coordinate_after_blank, coordinate_text, metres_text, point_and_decimals
     expect "refused_$(echo "$words" | tr ' ' _)" "$want" '' "rtcm2rinex: $(printf '%b' "$lines")"
 done 3<<'ROWS'
 1|nowhere|cannot open nowhere
@@ -54,19 +54,30 @@ done 3<<'ROWS'
 3|no_value position|the captures have no GPS observations that are read\n holds GPS 1004, 1 messages\n holds 1005, 1 messages\n holds 1013, 1 messages
 3|--station 7 one|station 7 has no GPS observations that are read\n station 2003 in one: 2 epochs
 3|--station 7 foreign|station 7 has no GPS observations that are read\n station 2003 in foreign: 2 epochs
-3|differ|the captures tell dates that differ; choose one by --near\n 2024-05-17T12:00:00 by 1013 of station 2003 in differ\n 2024-05-10T12:00:00 by 1013 of station 2003 in differ
+3|differ|a capture tells two dates; part it, or choose one by --near\n 2024-05-17T12:00:00 by 1013 of station 2003 in differ\n 2024-05-10T12:00:00 by 1013 of station 2003 in differ\n differ: the second date begins at byte 107; these commands part it there:\nhead -c 107 differ >differ.1\ntail -c +108 differ >differ.2
+3|sessions|a capture tells two dates; part it, or choose one by --near\n 2024-05-17T12:00:00 by 1013 of station 2003 in sessions\n 2024-05-24T12:00:00 by 1013 of station 2003 in sessions\n sessions: the second date begins at byte 107; these commands part it there:\nhead -c 107 sessions >sessions.1\ntail -c +108 sessions >sessions.2
+3|again|a capture tells two dates; part it, or choose one by --near\n 2024-05-17T12:00:00 by 1013 of station 2003 in again\n 2024-05-24T12:00:00 by 1029 of station 2003 in again\n again: the second date begins at byte 107; these commands part it there:\nhead -c 107 again >again.1\ntail -c +108 again >again.2
+3|jumps|a capture tells two dates; part it, or choose one by --near\n 2024-05-17T12:00:00 by 1013 of station 2003 in jumps\n 2024-05-24T12:00:00 by 1013 of station 2003 in jumps\n jumps: the second date begins at byte 153; these commands part it there:\nhead -c 153 jumps >jumps.1\ntail -c +154 jumps >jumps.2
+3|among_others|a capture tells two dates; part it, or choose one by --near\n 2024-05-17T12:00:00 by 1013 of station 2003 in among_others\n 2024-05-10T12:00:00 by 1013 of station 2003 in among_others\n among_others: the second date begins at byte 134; these commands part it there:\nhead -c 134 among_others >among_others.1\ntail -c +135 among_others >among_others.2
+3|minute|a capture tells two dates; part it, or choose one by --near\n 2024-05-17T12:00:00 by 1013 of station 2003 in minute\n 2024-05-24T12:00:00 by 1013 of station 2003 in minute\n minute: the second date begins at byte 107; these commands part it there:\nhead -c 107 minute >minute.1\ntail -c +108 minute >minute.2
+3|over_minute|a capture tells two dates; part it, or choose one by --near\n 2024-05-17T12:00:00 by 1013 of station 2003 in over_minute\n 2024-05-24T12:00:00 by 1013 of station 2003 in over_minute\n over_minute: the second date begins at byte 61; these commands part it there:\nhead -c 61 over_minute >over_minute.1\ntail -c +62 over_minute >over_minute.2
+3|alike|a capture tells two dates; part it, or choose one by --near\n 2024-05-17T12:00:02 by 1013 of station 2003 in alike\n 2024-05-24T12:00:02 by 1013 of station 2003 in alike\n alike: the second date begins at byte 153; these commands part it there:\nhead -c 153 alike >alike.1\ntail -c +154 alike >alike.2
+3|as_great|a capture tells two dates; part it, or choose one by --near\n 2024-05-17T12:00:02 by 1013 of station 2003 in as_great\n 2024-05-24T12:00:02 by 1013 of station 2003 in as_great\n as_great: the second date begins at byte 107; these commands part it there:\nhead -c 107 as_great >as_great.1\ntail -c +108 as_great >as_great.2
+3|two_before|the captures tell dates that differ; choose one by --near\n 2024-05-17T12:00:00 by 1013 of station 2003 in two_before\n 2024-05-24T12:00:00 by 1013 of station 2003 in two_before
 3|weeks|the captures tell dates that differ; choose one by --near\n 2024-05-17T12:00:00 by 1019 in weeks\n 2024-05-10T12:00:00 by 1019 in weeks
 3|last_week one|the captures tell dates that differ; choose one by --near\n 2024-05-10T12:00:02 by 1019 in last_week\n 2024-05-17T12:00:00 by 1013 of station 2003 in one
 3|one half_week|the captures are longer than half a week; convert them in parts\n 2024-05-21T00:00:00 until 2024-05-21T00:00:00 in half_week: 1 epochs\n 2024-05-17T12:00:00 until 2024-05-17T12:00:01 in one: 2 epochs
 3|one over_half_week|the captures tell dates that differ; choose one by --near\n 2024-05-17T12:00:00 by 1013 of station 2003 in one\n 2024-05-21T00:00:01 by 1019 in over_half_week
 3|undated|the captures tell no date; give one, as in --near GPS-TIME-WITHIN-HALF-A-WEEK
-3|passed_over|the captures tell no date; give one, as in --near GPS-TIME-WITHIN-HALF-A-WEEK
+3|passed_over|the captures tell no date; give one, as in --near GPS-TIME-WITHIN-HALF-A-WEEK\n 2024-07-09T12:00:00 by 1013 of station 2003 in passed_over: it is after the time of making
 3|one next_week|the captures are longer than half a week; convert them in parts\n 2024-05-26T23:59:50 until 2024-05-26T23:59:50 in next_week: 1 epochs\n 2024-05-17T12:00:00 until 2024-05-17T12:00:01 in one: 2 epochs
 3|--codes 5X --msm 7 --near 2099-12-31T23:59:59 --skip-empty empty nmea|the captures have no frame of RTCM 3\n empty is empty\n nmea looks like NMEA
 3|same.*|more than 16 captures are of the same time, and 16 links are taken\n same.00\n same.01\n same.02\n same.03\n same.04\n same.05\n same.06\n same.07\n same.08\n same.09\n same.10\n same.11\n same.12\n same.13\n same.14\n same.15\n same.16
 3|here.0 here.2|the station stands at positions that differ; --links-as-given takes them for one\n position 1114104.5999 -4850729.7108 3975521.4643 in here.0\n position 1114204.6000 -4850729.7108 3975521.4643 in here.2
 3|far_and_later here.1 here.0|the station stands at positions that differ; --links-as-given takes them for one\n position 1114204.6000 -4850729.7108 3975521.4643 in far_and_later\n position 1114104.5999 -4850729.7108 3975521.4643 in here.0
 3|here.0 far|the station stands at positions that differ; --links-as-given takes them for one\n position 1114204.6000 -4850729.7108 3975521.4643 in far\n position 1114104.5999 -4850729.7108 3975521.4643 in here.0
+3|moves|the station stands at positions that differ; --links-as-given takes them for one\n position 1114104.5999 -4850729.7108 3975521.4643 in moves\n position 1114204.6000 -4850729.7108 3975521.4643 in moves
+3|here.0 moves|the station stands at positions that differ; --links-as-given takes them for one\n position 1114104.5999 -4850729.7108 3975521.4643 in here.0\n position 1114204.6000 -4850729.7108 3975521.4643 in moves
 3|--msm 4 of_1077|neither a 1004 nor the MSM of --msm has a GPS observation; choose another MSM\n holds 1013, 1 messages\n holds GPS 1077, 2 messages
 3|--near 1980-01-13T00:00:00 one|the first epoch is not dated from 1980-01-13 to 2099-12-31; choose a date by --near
 3|--near 2099-12-31T23:59:59 one|the first epoch is not dated from 1980-01-13 to 2099-12-31; choose a date by --near
@@ -75,6 +86,11 @@ run auto --made 2024-06-01 one; expect form_of_made 2 '' 'rtcm2rinex: bad --made
  --made takes YYYY-MM-DDTHH:MM:SS (UTC), from 1980-01-06T00:00:00 to 2100-12-31T23:59:59'
 # The command that unpacks a capture, pasted, makes one that is converted.
 auto 'one 3.gz'; sed -n "s/.*; unpack it: //p" err >said; . ./said; auto -o file 'one 3.gz.rtcm'; same unpacked_as_said file one.rnx; rm file
+# The commands that part a capture, pasted, make captures of one session each.
+cp sessions 's s'; auto 's s'; grep -E '^(head|tail) ' err >said; . ./said
+same the_first_session 's s.1' one; tail -c 153 sessions >want; same the_second_session 's s.2' want
+auto 's s.1'; same the_first_session_as_said out one.rnx; auto 's s.2'; grep '^ from' err >told
+echo ' from 2024-05-24T12:00:00 until 2024-05-24T12:00:02 by 1013' >want; same the_second_session_as_said told want
 auto -o '' one; expect an_output_without_a_name 2 '' "$(error "a value is required for '--output <FILE>' but none was supplied")"
 auto -o folder one; expect an_output_that_is_a_folder 1 '' 'rtcm2rinex: folder is there, and -f would replace it'
 auto -f -o folder one; expect an_output_that_is_a_folder_and_force 1 '' 'rtcm2rinex: folder is no regular file'
@@ -96,7 +112,7 @@ for option in 'station 4096 4096 is not in 0..=4095' 'window 1 1 is not in 2..=4
 done
 
 # says SPAN COMMAND COUNTS LINE..: standard error of a run that is done, of captures that have a position or not
-no_position=' no-position: no 1005 or 1006 came in time, and the header has zeros'
+no_position=' no-position: the header has zeros, as no 1005 or 1006 came in time, or the first one has zeros'
 position=$no_position
 says() {
     printf ' the same by hand:\n%s\n' "$2"
@@ -123,7 +139,7 @@ two="$noon until 2024-05-17T12:00:01 by"
 one_command="$(command $noon)"
 says "$two 1013" "$one_command one" '3 1 0 0 2 0 0 0 2'
 auto one
-# pins: span_line, time_text, code_names, value_words, convert_words, command_text, no_position_line
+# pins: span_line, span_line_if_any, KnownLines.file_lines, time_text, code_names, value_words, convert_words, command_text, same_by_hand, no_position_line
 leaves one 0 one.rnx want_err; as_said one one.rnx
 cp want_err one.err
 # written NAME: standard error of `auto -o NAME one`
@@ -192,15 +208,21 @@ finds 'one position' "$two 1013" "cat position one | $one_command stdin" '4 1 0 
 # a capture that begins with another station, before the one that tells which station is converted
 finds 'positions one' "$two 1013" "cat positions one | $one_command stdin" '5 1 0 1 3 0 0 0 2' 0 '' ' no-epoch positions'
 # Captures without an epoch, and those of the same time, go by their names.
+# pins: by_bytes
 finds 'positions one position' "$two 1013" "cat position positions one | $one_command stdin" '6 1 0 1 3 1 0 0 2' 0 '' ' no-epoch position\n no-epoch positions'
 position=$no_position
+# The first 1005 has zeros, and the header too, though a position follows.
+# pins: is_zero
+finds zeros "$noon until $noon by 1013" "$one_command zeros" '4 1 0 0 2 0 1 0 1' 0 '' ' conflict 1: later copies differ from the first, which the file has'
 finds 'same.01 same.00' "$two 1013" "$one_command same.00 same.01" '6 2 0 0 4 0 0 0 2' 0 ''
 finds '--links-as-given same.01 same.00' "$two 1013" "$one_command same.01 same.00" '6 2 0 0 4 0 0 0 2' 0 ''
+# pins: step_ms, greatest_step_ms, written_gap_line, more_gaps_line
 finds gaps "$noon until 2024-05-17T12:16:19 by 1013" "$one_command gaps" '28 1 0 0 27 0 0 0 27' 0 '' \
     ' gap 2024-05-17T12:13:57 until 2024-05-17T12:15:18\n gap 2024-05-17T12:12:36 until 2024-05-17T12:13:56\n gap 2024-05-17T12:11:16 until 2024-05-17T12:12:35\n gap 2024-05-17T12:09:57 until 2024-05-17T12:11:15\n gap 2024-05-17T12:08:39 until 2024-05-17T12:09:56\n gap 2024-05-17T12:07:22 until 2024-05-17T12:08:38\n gap 2024-05-17T12:06:06 until 2024-05-17T12:07:21\n gap 2024-05-17T12:04:51 until 2024-05-17T12:06:05\n gap 2024-05-17T12:03:37 until 2024-05-17T12:04:50\n gap 2024-05-17T12:02:24 until 2024-05-17T12:03:36\n more-gaps 2'
 finds slow "$noon until 2024-05-17T12:11:30 by 1013" "$one_command slow" '6 1 0 0 5 0 0 0 5' 0 '' ' gap 2024-05-17T12:06:00 until 2024-05-17T12:11:30'
-# pins: IsNearOf
+# pins: IsNearOf, epochs_line
 finds falls "$noon until 2024-05-17T12:00:02 by 1013" "$(command 2024-05-17T12:00:01) falls" '4 1 0 0 3 0 0 0 3' 0 '' ' time-falls falls'
+# pins: few_phases_line_if
 finds few "$noon until 2024-05-17T12:00:03 by 1013" "$one_command few" '5 1 0 0 4 0 0 0 4' 0 '' \
     ' few-phases 2W: its satellites have more than twice as many in another code'
 # pins: msm_line
@@ -212,8 +234,21 @@ finds '--msm 7 stray' "$noon until $noon by 1013" "$(command $noon 1C,2W ' --msm
 finds of_1077 "$two 1013" "$(command $noon 1C ' --msm 7') of_1077" "$counts" 0 '' ' not in the file: Doppler of 1077, 2 messages'
 finds '--msm 4 --codes 1C of_1077' "$two 1013" "$(command $noon 1C) of_1077" '3 3 0 0 0 0 0 0 0' 3 '' \
     ' not in the file: GPS 1077, 2 messages\nrtcm2rinex: no record came; the file is a header alone'
+# Two copies with two epochs of 1077 are two links, so the 1074 has most epochs on one link, which are three.
+cp of_1077 of_1077_2
+finds 'of_1074 of_1077_2 of_1077' "$noon until 2024-05-17T12:00:02 by 1013" "$(command $noon 1C) of_1077 of_1077_2 of_1074" '10 7 0 0 3 0 0 0 3' 0 '' \
+    ' not in the file: GPS 1077, 4 messages'
+# Captures that follow one another are one link, with four epochs of 1077.
+finds 'of_1077_later of_1074 of_1077' "$noon until 2024-05-17T12:00:03 by 1013" "mkdir joined &&
+cat of_1077 of_1077_later >joined/1.rtcm &&
+$(command $noon 1C ' --msm 7') joined/1.rtcm of_1074" '10 6 0 0 4 0 0 0 4' 0 '' \
+    ' not in the file: GPS 1074, 3 messages\n not in the file: Doppler of 1077, 4 messages'
+rm -r joined
+finds with_others "$two 1013" "$one_command with_others" '7 5 0 0 2 0 0 0 2' 0 one.rnx \
+    ' not in the file: GPS 1003, 1 messages\n not in the file: GLONASS 1012, 2 messages\n not in the file: GLONASS 1087, 1 messages'
 finds '--codes 5X one' "$two 1013" "$(command $noon 5X) one" '3 1 0 0 2 0 0 0 0' 3 '' \
     'rtcm2rinex: no record came; the file is a header alone'
+# pins: skipped_line
 finds '--skip-empty one.gz one empty zip' "$two 1013" "$one_command one" "$counts" 0 one.rnx \
     ' skipped empty is empty\n skipped one.gz looks like gzip; unpack it: gzip -dc one.gz >one.gz.rtcm\n skipped zip looks like zip; unpack it: unzip -p zip >zip.rtcm'
 finds '--skip-empty --station 7 one stations' "$noon until $noon by 1013 of station 2003" \
@@ -229,12 +264,39 @@ finds only_null "$two 1013" "$one_command only_null" '4 2 0 0 2 0 0 0 2' 0 one.r
 finds unfit "$two 1013" "$one_command unfit$(labelled " --antenna-type GPPNULLANTENNAS --antenna-number blank --receiver-number --'it'\\''s'")" '4 2 0 0 2 0 0 0 2' 0 one.rnx \
     ' not-in-label receiver-type has more than 20 characters: of 21 characters here\n not-in-label receiver-version has characters that are no printable ASCII: tab\\x09'
 finds padded "$two 1013" "$one_command padded$(labelled " --antenna-type 'TRM55971.00     NONE' --antenna-number 144 --receiver-type 'TRIMBLE NETR9' --receiver-number 5148K72868")" '4 2 0 0 2 0 0 0 2' 0 one.rnx
+# pins: Sbas.is_sbas, sbas_line
+finds with_sbas "$noon until 2024-05-17T12:00:02 by 1013" "$one_command with_sbas" '4 1 0 0 3 0 0 0 3' 0 '' ' not in the file: SBAS of 1004, 2 messages'
+finds without_sbas "$noon until $noon by 1013" "$one_command without_sbas" '2 1 0 0 1 0 0 0 1' 0 ''
+# pins: next_before, is_stray, stray_line
+finds astray "$noon until 2024-05-19T12:00:00 by 1013" "$one_command astray" '4 1 0 0 3 0 0 0 3' 0 '' \
+    ' gap 2024-05-17T12:00:02 until 2024-05-19T12:00:00\n stray astray 2024-05-19T12:00:00\n time-falls astray'
+finds day_and_ms "$noon until 2024-05-18T12:00:00 by 1013" "$one_command day_and_ms" "$counts" 0 '' ' stray day_and_ms 2024-05-18T12:00:00'
+finds one_day "$noon until 2024-05-18T12:00:00 by 1013" "$one_command one_day" "$counts" 0 ''
+# Two captures have the stray epoch.
+cp astray astray_2
+finds 'astray_2 astray one' "$noon until 2024-05-19T12:00:00 by 1013" "$one_command one astray astray_2" '11 3 0 0 4 4 0 0 4' 0 '' \
+    ' gap 2024-05-17T12:00:02 until 2024-05-19T12:00:00\n stray astray 2024-05-19T12:00:00\n stray astray_2 2024-05-19T12:00:00\n time-falls astray\n time-falls astray_2'
+# Once the link of led_astray has its stray epoch, the other link is read to its end, so the last three messages are late.
+# pins: late_by_stray, late_count_line
+finds '--window 2 led_astray steady' "$noon until 2024-05-19T12:00:00 by 1013" "$(command $noon | sed 's/4096/2/') steady led_astray" '17 2 0 0 11 1 0 3 11' 0 '' \
+    ' gap 2024-05-17T12:00:09 until 2024-05-19T12:00:00\n stray led_astray 2024-05-19T12:00:00\n late 3: observations after 2 newer epochs, and new positions after 2 epochs, are left out, 3 of them on a link with the stray epoch\n time-falls led_astray'
+# A date in a capture without an epoch is its own moment, and counts if no capture with epochs tells a date.
+position=
+# pins: own_moment, own_moment_of_ephemeris
+finds 'undated dated_place' "$noon until $noon by 1013" "cat dated_place undated | $one_command stdin" '3 1 0 0 2 0 0 0 1' 0 '' ' undated undated: dated near the others\n no-epoch dated_place'
+finds 'undated week_place' "$noon until $noon by 1019 (or 2004-10-01, 2044-01-01)" "cat week_place undated | $one_command stdin" '3 1 0 0 2 0 0 0 1' 0 '' ' undated undated: dated near the others\n no-epoch week_place'
+cp week_place a_place # which names the moment of the first epoch too
+finds 'a_place one' "$two 1013" "cat a_place one | $one_command stdin" '5 2 0 0 3 0 0 0 2' 0 '' ' no-epoch a_place'
+finds 'old_place later one' "$noon until 2024-05-17T12:00:03 by 1013" "cat old_place one later | $one_command stdin" '7 2 0 0 5 0 0 0 4' 0 '' ' undated later: dated near the others\n no-epoch old_place'
+position=$no_position
 # What was told last counts by its time, and not by the order of the captures or of their begins.
 # pins: time_or_first, CaptureEquipment.moment_told
 finds 'antenna_2 antenna_1' "$noon until 2024-05-17T12:00:03 by 1013" "cat antenna_1 antenna_2 | $one_command stdin$(labelled ' --antenna-type B')" '8 4 0 0 4 0 0 0 4' 0 ''
 finds 'antenna_3 antenna_1' "$noon until 2024-05-17T12:00:04 by 1013" "cat antenna_1 antenna_3 | $one_command stdin$(labelled ' --antenna-type A --antenna-number 1')" '7 4 0 0 3 0 0 0 3' 0 ''
 finds 'antenna_3 antenna_2 antenna_1' "$noon until 2024-05-17T12:00:04 by 1013" "cat antenna_1 antenna_2 antenna_3 | $one_command stdin$(labelled ' --antenna-type A')" '11 6 0 0 5 0 0 0 5' 0 ''
 finds 'long short' "$noon until 2024-05-17T12:00:09 by 1013" "$one_command long short$(labelled ' --antenna-type NEW --antenna-number 2 --receiver-type R2')" '9 5 0 0 4 0 0 0 4' 0 ''
+# A capture that tells an antenna alone is of the station, and is not left out.
+finds 'equipment_alone one' "$two 1013" "cat equipment_alone one | $one_command stdin$(labelled " --antenna-type 'TRM55971.00     NONE' --antenna-number 144 --receiver-type 'TRIMBLE NETR9' --receiver-version 4.48 --receiver-number 5148")" '5 3 0 0 2 0 0 0 2' 0 one.rnx ' no-epoch equipment_alone'
 auto -o 'a file' equipped; cp err equipped.err; grep '^rtcm2rinex label' err >said
 (PATH=$work/bin:$PATH && . ./said) >labelled_file 2>again_err
 run label --blank labelled_file; leaves the_label_as_said 0 one.rnx /dev/null
@@ -260,9 +322,11 @@ finds '--marker "NEW ROOF" one' "$two 1013" "$(echo "$one_command" | sed "s/--ma
 finds '--marker --x one' "$two 1013" "$(echo "$one_command" | sed "s/--marker 2003/--marker --x/") one" "$counts" 0 ''
 # pins: late_count_line, known_lines
 finds '--window 2 --near 2024-05-17T12:00:00 '"$examples/late.rtcm" "$noon until 2024-05-17T12:00:05 by --near" \
-    "$(command $noon | sed 's/4096/2/') $examples/late.rtcm" '6 0 0 0 5 0 0 1 5' 0 '' " late 1: messages after 2 newer epochs are left out\n time-falls $examples/late.rtcm"
+    "$(command $noon | sed 's/4096/2/') $examples/late.rtcm" '6 0 0 0 5 0 0 1 5' 0 '' " late 1: observations after 2 newer epochs, and new positions after 2 epochs, are left out\n time-falls $examples/late.rtcm"
 finds week_end "2024-05-18T23:59:50 until 2024-05-19T00:00:09 by 1013" "$(command 2024-05-18T23:59:50) week_end" '21 1 0 0 20 0 0 0 20' 0 week_end.rnx
 position=
+# A position that changes once the header is settled is late, though no newer epoch came.
+finds '--window 2 moves_late' "$noon until 2024-05-17T12:00:02 by 1013" "$(command $noon | sed 's/4096/2/') moves_late" '6 1 0 0 4 0 0 1 3' 0 '' " late 1: observations after 2 newer epochs, and new positions after 2 epochs, are left out"
 links='here.0 here.1' # 100 m apart
 conflict=' conflict 1: later copies differ from the first, which the file has'
 # pins: conflicts_line
@@ -306,7 +370,8 @@ before=$(date -u +%Y%m%d%H%M%S); env -u SOURCE_DATE_EPOCH "$program" auto one >o
 shown=$(sed -n '2s/.* \([0-9]*\) \([0-9]*\) UTC .*/\1\2/p' out)
 if [ "$before" -le "$shown" ] && [ "$shown" -le "$after" ]; then right a_present_of_the_clock; else wrong a_present_of_the_clock "$shown"; fi
 # A date counts from the day before on.
-run auto --made 2024-05-15T23:59:59 one; [ "$status" = 3 ] && right a_date_after_the_present || wrong a_date_after_the_present "$status"
+run auto --made 2024-05-15T23:59:59 one; expect a_date_after_the_present 3 '' 'rtcm2rinex: the captures tell no date; give one, as in --near GPS-TIME-WITHIN-HALF-A-WEEK
+ 2024-05-17T12:00:00 by 1013 of station 2003 in one: it is after the time of making'
 run auto --made 2024-05-16T00:00:00 one; [ "$status" = 0 ] && right a_date_of_tomorrow || wrong a_date_of_tomorrow "$status"
 
 position=$no_position

@@ -6,7 +6,7 @@ from pathlib import Path
 sys.path.insert(0, str(Path(__file__).resolve().parents[1] / "model"))
 
 import model  # noqa: E402
-from finding import EPHEMERIS  # noqa: E402
+from finding import EPHEMERIS, TEXT  # noqa: E402
 from station import capture, date, frame_of_row, legacy_of, msm_of, point  # noqa: E402
 from wire import WEEK_MS, frame_of  # noqa: E402
 
@@ -18,11 +18,16 @@ MADE = model.moment("2024-06-01T13:00:00")
 def epochs(*seconds, satellites=(5, 7), **fields):
     """A 1004 of each second of the week."""
     rows = [{**SATELLITE, "satellite": it} for it in satellites]
-    return b"".join(capture(legacy_of(1000 * it % WEEK_MS, rows, **fields)) for it in seconds)
+    return b"".join(capture(legacy_of(round(1000 * it) % WEEK_MS, rows, **fields)) for it in seconds)
 
 
 def week(number, second):
     return frame_of_row(EPHEMERIS, number=1019, satellite=5, week=number, toe=second // 16)
+
+
+def text_date(second, day, station=2003):
+    """A 1029 without a text."""
+    return frame_of_row(TEXT, number=1029, station=station, day=day, second=second)
 
 
 def place(x=0, **fields):
@@ -55,6 +60,12 @@ CAPTURES = {
     "position": place(),
     "positions": place(1_000_001, station=7) + place(),
     "far": place(1_000_001),
+    # a station that moves within a capture, from a 1005 to a 1006; one that sends zeros first; and one that moves by 1 m after three epochs
+    "moves": date(43_200) + place() + epochs(NOON) + capture(point(1006, x=11_142_046_000)) + epochs(NOON + 1),
+    "zeros": date(43_200) + capture(point(1005, x=0, y=0, z=0)) + epochs(NOON) + place(),
+    "moves_late": date(43_200) + place() + epochs(NOON, NOON + 1, NOON + 2) + place(10_000),
+    # a capture of the station without an epoch or a position
+    "equipment_alone": date(43_260) + equipment(1033, b"TRM55971.00     NONE", 0, b"144", b"TRIMBLE NETR9", b"4.48", b"5148"),
     "far_and_later": date(43_220) + place(1_000_001) + epochs(NOON + 20),
     "undated": epochs(NOON),
     "later": epochs(NOON + 2, NOON + 3),
@@ -66,6 +77,19 @@ CAPTURES = {
     # numbers that no message has
     "reserved": b"".join(frame_of((it << 4).to_bytes(2, "big")) for it in range(1080, 1139) if it % 10 in (8, 9, 0)),
     "differ": ONE + date(43_202, 60_440) + week(10, NOON),
+    # sessions of two weeks in one capture: the second one tells its date after two epochs, or before the first, or after a gap
+    # that is longer than a step back in the first session
+    "sessions": ONE + epochs(NOON, NOON + 1) + date(43_201, 60_454) + epochs(NOON + 2),
+    "again": ONE + text_date(43_200, 60_454) + epochs(NOON, NOON + 1),
+    "jumps": date(43_200) + epochs(NOON, NOON + 1, NOON, NOON + 3_600) + date(46_800, 60_454) + epochs(NOON + 3_601),
+    # a step of 60 s, and one that is a ms longer; two steps back that are alike; and one before and one behind the second date
+    "minute": date(43_200) + epochs(NOON, NOON + 60) + date(43_260, 60_454),
+    "over_minute": date(43_200) + epochs(NOON, NOON + 60.001) + date(43_260, 60_454),
+    "alike": date(43_200) + epochs(NOON + 2, NOON + 1, NOON + 2, NOON + 1) + date(43_201, 60_454),
+    "as_great": date(43_200) + epochs(NOON + 2, NOON + 1) + date(43_201, 60_454) + epochs(NOON),
+    # 24 bytes of NMEA and the head of a frame of 1,006 bytes that isn't there, before the second date
+    "among_others": ONE + b"$GPGGA,120000,,,,,0*4A\r\n\xD3\x03\xE8" + date(43_202, 60_440),
+    "two_before": date(43_200) + date(43_200, 60_454) + epochs(NOON),
     "other_week": ONE + week(2313 % 1024, NOON),
     "same_week": ONE + week(2314 % 1024, NOON),
     "weeks": week(2314 % 1024, NOON) + week(2313 % 1024, NOON) + epochs(NOON),
@@ -76,8 +100,25 @@ CAPTURES = {
     "early_week": week(2, 0) + epochs(60),
     "by_other": date(43_200, station=7) + epochs(NOON),
     "passed_over": date(43_200, 60_500) + date(43_200, 40_000) + date(86_401) + week(10, 604_784) + epochs(10),
+    "with_sbas": date(43_200) + epochs(NOON, satellites=(5, 40)) + epochs(NOON + 1, satellites=(58, 5)) + epochs(NOON + 2),
+    "without_sbas": date(43_200) + epochs(NOON, satellites=(39, 5, 59)),
+    # an epoch two days after the others, and one that is a day and a ms after them, or a ms less
+    "astray": date(43_200) + epochs(NOON, NOON + 172_800, NOON + 2),
+    "day_and_ms": date(43_200) + epochs(NOON, NOON + 86_400.001),
+    "one_day": date(43_200) + epochs(NOON, NOON + 86_400),
+    # links of frames of 499 bytes; the second one is read last once its stray epoch came
+    "steady": date(43_200) + epochs(*range(NOON, NOON + 10), satellites=range(1, 32)),
+    "led_astray": date(43_200) + epochs(NOON, NOON + 172_800, *range(NOON + 1, NOON + 4), satellites=range(1, 32)),
+    "dated_place": date(43_260) + place(),
+    "old_place": date(43_200, 60_300) + place(),
+    "week_place": week(2314 % 1024, NOON) + place(),
     "stray": date(43_200) + epochs(NOON) + cell_of(NOON, 1077) + cell_of(NOON, 1074) + cell_of(NOON + 1, 1074),
     "of_1077": date(43_200) + cell_of(NOON, 1077) + cell_of(NOON + 1, 1077),
+    # three epochs of 1074 at the time of these two, and two of 1077 after them
+    "of_1074": date(43_200) + cell_of(NOON, 1074) + cell_of(NOON + 1, 1074) + cell_of(NOON + 2, 1074),
+    "of_1077_later": date(43_202) + cell_of(NOON + 2, 1077) + cell_of(NOON + 3, 1077),
+    # messages of other systems, and one of GPS, that are not converted
+    "with_others": ONE + b"".join(frame_of((it << 4).to_bytes(2, "big")) for it in (1087, 1012, 1003, 1012)),
     "falls": date(43_200) + epochs(NOON + 1, NOON, NOON + 2),
     "few": date(43_200) + epochs(NOON, satellites=(5, 7)) + b"".join(
         capture(legacy_of(1000 * (NOON + it), [{**SATELLITE, "satellite": 5, "l2_range": -(1 << 13), "l2_offset": -(1 << 19)}]))

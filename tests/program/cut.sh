@@ -28,7 +28,7 @@ bad() {
     expect "$name" 2 '' "rtcm2rinex: $line"
 }
 
-usage='cut <--from <T>|--until <T>|--every <SECONDS>> <FILE>'
+usage='cut <--from <T>|--until <T>|--every <SECONDS>|--systems <LETTERS>> <FILE>'
 # bad_step NAME STEP WHY
 bad_step() {
     cut --every "$2" "$file"
@@ -151,6 +151,75 @@ cut --every 2 --until 2024-05-17T12:00:02 "$mixed"; well mixed_before_the_slips 
 sed '19s/12     0 /13     0 /; 31q' "$mixed" >want
 cut --from 2024-05-17T13:00:00 "$mixed"; well mixed_without_records want
 
+# Some systems alone. What is due is the file without the lines of the others, whose records of no satellite are left out too.
+# kept NAME WANT [READ]: the part of some systems, and how many records were read and written; all that were read, without READ
+kept() {
+    printf 'records %s written %s\n' "${3:-$(grep -c '^>' "$2")}" "$(grep -c '^>' "$2")" >told
+    leaves "$1" 0 "$2" told
+}
+# absent NAME LETTER WORD..: a system that the file does not have
+absent() {
+    name=$1 letter=$2
+    shift 2
+    cut "$@"
+    expect "$name" 3 '' "rtcm2rinex: the file has no codes of $letter"
+}
+without_types='/^ .*OBS TYPES/d; /GLONASS/d; /LEAP/d'
+# pins: KeptSystems.keeps, kept_table
+cut --systems E "$mixed"; kept galileo_alone galileo
+cut --systems E stdin <"$mixed"; kept galileo_of_standard_input galileo
+cut --systems EEE "$mixed"; kept a_letter_three_times galileo
+cut --systems E galileo; kept the_only_system galileo
+cut --systems GRECJSI "$mixed"; kept all_systems "$mixed"
+cut --systems ISJCERG "$mixed"; kept all_systems_in_another_order "$mixed"
+sed "1s/M/G/; /^[RECJSI][ 0-9]/d; $without_types; /^>/s/..\$/ 1/" "$mixed" >gps
+cut --systems G "$mixed"; kept gps_alone gps
+run check gps; expect gps_alone_is_checked 0 'valid: 4 epochs, 4 satellite lines' ''
+cut --systems G gps; kept gps_of_gps gps
+cut --systems G "$file"; kept a_file_of_gps "$file"
+# R26 at 0 has no channel, and at 4 s there is no satellite of GLONASS.
+sed '1s/M/R/; /^[GECJSI][ 0-9]/d; /^ .*OBS TYPES/d; /^> .* 4.0000000/,$d; /^>/s/..$/ 1/; /^> .*  0.0000000/s/..$/ 2/' "$mixed" >glonass
+cut --systems R "$mixed"; kept glonass_alone glonass
+run check glonass; expect glonass_alone_is_checked 0 'valid: 3 epochs, 4 satellite lines' ''
+# Of J01 and I14 there is none at 2 s, and J01 alone at 1 s.
+sed "/^[GRECS][ 0-9]/d; $without_types; /^> .* 2.0000000/d; /^>/s/..\$/ 2/; /^> .* 1.0000000/s/..\$/ 1/" "$mixed" >qzss_navic
+cut --systems IJ "$mixed"; kept qzss_and_navic qzss_navic
+sed '1s/M/S/; /^[GRECJI][ 0-9]/d; /^ .*OBS TYPES/d; /GLONASS/d; /LEAP/d; /^> .* [124].0000000/d; /^>/s/..$/ 1/' "$mixed" >want
+cut --systems S "$mixed"; kept a_system_of_one_record want
+# The first record that is left gives the first time, and the header stays alone if none is left.
+sed '32s/ 8$/ 7/; 38d' "$mixed" >late
+sed "1s/M/J/; /^[GRECSI][ 0-9]/d; $without_types; /^> .* [02].0000000/d; /^>/s/..\$/ 1/; s/ 0.0000000     GPS/ 1.0000000     GPS/" late >want
+cut --systems J late; kept a_system_that_begins_later want
+sed '32s/ 8$/ 7/; 39d' "$mixed" >nobody
+sed "31q; 1s/M/S/; /^[GRECJI][ 0-9]/d; $without_types" nobody | sed '/END OF HEADER/q' >want
+cut --systems S nobody; kept a_system_without_a_satellite want
+# Slips: of E11 that of 1 s is shown at 2 s, and of J01, which is missing there, at 4 s.
+sed '17,18d; 20s/91727 /91737 /' galileo >want
+cut --systems E --every 2 "$mixed"; kept galileo_alone_at_2_seconds want 4
+sed "1s/M/J/; /^[GRECSI][ 0-9]/d; $without_types; /^> .* [12].0000000/d; /^J01  36744292/d; /^>/s/..\$/ 1/; s/464 7/46417/" "$mixed" >want
+cut --systems J --every 2 "$mixed"; kept qzss_alone_at_2_seconds want 3
+sed "1s/M/J/; /^[GRECSI][ 0-9]/d; $without_types; /^> .* [012].0000000/d; /^J01  36744[2][59]/d; /^>/s/..\$/ 1/; s/ 0.0000000     GPS/ 4.0000000     GPS/" "$mixed" >want
+cut --systems J --from 2024-05-17T12:00:02 "$mixed"; kept qzss_alone_from_2_seconds_on want 3
+# The label stays.
+"$program" label --agency Somewhere --marker-number 7 "$mixed" >labelled
+"$program" label --agency Somewhere --marker-number 7 galileo >want
+cut --systems E labelled; kept galileo_with_a_label want
+"$program" label --agency Somewhere --marker-number 7 gps >want
+cut --systems G labelled; kept gps_with_a_label want
+# pins: first_absent
+absent gps_of_galileo G --systems G galileo
+absent gps_and_galileo_of_galileo G --systems EG galileo
+absent the_first_in_the_order_of_a_file R --systems ISR galileo
+absent glonass_of_gps R --systems GR "$file"
+absent glonass_of_gps_and_a_step R --systems R --every 30 "$file"
+# pins: are_systems
+for letters in '' X g GX 'G E' G,E GE, ' E' 'G '; do bad "systems_$letters" 'bad --systems' --systems "$letters"; done
+bad until_before_systems 'bad --until' --until noon --systems X
+bad from_after_until_before_systems 'bad --until' --from 2024-05-17T12:00:01 --until "$noon" --systems X
+# A wrong line comes before a system that the file does not have.
+sed 's/^DBHZ/DBHX/' galileo >broken
+cut --systems G broken; expect a_wrong_line_first 3 '' 'line 11: C1 HeaderLine'
+
 bad other_form_of_from 'bad --from' --from 2024-05-17
 bad no_such_day 'bad --until' --until 2024-02-30T00:00:00
 bad both_times 'bad --from' --from noon --until noon
@@ -158,7 +227,7 @@ bad from_after_until 'bad --until' --from 2024-05-17T12:00:01 --until "$noon"
 bad until_in_2101 'bad --until' --until 2101-01-01T00:00:00
 cut "$file"
 expect no_option 2 '' "$(error "the following required arguments were not provided:
-  <--from <T>|--until <T>|--every <SECONDS>>" "$usage")"
+  <--from <T>|--until <T>|--every <SECONDS>|--systems <LETTERS>>" "$usage")"
 # pins: IsStepOrNone
 for step in 0 86401 4294967296; do bad_step a_step_of_$step $step "$step is not in 1..=86400"; done
 # refuses: a first part of a number that is taken for all of it
@@ -172,7 +241,7 @@ for option in from until; do
     for value in " $noon" "$noon " "$noon,x"; do bad "$option=$value" "bad --$option" "--$option" "$value"; done
 done
 # An option that stands twice, and one before another option, which is no value of it.
-for option in 'from T until' 'until T every' 'every SECONDS from'; do
+for option in 'from T until' 'until T every' 'every SECONDS systems' 'systems LETTERS from'; do
     set -- $option
     cut "--$1" 1 "--$1" 1 "$file"
     expect "$1_twice" 2 '' "$(error "the argument '--$1 <$2>' cannot be used multiple times" "$usage")"

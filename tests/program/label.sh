@@ -58,6 +58,64 @@ run cut --from 2030-01-01T00:00:00 labelled; leaves a_part_without_records 0 wan
 "$program" chart "$file" >want
 run chart labelled; leaves a_picture_of_it 0 want /dev/null
 
+# The lines of the records: they stand behind the antenna's place, also without a field. The file has a record each
+# second from 12:00:00 to 12:01:00, and its part each 30 s the first, the middle and the last.
+# behind LINES FILE: the file, with these lines behind those that a label changes
+behind() {
+    number=$(sed -n '4s/.*MARKER NUMBER *$/1/p' "$2")
+    head -n $((9 + ${number:-0})) "$2"
+    cat "$1"
+    sed "1,$((9 + ${number:-0}))d" "$2"
+}
+line '%10s%50s' 1.000 '' INTERVAL >interval
+line '%6s%6s%6s%6s%6s%13s%8s%9s' 2024 5 17 12 1 0.0000000 GPS '' 'TIME OF LAST OBS' >last
+cat interval last >both
+: >none
+for row in 'interval --interval' 'last --last' 'both --interval --last' 'both --last --interval'; do
+    lines=${row%% *}
+    behind "$lines" "$file" >want
+    # pins: interval_line, last_time_line
+    label ${row#* } "$file"; leaves "$(echo $row | tr ' ' _)" 0 want /dev/null
+    label --blank want; leaves "blank_of_$(echo $row | tr ' ' _)" 0 "$file" /dev/null
+    cp want timed
+    label ${row#* } timed; leaves "again_$(echo $row | tr ' ' _)" 0 timed /dev/null
+    behind "$lines" labelled >want
+    all "$file" ${row#* }; leaves "with_fields_$(echo $row | tr ' ' _)" 0 want /dev/null
+    all want; leaves "fields_alone_of_$(echo $row | tr ' ' _)" 0 labelled /dev/null
+done
+behind both labelled >timed
+label --interval --last stdin <timed; behind both "$file" >want; leaves lines_of_standard_input 0 want /dev/null
+
+# A part has those of its own records, and only those that the file has; with fewer than two records none of an
+# interval, and without a record none.
+line '%10s%50s' 30.000 '' INTERVAL >half_minute
+line '%6s%6s%6s%6s%6s%13s%8s%9s' 2024 5 17 12 0 30.0000000 GPS '' 'TIME OF LAST OBS' >half
+line '%6s%6s%6s%6s%6s%13s%8s%9s' 2024 5 17 12 0 0.0000000 GPS '' 'TIME OF LAST OBS' >noon
+for row in '3 half_minute last --every=30' '31 interval half --until=2024-05-17T12:00:31' '1 none noon --until=2024-05-17T12:00:01' '0 none none --from=2030-01-01T00:00:00'; do
+    set -- $row
+    echo "records 61 written $1" >counts
+    "$program" cut "$4" labelled >part 2>err
+    cat "$2" "$3" >lines
+    behind lines part >want
+    run cut "$4" timed; leaves "lines_of_a_part_of_$1" 0 want counts
+    behind interval labelled >one
+    behind "$2" part >want
+    run cut "$4" one; leaves "interval_of_a_part_of_$1" 0 want counts
+    behind last labelled >one
+    behind "$3" part >want
+    run cut "$4" one; leaves "last_of_a_part_of_$1" 0 want counts
+done
+
+# They change no picture, no numbers and no comparison, and `check` refuses them.
+"$program" chart "$file" >want
+run chart timed; leaves a_picture_with_lines 0 want /dev/null
+"$program" quality "$file" >want
+run quality timed; leaves numbers_with_lines 0 want /dev/null
+run compare --labels timed labelled; expect lines_are_not_compared 0 'lost 0 changed 0 explained 0' ''
+run compare "$file" timed; expect new_with_lines 0 'lost 0 changed 0 explained 0' ''
+behind both "$file" >plain_lines
+run check plain_lines; expect lines_in_a_file_of_check 3 'line 10: C1 HeaderLine' ''
+
 # A told height stays; the label may have none.
 sed "s|^$zeros|        0.0001        0.0000        0.0000                  ANTENNA: DELTA H/E/N|" "$file" >told
 # pins: answer_status
@@ -85,6 +143,27 @@ refused() {
 }
 sed '20s/^/x/' "$file" >wrong;             refused '20: C2 Columns' wrong
 sed '20s/^/x/' labelled >wrong;            refused '20: C2 Columns' wrong
+# A line that is not that of the records, the first one of two, the second one, in another order, twice, cut, and a fault
+# behind right lines. A line that no part of the records gives is wrong too.
+sed '12s/ 1    0.0/ 2    0.0/' timed >wrong;                refused '12: C1 HeaderLine' wrong
+sed '11s/ 1.000/ 2.000/; 12s/ 1    0.0/ 2    0.0/' timed >wrong; refused '11: C1 HeaderLine' wrong
+cat last interval >lines; behind lines labelled >wrong;    refused '12: C1 HeaderLine' wrong
+cat interval interval >lines; behind lines labelled >wrong; refused '12: C1 HeaderLine' wrong
+cat last last >lines; behind lines "$file" >wrong;         refused '11: C1 HeaderLine' wrong
+sed '10s/INTERVAL/INTERVAl/' plain_lines >wrong;           refused '10: C1 HeaderLine' wrong
+sed '10s/^  /1 /' plain_lines >wrong;                      refused '10: C1 HeaderLine' wrong
+sed '11s/GPS/GLO/' plain_lines >wrong;                     refused '11: C1 HeaderLine' wrong
+sed '13s/^G/R/' timed >wrong;                               refused '13: C1 HeaderLine' wrong
+sed '31s/^/x/' timed >wrong;                                refused '31: C2 Columns' wrong
+sed '11s/ 1.000/ 2.000/; 31s/^/x/' timed >wrong;            refused '31: C2 Columns' wrong
+sed '5s/^G/H/' timed >wrong;                                refused '5: C1 HeaderLine' wrong
+behind interval "$file" | sed '1,/END OF HEADER/!d' >wrong; refused '10: C1 HeaderLine' wrong
+for row in '11 810' '11 890' '12 891' '12 971' '13 972' '13 1000'; do
+    head -c "${row#* }" timed >wrong;       refused "${row% *}: C5 Truncated" wrong
+done
+behind half "$file" >wrong
+run compare wrong "$file"; expect old_with_a_wrong_line 3 '' 'rtcm2rinex: wrong: line 10: C1 HeaderLine'
+run compare "$file" wrong; expect new_with_a_wrong_line 3 '' 'rtcm2rinex: wrong: line 10: C1 HeaderLine'
 sed '2s/^r/R/' labelled >wrong;            refused '2: C1 HeaderLine' wrong
 sed '5s/^G/H/' labelled >wrong;            refused '5: C1 HeaderLine' wrong
 sed '7s/^4/ 4/; 7s/ 9.20 /9.20 /' labelled >wrong; refused '7: C1 HeaderLine' wrong
@@ -118,6 +197,26 @@ label --blank want; leaves galileo_blank_again 0 galileo /dev/null
 { sed 10q labelled_mixed; sed '1,9d; 41,$d' "$mixed"; } >want
 echo 'records 4 written 1' >counts
 run cut --until 2024-05-17T12:00:01 labelled_mixed; leaves a_part_of_mixed 0 want counts
+# The records of the other file are at the seconds 0, 1, 2 and 4: two steps of 1 s, and one of 2 s.
+line '%6s%6s%6s%6s%6s%13s%8s%9s' 2024 5 17 12 0 4.0000000 GPS '' 'TIME OF LAST OBS' >last_mixed
+cat interval last_mixed >both_mixed
+behind both_mixed labelled_mixed >want
+all "$mixed" --interval --last; leaves lines_of_mixed 0 want /dev/null
+cp want told_mixed
+label --blank told_mixed; leaves mixed_blank_of_lines 0 "$mixed" /dev/null
+line '%6s%6s%6s%6s%6s%13s%8s%9s' 2024 5 17 12 0 0.0000000 GPS '' 'TIME OF LAST OBS' >lines
+"$program" cut --until 2024-05-17T12:00:01 labelled_mixed >part 2>err
+behind lines part >want
+run cut --until 2024-05-17T12:00:01 told_mixed; leaves lines_of_a_part_of_mixed 0 want counts
+# Some systems alone have those of their own records, which are at the seconds 0, 1 and 4 of QZSS, and at 0 of SBAS.
+for row in 'E both_mixed 4' 'J both_mixed 3' 'S noon 1'; do
+    set -- $row
+    echo "records $3 written $3" >counts
+    "$program" cut --systems "$1" labelled_mixed >part 2>err
+    behind "$2" part >want
+    run cut --systems "$1" told_mixed; leaves "lines_of_system_$1" 0 want counts
+done
+behind last labelled_mixed >wrong;               refused '11: C1 HeaderLine' wrong
 for command in chart quality; do
     run $command labelled_mixed; expect "${command}_of_mixed" 3 '' 'rtcm2rinex: other systems than GPS'
 done
@@ -170,6 +269,8 @@ printf 'error: the following required arguments were not provided:\n' >want
 same no_field first want
 label --blank --agency Survey "$file"
 expect blank_and_a_field 2 '' "$(error "the argument '--blank' cannot be used with '--agency <TEXT>'" "$usage")"
+label --blank --interval "$file"
+expect blank_and_a_line 2 '' "$(error "the argument '--blank' cannot be used with '--interval'" "$usage")"
 label --agency Survey --agency Survey "$file"
 expect an_option_twice 2 '' "$(error "the argument '--agency <TEXT>' cannot be used multiple times" "$usage")"
 

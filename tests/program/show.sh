@@ -54,7 +54,7 @@ bad_hex form_feed_between_bytes 'd3\f000047eA4b'
 bad_hex vertical_tab_between_digits 'd3000047eA4\vb'
 run show empty; expect empty_input 0 '' ''
 
-# Of all MSM those of GPS of one kind are shown, MSM4 if none is given. The frames were put together from the field tables of RTCM
+# Of all MSM those of one kind are shown, and 1074 alone if none is given. The frames were put together from the field tables of RTCM
 # 10403.3: a 1074, a 1074 without its last byte, a 1075 whose cell mask has the rows 10, 11 and 01, a 1076 of two satellites and no
 # signal, a 1077, a 1077 without its last byte, one past the week, one of 65 cells, a 1087, a 1004 and a 1005.
 cat >kinds.hex <<'HEX'
@@ -72,8 +72,7 @@ D300183EC7D3714BE800101498968000000151AD30190000002C60D0FE53
 D300133ED7D30202980EDEEF34B4BD62AC0941986F33360B98
 HEX
 python3 -c 'import sys; sys.stdout.buffer.write(bytes.fromhex(sys.stdin.read()))' <kinds.hex >kinds.rtcm
-others="1087 other
-1004 station 2003 tow 475200000 satellites 1
+others="1004 station 2003 tow 475200000 satellites 1
 $arp"
 of_4="1074 station 2003 tow 475200000 satellites 1 signals 1 cells 1
 refused M3 1074
@@ -83,6 +82,7 @@ refused M3 1074
 1077 other
 1077 other
 1077 other
+1087 other
 $others"
 of_5="1074 other
 1074 other
@@ -92,6 +92,7 @@ of_5="1074 other
 1077 other
 1077 other
 1077 other
+1087 other
 $others"
 of_6="1074 other
 1074 other
@@ -101,6 +102,7 @@ of_6="1074 other
 1077 other
 1077 other
 1077 other
+1087 other
 $others"
 of_7="1074 other
 1074 other
@@ -110,6 +112,7 @@ of_7="1074 other
 refused M3 1077
 refused M4 1077
 refused M5 1077
+1087 station 2003 clock 475200000 satellites 1 signals 1 cells 1
 $others"
 run show kinds.rtcm;             expect no_msm 0 "$of_4" ''
 # pins: msm_text
@@ -122,6 +125,90 @@ run show --msm 7 kinds.rtcm;     expect msm_7 0 "$of_7" ''
 run show --hex kinds.hex;        expect hex_and_no_msm 0 "$of_4" ''
 run show --msm 5 --hex kinds.hex; expect hex_and_msm_5 0 "$of_5" ''
 run show --hex --msm 007 stdin <kinds.hex; expect hex_and_msm_7 0 "$of_7" ''
+
+# The MSM of all systems are shown, by kinds for each. The frames were put together in the same way: an MSM7 of each system, the
+# last clock that GLONASS has, GLONASS on no day and past a day, BeiDou past the week, a 1087 without its last byte, a 1097 of 65
+# cells, and an MSM4 of GLONASS, Galileo and BeiDou. GLONASS has 14:59:42 of day 5, BeiDou 14 s less than GPS.
+cat >systems.hex <<'HEX'
+D300244357D3714BE80000000400000000000000200000004000000000000000000000000000007644E2
+D3002443F7D3ACDECCC000000020000000000000200000004000000000000000000000000000004AEEE8
+D300334497D3714BE8000000001800000000000020000000600000000000000000000000000000000000000000000000000000000000433FC4
+D300244537D3714BE80000000800000000000000200000004000000000000000000000000000008A6A71
+D3003D45D7D3714BE8000000500000000000000020010000580000000000000000000000000000000000000000000000000000000000000000000000
+00000000190F0A
+D3002E4677D3714B0D40000002000000000000002002000060000000000000000000000000000000000000000000000000EE38C4
+D300244717D3714BE80000002000000000000000000002004000000000000000000000000000001F03DE
+D3001A43FFFFD4997F9C00000000008000000000000000000000000000BFD5E0
+D3002443F7D3E00000000000002000000000000020000000400000000000000000000000000000FDCFF2
+D3002443F7D314997FA000000020000000000000200000004000000000000000000000000000007BD38F
+D300244677D3903210000000020000000000000020000000400000000000000000000000000000E8B3C4
+D3002343F7D3ACDECCC0000000200000000000002000000040000000000000000000000000003F0BD0
+D300584497D3714BE80000007FFC0000000000003E000000000000000000000000000000000000000000000000000000000000000000000000000000
+00000000000000000000000000000000000000000000000000000000000000B1D370
+D3001E43C7D3ACDECCC0000000200000000000002000000040000000000000000051B863
+D3001E4467D3714BE8000000001000000000000020000000400000000000000000954884
+D3001E4647D3714B0D400000020000000000000020000000400000000000000000D4873F
+HEX
+all_of_7='1077 station 2003 tow 475200000 satellites 1 signals 1 cells 1
+1087 station 2003 clock 725070640 satellites 1 signals 1 cells 1
+1097 station 2003 tow 475200000 satellites 2 signals 1 cells 2
+1107 station 2003 tow 475200000 satellites 1 signals 1 cells 1
+1117 station 2003 tow 475200000 satellites 2 signals 2 cells 3
+1127 station 2003 clock 475186000 satellites 1 signals 2 cells 2
+1137 station 2003 tow 475200000 satellites 1 signals 1 cells 1
+1087 station 4095 clock 891707367 satellites 1 signals 0 cells 0
+refused M4 1087
+refused M4 1087
+refused M4 1127
+refused M3 1087
+refused M5 1097
+1084 other
+1094 other
+1124 other'
+all_of_4='1077 other
+1087 other
+1097 other
+1107 other
+1117 other
+1127 other
+1137 other
+1087 other
+1087 other
+1087 other
+1127 other
+1087 other
+1097 other
+1084 station 2003 clock 725070640 satellites 1 signals 1 cells 1
+1094 station 2003 tow 475200000 satellites 1 signals 1 cells 1
+1124 station 2003 clock 475186000 satellites 1 signals 1 cells 1'
+all_other=$(echo "$all_of_4" | sed 's/ .*/ other/')
+# pins: clock_word, ShowWords.messages_of
+run show --hex --msm 7 systems.hex; expect msm_7_of_all_systems 0 "$all_of_7" ''
+run show --hex --msm 7,E4,C4 systems.hex; expect msm_7_with_exceptions 0 '1077 station 2003 tow 475200000 satellites 1 signals 1 cells 1
+1087 station 2003 clock 725070640 satellites 1 signals 1 cells 1
+1097 other
+1107 station 2003 tow 475200000 satellites 1 signals 1 cells 1
+1117 station 2003 tow 475200000 satellites 2 signals 2 cells 3
+1127 other
+1137 station 2003 tow 475200000 satellites 1 signals 1 cells 1
+1087 station 4095 clock 891707367 satellites 1 signals 0 cells 0
+refused M4 1087
+refused M4 1087
+1127 other
+refused M3 1087
+1097 other
+1084 other
+1094 station 2003 tow 475200000 satellites 1 signals 1 cells 1
+1124 station 2003 clock 475186000 satellites 1 signals 1 cells 1' ''
+run show --msm=7,G4,R4,E4,C4,J4,S4,I4 --hex systems.hex; expect all_systems_are_exceptions 0 "$all_of_4" ''
+run show --hex --msm 4 systems.hex; expect msm_4_of_all_systems 0 "$all_of_4" ''
+run show --hex systems.hex; expect no_msm_and_other_systems 0 "$all_other" ''
+run show --hex --msm 5 systems.hex; expect another_msm_than_these 0 "$all_other" ''
+# A file may have the name of a list.
+cp systems.hex 7,E4
+run show --hex 7,E4; expect a_list_as_the_name_of_a_file 0 "$all_other" ''
+run show --hex --msm 7 7,E4; expect msm_7_and_a_list_as_the_name_of_a_file 0 "$all_of_7" ''
+run show --hex --msm 8 7,E4; [ "$status" -eq 2 ] && right no_kind_and_such_a_name || wrong no_kind_and_such_a_name "status $status"
 # pins: SHOW_LIMIT
 run show longest; expect longest_input 0 '' ''
 # pins: SHOW_LIMIT
@@ -175,7 +262,7 @@ bad_words a_hundred_files "$(error "unexpected argument '2' found" "$usage")" sh
 for value in 3 8; do
     bad_words "msm_of_$value" "$(error "invalid value '$value' for '--msm <N>': $value is not in 4..=7")" show --msm $value kinds.rtcm
 done
-for value in 7x 4,7; do
+for value in 7x 4,7 7,E4,E5 7,X4 E4,7; do
     bad_words "msm_of_$value" "$(error "invalid value '$value' for '--msm <N>': invalid digit found in string")" show --msm $value a
 done
 bad_words msm_twice "$(error "the argument '--msm <N>' cannot be used multiple times" "$usage")" show --msm 7 --msm 7 kinds.rtcm

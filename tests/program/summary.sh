@@ -30,6 +30,14 @@ done
 run $(cat next)
 same the_next_command out "$root/examples/base.rnx"
 
+# Of a capture that tells its date the command is pasted as it stands: the file has another time of making than the example, and
+# another marker.
+mkdir bin && ln -s "$program" bin/rtcm2rinex
+"$program" summary "$root/examples/dated.rtcm" | sed -n 's/^ next //p' >said
+(PATH=$work/bin:$PATH && . ./said) 2>err | sed '/PGM \/ RUN BY/d; /MARKER NAME/d' >out
+sed '/PGM \/ RUN BY/d; /MARKER NAME/d' "$root/examples/session.rnx" >want
+same the_next_command_of_a_capture_with_a_date out want
+
 # 100,000,000 bytes take no more memory than none.
 (ulimit -v 60000; head -c 100000000 /dev/zero | "$program" summary stdin) >out 2>err; status=$?
 expect summary_of_a_long_input 0 "$(nothing 100000000 unknown)" ''

@@ -273,8 +273,10 @@ class Auto(Case):
         done = rtcm2rinex.auto("examples/late.rtcm", near=NOON, window=2)
         self.assertEqual(done.report.late, (LateMessage(1, 1004, second(2)),))
         self.assertEqual(done.found.dated_by, "--near")
-        self.assertEqual(done.found.notes, ("no-position: no 1005 or 1006 came in time, and the header has zeros",
-            "late 1: messages after 2 newer epochs are left out", "time-falls examples/late.rtcm"))
+        self.assertEqual(done.found.notes, (
+            "no-position: the header has zeros, as no 1005 or 1006 came in time, or the first one has zeros",
+            "late 1: observations after 2 newer epochs, and new positions after 2 epochs, are left out",
+            "time-falls examples/late.rtcm"))
         short = rtcm2rinex.auto("examples/late.rtcm", near=NOON, window=2, report=False).report
         self.assertEqual((short.late, short.counts), ((), done.report.counts))
 

@@ -198,6 +198,21 @@ class Labels(Case):
         self.assertEqual(Path("plain.rnx").read_bytes(), SLIP.read_bytes())
         self.assertEqual(plain.header().made, datetime(2024, 5, 17, 13))
 
+    def test_lines_of_the_records(self) -> None:
+        """The file has a record each second from 12:00:00 to 12:01:00."""
+        done = rtcm2rinex.label(SLIP, interval=True, last=True)
+        lines = done.text.decode().splitlines()
+        self.assertEqual(lines[9:11], [f"{'1.000':>10}{'':50}INTERVAL            ",
+            f"{2024:6}{5:6}{17:6}{12:6}{1:6}{'0.0000000':>13}{'GPS':>8}{'':9}TIME OF LAST OBS    "])
+        head = done.header()
+        self.assertEqual((head.interval, head.last), (1.0, datetime(2024, 5, 17, 12, 1)))
+        part = rtcm2rinex.cut(done.open(), every=30, output="part.rnx")
+        self.assertEqual((part.header().interval, part.header().last), (30.0, datetime(2024, 5, 17, 12, 1)))
+        one = rtcm2rinex.label(SLIP, last=True).header()
+        self.assertEqual((one.interval, one.last), (None, head.last))
+        rtcm2rinex.label(done.open(), blank=True, output="plain.rnx")
+        self.assertEqual(Path("plain.rnx").read_bytes(), SLIP.read_bytes())
+
     def test_refused_fields(self) -> None:
         for options, line in (({"run_by": "x" * 21}, "bad --run-by"), ({"delta_north": 10_000.0}, "bad --delta-north")):
             with self.assertRaises(rtcm2rinex.WordsError) as raised:

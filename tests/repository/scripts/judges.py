@@ -15,10 +15,10 @@ sys.path[:1] = [str(TESTS / name) for name in ("system/held", "system/streams", 
 sys.argv = ["judges", tempfile.gettempdir(), "/bin/true"]
 
 import held  # noqa: E402
-import hostile  # noqa: E402
 import properties  # noqa: E402
 import refusals  # noqa: E402
 import scenes  # noqa: E402
+import workers  # noqa: E402
 from program import Ended  # noqa: E402
 
 
@@ -114,10 +114,10 @@ def hostiles():
     entry = properties.Property(properties.as_modelled, 50)
 
     def told(captures, checked, failed):
-        tally = hostile.Tally()
+        tally = workers.Tally()
         for number in range(captures):
             faults = {entry.name: "why"} if number < failed else {}
-            tally.add(hostile.Looked(number, "scene", [entry.name] * (number < checked), faults))
+            tally.add(workers.Looked(number, "scene", [entry.name] * (number < checked), faults))
         with redirect_stdout(io.StringIO()):
             return tally.told(entry, entry.floor) is not True
 

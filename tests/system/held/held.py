@@ -35,11 +35,11 @@ LINK = 62_000
 GATHERED = 2 * 65_536
 # What a conversion of one link holds besides: the manual says some 100 kB.
 LEAST_BESIDE, MOST_BESIDE = 98_000, 103_000
-# What a summary of one station holds: some 73 kB. `auto` holds as much as `convert`, and before that a survey of each capture, with
+# What a summary of one station holds: some 83 kB. `auto` holds as much as `convert`, and before that a survey of each capture, with
 # the stations and one kind of messages.
-LEAST_OF_SUMMARY, MOST_OF_SUMMARY = 69_000, 74_000
+LEAST_OF_SUMMARY, MOST_OF_SUMMARY = 79_000, 84_000
 LEAST_OF_AUTO, MOST_OF_AUTO = -10_000, 2_000
-CAPTURE = 900 + 9_000 + 8_500
+CAPTURE = 900 + 9_200 + 8_500
 
 # The sizes of an input: a vector that doubles has just the room that it needs. A file of as many
 # records has a picture of 1,440 columns, of 11 seconds or of 22.
@@ -396,6 +396,7 @@ def inputs_held_once(runs: Runs, tests: Tests) -> None:
         ("cut --every 1", "file", MIB),
         ("cut --every 30", "file", MIB),
         ("cut --from 2024-06-17T00:00:00", "file", MIB),
+        ("cut --systems G", "file", 2 * MIB),
         ("chart", "file", MIB),
         ("chart --text", "file", MIB),
         ("quality", "file", MIB + QUALITY),

@@ -288,7 +288,7 @@ def scenes() -> Iterator[Scene]:
     yield of_file("preambles")
     # Of more text than is gathered, as of `slips`, each record takes memory.
     # refuses: a `cut` that writes something else if memory is refused
-    for words in ("--every 30 examples/slip.rnx", "--from 2024-05-17T12:00:30 examples/slip.rnx", "--every 30 slips"):
+    for words in ("--every 30 examples/slip.rnx", "--from 2024-05-17T12:00:30 examples/slip.rnx", "--every 30 slips", "--systems G slips"):
         yield Scene(["cut", *words.split()])
     for words in ("--observer me examples/slip.rnx", "--blank slips"):
         yield Scene(["label", *words.split()])
@@ -344,7 +344,7 @@ def scenes() -> Iterator[Scene]:
 # refuses: a command that ends by a signal in little address space
 def scenes_of_space() -> Iterator[Scene]:
     """What holds a whole file."""
-    for words in ("check", "chart", "chart --text", "cut --every 30", "quality", "label --blank"):
+    for words in ("check", "chart", "chart --text", "cut --every 30", "cut --systems G", "quality", "label --blank"):
         yield Scene([*words.split(), "long"])
     yield Scene(["compare", "long", "examples/slip.rnx"])
 
