@@ -1,16 +1,20 @@
 """How the observations of two RINEX files differ, each of which may have epochs, satellites and types that the other lacks."""
 
 
+SYSTEMS = "GRECJSI"
+NOWHERE = 10**6  # the column of a type that a file lacks
+
+
 def types_of(file):
-    """The columns of the values of each type of GPS; the file is read up to its first record."""
-    types, system = [], ""
+    """Of each system the columns of the values of each type; the file is read up to its first record."""
+    types, system = {}, ""
     for line in file:
         if line[60:].startswith("SYS / # / OBS TYPES"):
             system = line[0].strip() or system  # blank where a line goes on
-            types += line[6:60].split() if system == "G" else []
+            types.setdefault(system, []).extend(line[6:60].split())
         if line[60:].startswith("END OF HEADER"):
             break
-    return {kind: 3 + 16 * at for at, kind in enumerate(types)}
+    return {system: {kind: 3 + 16 * at for at, kind in enumerate(its)} for system, its in types.items()}
 
 
 def records_of(file):
@@ -21,10 +25,15 @@ def records_of(file):
             if moment:
                 yield moment, lines
             moment, lines = tuple(map(float, line[1:29].split())), {}
-        elif line.startswith("G"):
+        elif line[0] in SYSTEMS:
             lines[line[:3]] = line.rstrip("\n")
     if moment:
         yield moment, lines
+
+
+def both(first, second):
+    """The types of a system in two files, each with its columns in both."""
+    return [(kind, first.get(kind, NOWHERE), second.get(kind, NOWHERE)) for kind in {**first, **second}]
 
 
 class Difference:
@@ -39,7 +48,7 @@ class Difference:
         self.marks = 0
         with open(ours, encoding="ascii") as first, open(theirs, encoding="ascii") as second:
             places = types_of(first), types_of(second)
-            self.places = [(kind, places[0].get(kind, 10**6), places[1].get(kind, 10**6)) for kind in {**places[0], **places[1]}]
+            self.places = {system: both(*(it.get(system, {}) for it in places)) for system in SYSTEMS}
             self.merge(records_of(first), records_of(second))
 
     def merge(self, first, second):
@@ -58,7 +67,8 @@ class Difference:
 
     def compare(self, ours, theirs):
         """Takes the lines of one satellite."""
-        for kind, first, second in self.places:
+        system = (ours or theirs)[0]
+        for kind, first, second in self.places[system]:
             one, other = ours[first : first + 14], theirs[second : second + 14]
             here, there = "." in one, "." in other
             self.values[0] += here
@@ -68,7 +78,7 @@ class Difference:
                 self.apart[min(apart, 2)] += 1
                 self.marks += (ours[first + 14 : first + 15] or " ") != (theirs[second + 14 : second + 15] or " ")
                 if apart > 1:
-                    self.types_apart.add(kind)
+                    self.types_apart.add(kind if system == "G" else f"{system} {kind}")
 
     def __str__(self):
         told = [f"{theirs} {name}" + (f" (ours {ours})" if ours != theirs else "") for name, (ours, theirs) in

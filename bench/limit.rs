@@ -1,5 +1,6 @@
 // A converter without proofs and tuned by hand. It does what `rtcm2rinex convert`
-// does for one link of 1004 and 1074, and so marks how fast that can be.
+// does for one link, and so marks how fast that can be. Its tables of other systems
+// than GPS are its own, and nothing but a comparison of files stands behind them.
 // bench/peers builds it and runs it with --splits.
 //   rustc --edition 2021 -C opt-level=3 limit.rs -o limit
 //
@@ -8,16 +9,18 @@
 //   limit frames FILE              find the frames, count them
 //   limit decode FILE              frames, and every field of 1004 and 1074 read
 //   limit convert --station N --near T --made T --marker NAME --codes LIST
-//                 [--window N] [--splits] FILE
+//                 [--window N] [--msm KINDS] [--channels LIST]
+//                 [--leap-seconds N] [--splits] FILE
 //                                the RINEX file on standard output, the report and
 //                                the nine counts on standard error; with --splits
 //                                also what comes of epochs in several messages of
 //                                one number, and of phases that roll over
 //
 // What it does as `convert` does: leftmost frames, fields, faults M1 to M5,
-// dates, cells and their exact rounding, window, late, repeat, conflict, slips,
-// header, records, report. What it leaves out: several links, MSM5 to MSM7,
-// memory that is refused. A mean speed is printed on standard error with --speed.
+// clocks and dates, channels of GLONASS, cells and their exact rounding, window,
+// late, repeat, conflict, slips, header, records, report. What it leaves out:
+// several links, words that are wrong, memory that is refused. A mean speed is
+// printed on standard error with --speed.
 
 use std::fs::File;
 use std::io::{Read, Write};
@@ -162,39 +165,108 @@ fn geti(b: &Body, bit: usize, w: u32) -> i64 {
     ((x << (bit & 7)) as i64) >> (64 - w)
 }
 
-// ------------------------------------------------------------------- cells
+// ----------------------------------------------------------------- systems
 
-const NAMES: [&[u8; 2]; 16] = [
-    b"1C", b"1P", b"1W", b"2C", b"2P", b"2W", b"2S", b"2L", b"2X", b"5I", b"5Q", b"5X", b"1S", b"1L", b"1X", b"2D",
-];
-// signal identifier to code + 1
-const fn signals() -> [u8; 33] {
-    let ids = [2, 3, 4, 8, 9, 10, 15, 16, 17, 22, 23, 24, 30, 31, 32];
-    let mut t = [0u8; 33];
+struct System {
+    letter: u8,
+    before: u64, // the number before that of its MSM1
+    sats: usize, // so many bits of a satellite mask name one
+    first: usize, // the number in the name of the first
+    names: &'static [&'static [u8; 2]],
+    signal: [u8; 33], // signal identifier to code + 1
+    known: u64, // a signal mask of all identifiers of the table
+    freq: [u64; 16], // of GLONASS those of channel 0
+}
+
+const fn carrier(letter: u8, band: u8) -> u64 {
+    match (letter, band) {
+        (b'R', b'1') => 1_602_000_000,
+        (b'R', _) => 1_246_000_000,
+        (b'C', b'2') => 1_561_098_000,
+        (b'C', b'6') => 1_268_520_000,
+        (_, b'1') => 1_575_420_000,
+        (_, b'2') => 1_227_600_000,
+        (_, b'5') => 1_176_450_000,
+        (_, b'6') => 1_278_750_000,
+        (_, b'7') => 1_207_140_000,
+        _ => 1_191_795_000,
+    }
+}
+
+// what a channel adds
+const STEP: [i64; 4] = [562_500, 562_500, 437_500, 437_500];
+
+// the identifiers stand in the order of the names; 0 is none
+const fn system(letter: u8, before: u64, sats: usize, first: usize, names: &'static [&'static [u8; 2]], ids: &[usize]) -> System {
+    let (mut signal, mut known, mut freq) = ([0; 33], 0, [1; 16]);
     let mut k = 0;
-    while k < 15 {
-        t[ids[k]] = k as u8 + 1;
+    while k < names.len() {
+        if ids[k] != 0 {
+            signal[ids[k]] = k as u8 + 1;
+            known |= 1 << (32 - ids[k]);
+        }
+        freq[k] = carrier(letter, names[k][0]);
+        k += 1;
+    }
+    System { letter, before, sats, first, names, signal, known, freq }
+}
+
+static SYSTEMS: [System; 7] = [
+    system(
+        b'G', 1070, 32, 1,
+        &[b"1C", b"1P", b"1W", b"2C", b"2P", b"2W", b"2S", b"2L", b"2X", b"5I", b"5Q", b"5X", b"1S", b"1L", b"1X", b"2D"],
+        &[2, 3, 4, 8, 9, 10, 15, 16, 17, 22, 23, 24, 30, 31, 32, 0],
+    ),
+    system(b'R', 1080, 27, 1, &[b"1C", b"1P", b"2C", b"2P"], &[2, 3, 8, 9]),
+    system(
+        b'E', 1090, 36, 1,
+        &[b"1C", b"1B", b"1X", b"6C", b"6B", b"6X", b"7I", b"7Q", b"7X", b"8I", b"8Q", b"8X", b"5I", b"5Q", b"5X"],
+        &[2, 4, 5, 8, 10, 11, 14, 15, 16, 18, 19, 20, 22, 23, 24],
+    ),
+    system(
+        b'C', 1120, 63, 1,
+        &[b"2I", b"2Q", b"2X", b"6I", b"6Q", b"6X", b"7I", b"7Q", b"7X", b"5D", b"5P", b"5X", b"7D", b"1D", b"1P", b"1X"],
+        &[2, 3, 4, 8, 9, 10, 14, 15, 16, 22, 23, 24, 25, 30, 31, 32],
+    ),
+    system(
+        b'J', 1110, 10, 1,
+        &[b"1C", b"6S", b"6L", b"6X", b"2S", b"2L", b"2X", b"5I", b"5Q", b"5X", b"1S", b"1L", b"1X"],
+        &[2, 9, 10, 11, 15, 16, 17, 22, 23, 24, 30, 31, 32],
+    ),
+    system(b'S', 1100, 39, 20, &[b"1C", b"5I", b"5Q", b"5X"], &[2, 22, 23, 24]),
+    system(b'I', 1130, 14, 1, &[b"5A"], &[22]),
+];
+const GPS: usize = 0;
+const GLONASS: usize = 1;
+const BEIDOU: usize = 3;
+
+// the number of a channel + 7 that stands for none
+const NO_CHANNEL: u8 = 15;
+type Channels = [u8; 64];
+
+// the bits of a satellite, and of a cell
+const fn widths(kind: u64) -> (usize, usize) {
+    (if kind & 1 == 0 { 18 } else { 36 }, (if kind < 6 { 48 } else { 65 }) + if kind & 1 == 0 { 0 } else { 15 })
+}
+
+// from which GPS time on GPS is so many seconds ahead of UTC
+const LEAP: [u64; 18] = {
+    let d = [
+        (1981, 7), (1982, 7), (1983, 7), (1985, 7), (1988, 1), (1990, 1), (1991, 1), (1992, 7), (1993, 7), (1994, 7), (1996, 1),
+        (1997, 7), (1999, 1), (2006, 1), (2009, 1), (2012, 7), (2015, 7), (2017, 1),
+    ];
+    let mut t = [0; 18];
+    let mut k = 0;
+    while k < 18 {
+        t[k] = ((days(d[k].0, d[k].1, 1) - GPS0) * 86_400_000 + (k as i64 + 1) * 1000) as u64;
         k += 1;
     }
     t
-}
-const SIGNAL: [u8; 33] = signals();
-// a signal mask of all identifiers of the table
-const KNOWN: u64 = {
-    let (mut m, mut k) = (0, 1);
-    while k < 33 {
-        if SIGNAL[k] != 0 {
-            m |= 1 << (32 - k);
-        }
-        k += 1;
-    }
-    m
 };
+
+// ------------------------------------------------------------------- cells
+
 const CODE2: [u8; 4] = [8, 4, 15, 5]; // DF016
-const FREQ: [u64; 16] = {
-    let (a, b, c) = (1_575_420_000, 1_227_600_000, 1_176_450_000);
-    [a, a, a, b, b, b, b, b, b, c, c, c, a, a, a, b]
-};
 
 const NONE: i64 = i64::MIN;
 
@@ -231,6 +303,18 @@ const LOCK: [u32; 128] = {
     t
 };
 
+// the same of MSM6 and MSM7: 64 a ms apart, then 32 of them two, 32 four, and so on; the last ones tell nothing
+static FINE_LOCK: [u32; 1024] = {
+    let mut t = [0u32; 1024];
+    let mut i = 1;
+    while i < 705 {
+        let n = (i - 1) / 32;
+        t[i] = t[i - 1] + (1 << if n == 0 { 0 } else { n - 1 });
+        i += 1;
+    }
+    t
+};
+
 #[inline(always)]
 fn half_away(r: i64) -> i64 {
     // r/2, ties away from zero
@@ -246,32 +330,47 @@ fn cycles<const F: u64>(x: i64) -> i64 {
     if x < 0 { -m } else { m }
 }
 
-// n*k / 2^29, nearest, ties away from zero
+// n*k / 2^S, nearest, ties away from zero
 #[inline(always)]
-fn shift29(n: i64, k: u64) -> i64 {
+fn shift<const S: u32>(n: i64, k: u64) -> i64 {
     let a = n.unsigned_abs();
-    let m = ((a as u128 * k as u128 + (1 << 28)) >> 29) as i64;
+    let m = ((a as u128 * k as u128 + (1 << (S - 1))) >> S) as i64;
     if n < 0 { -m } else { m }
 }
 
-// Cells of an epoch: by satellite and code, with the mark of those that stand.
+// Cells of a system in an epoch: by satellite and code, with the mark of those that stand.
 struct Table {
-    cells: Box<[[Cell; 16]; 33]>,
-    has: [u16; 33],
+    cells: Box<[[Cell; 16]; 64]>,
+    has: [u16; 64],
     sats: u64, // bit s: satellite s has a cell
 }
 
 impl Table {
     fn new() -> Table {
-        Table { cells: Box::new([[NO_CELL; 16]; 33]), has: [0; 33], sats: 0 }
+        Table { cells: Box::new([[NO_CELL; 16]; 64]), has: [0; 64], sats: 0 }
     }
     fn clear(&mut self) {
-        self.has = [0; 33];
+        self.has = [0; 64];
         self.sats = 0;
     }
 }
 
-fn cells_1074(b: &Body, t: &mut Table) {
+fn cells_msm(system: usize, kind: u64, given: &Channels, b: &Body, t: &mut Table) {
+    let s = &SYSTEMS[system];
+    match (system == GLONASS, kind) {
+        (false, 4) => cells_of::<false, false, false>(s, given, b, t),
+        (false, 5) => cells_of::<false, false, true>(s, given, b, t),
+        (false, 6) => cells_of::<false, true, false>(s, given, b, t),
+        (false, _) => cells_of::<false, true, true>(s, given, b, t),
+        (true, 4) => cells_of::<true, false, false>(s, given, b, t),
+        (true, 5) => cells_of::<true, false, true>(s, given, b, t),
+        (true, 6) => cells_of::<true, true, false>(s, given, b, t),
+        (true, _) => cells_of::<true, true, true>(s, given, b, t),
+    }
+}
+
+// R: of GLONASS; FINE: an MSM6 or MSM7; WIDE: with rates and extended information
+fn cells_of<const R: bool, const FINE: bool, const WIDE: bool>(s: &System, given: &Channels, b: &Body, t: &mut Table) {
     let sats = get(b, 73, 32) << 32 | get(b, 105, 32);
     let sigs = get(b, 137, 32) as u32;
     let (ns, ng) = (sats.count_ones() as usize, sigs.count_ones() as usize);
@@ -285,14 +384,29 @@ fn cells_1074(b: &Body, t: &mut Table) {
     };
     let nc = mask.count_ones() as usize;
     let s0 = 169 + nm;
-    let c0 = s0 + 18 * ns;
+    let f0 = s0 + (if WIDE { 12 } else { 8 }) * ns;
+    // where the columns of the cells begin, and how wide they are
+    let (w1, w2, w3, w5) = if FINE { (20, 24, 10, 10) } else { (15, 22, 4, 6) };
+    let c1 = s0 + (if WIDE { 36 } else { 18 }) * ns;
+    let c2 = c1 + w1 as usize * nc;
+    let c3 = c2 + w2 as usize * nc;
+    let c4 = c3 + w3 as usize * nc;
+    let c5 = c4 + nc;
     let (mut sm, mut k, mut cell) = (sats, 0, 0);
     let mut m = mask;
     while sm != 0 {
         let sat = sm.leading_zeros() as usize + 1;
         sm &= !(1u64 << (64 - sat));
         let whole = get(b, s0 + 8 * k, 8) as i64;
-        let rough = (whole << 29) + ((get(b, s0 + 8 * ns + 10 * k, 10) as i64) << 19);
+        let rough = (whole << 29) + ((get(b, f0 + 10 * k, 10) as i64) << 19);
+        let mut channel = 7;
+        if R {
+            channel = given[sat & 63];
+            let told = if WIDE { get(b, s0 + 8 * ns + 4 * k, 4) as u8 } else { NO_CHANNEL };
+            if told != NO_CHANNEL && told != channel {
+                channel = NO_CHANNEL;
+            }
+        }
         k += 1;
         let mut gm = sigs;
         while gm != 0 {
@@ -305,27 +419,48 @@ fn cells_1074(b: &Body, t: &mut Table) {
             }
             let j = cell;
             cell += 1;
-            let code = SIGNAL[id] as usize;
-            if code == 0 || sat > 32 {
+            let code = s.signal[id] as usize;
+            if code == 0 || sat > s.sats {
                 continue;
             }
-            let code = code - 1;
-            let fine = geti(b, c0 + 15 * j, 15);
-            let phase = geti(b, c0 + 15 * nc + 22 * j, 22);
-            let lock = get(b, c0 + 37 * nc + 4 * j, 4);
-            let half = get(b, c0 + 41 * nc + j, 1);
-            let cnr = get(b, c0 + 42 * nc + 6 * j, 6);
+            let (sat, code) = (sat & 63, code - 1 & 15);
+            let fine = geti(b, c1 + w1 as usize * j, w1);
+            let phase = geti(b, c2 + w2 as usize * j, w2);
+            let lock = get(b, c3 + w3 as usize * j, w3);
+            let half = get(b, c4 + j, 1);
+            let cnr = get(b, c5 + w5 as usize * j, w5);
             if t.has[sat] >> code & 1 != 0 {
                 continue;
             }
             t.has[sat] |= 1 << code;
             t.sats |= 1 << sat;
-            t.cells[sat][code & 15] = Cell {
-                range: if whole == 255 || fine == -16_384 { NONE } else { shift29(rough + 32 * fine, 299_792_458) },
-                phase: if whole == 255 || phase == -2_097_152 { NONE } else { shift29(rough + phase, FREQ[code & 15]) },
+            let mut freq = s.freq[code];
+            if R {
+                freq = (freq as i64 + (channel as i64 - 7) * STEP[code & 3]) as u64;
+            }
+            let least = |w: u32| -1i64 << (w - 1);
+            t.cells[sat][code] = Cell {
+                range: if whole == 255 || fine == least(w1) {
+                    NONE
+                } else {
+                    shift::<29>(rough + if FINE { fine } else { 32 * fine }, 299_792_458)
+                },
+                phase: if whole == 255 || phase == least(w2) || R && channel == NO_CHANNEL {
+                    NONE
+                } else if FINE {
+                    shift::<31>(4 * rough + phase, freq)
+                } else {
+                    shift::<29>(rough + phase, freq)
+                },
                 offset: 0,
-                quarters: (4 * cnr) as u8,
-                lock: if lock == 0 { 0 } else { 16 << lock },
+                quarters: if !FINE {
+                    (4 * cnr) as u8
+                } else if cnr == 0 {
+                    0
+                } else {
+                    ((cnr + 2) / 4).clamp(1, 255) as u8
+                },
+                lock: if FINE { FINE_LOCK[lock as usize & 1023] } else if lock == 0 { 0 } else { 16 << lock },
                 half: half != 0,
                 msm: true,
             };
@@ -480,7 +615,7 @@ static DIGIT: [u8; 256] = {
     t
 };
 
-fn days(y: i64, m: i64, d: i64) -> i64 {
+const fn days(y: i64, m: i64, d: i64) -> i64 {
     // days from 1970-01-01
     let y = if m <= 2 { y - 1 } else { y };
     let era = y.div_euclid(400);
@@ -511,13 +646,15 @@ fn parse_time(s: &str) -> u64 {
 
 // ----------------------------------------------------------------- convert
 
+// the places of the bodies of an epoch: the MSM of each system, and the 1004
+const LEGACY: usize = 7;
+const PLACES: usize = 8;
+
 struct Slot {
     epoch: u64,
-    leg: usize, // payload length + 1, 0 none
-    msm: usize,
-    legacy: Body,
-    multi: Body,
-    more: Vec<(u64, Body)>, // further messages of the epoch
+    lens: [usize; PLACES], // payload length + 1, 0 none
+    bodies: [Option<Box<Body>>; PLACES],
+    more: Vec<(usize, Body)>, // further messages of the epoch, with their places
 }
 
 #[derive(Clone, Copy, Default)]
@@ -547,15 +684,23 @@ struct Job<W: Write> {
     near: u64,
     made: u64,
     marker: String,
-    codes: Vec<usize>,
-    listed: u16,
+    codes: [Vec<usize>; 7],
+    listed: [u16; 7],
+    kinds: [u64; 7],
+    taken: [u8; 67], // of 1071 to 1137 the system + 1, 0 for those that are not taken
+    given: Channels,
+    leap: Option<i64>,
+    other: u64, // bits of slots, as told in the report
+    lacked: u64,
+    heard: u8, // bits of systems
     splits: bool,
     window: usize,
     held: std::collections::VecDeque<Box<Slot>>, // rising
     free: Vec<Box<Slot>>,
     arp: [Option<Vec<u8>>; 2],
-    tracks: Box<[[Track; 16]; 33]>,
+    tracks: [Option<Box<[[Track; 16]; 64]>>; 7], // of the listed systems
     table: Table,
+    room: usize, // for a header and the longest record
     day: i64,
     date: [u8; 12],
     head: bool,
@@ -602,8 +747,17 @@ impl<W: Write> Job<W> {
             let k = bit >> 3;
             (u64::from_be_bytes(b[k..k + 8].try_into().unwrap()) << (bit & 7)) >> (64 - w)
         };
+        let is_legacy = number == 1004 && self.listed[GPS] != 0;
+        let system = match number {
+            1004 => GPS,
+            1071..=1137 => (self.taken[number as usize - 1071] as usize).wrapping_sub(1),
+            _ => usize::MAX,
+        };
+        let (mut sats, mut nm) = (0, 0);
+        let clock = get(&head, 24, 30);
+        let valid = if system == GLONASS { clock >> 27 != 7 && clock & 0x7FF_FFFF < 86_401_000 } else { clock < WEEK };
         let need = match number {
-            1004 => {
+            1004 if is_legacy => {
                 if bits < 64 {
                     return self.refuse(3, Some(number));
                 }
@@ -611,33 +765,34 @@ impl<W: Write> Job<W> {
             }
             1005 => 152,
             1006 => 168,
-            1074 => {
+            1071..=1137 if system < 7 => {
                 if bits < 169 {
                     return self.refuse(3, Some(number));
                 }
-                let ns = (get(&head, 73, 32) << 32 | get(&head, 105, 32)).count_ones() as usize;
-                let nm = ns * get(&head, 137, 32).count_ones() as usize;
-                if get(&head, 24, 30) < WEEK && nm > 64 {
+                sats = get(&head, 73, 32) << 32 | get(&head, 105, 32);
+                let ns = sats.count_ones() as usize;
+                nm = ns * get(&head, 137, 32).count_ones() as usize;
+                if valid && nm > 64 {
                     return self.refuse(5, Some(number));
                 }
                 let mut nc = 0;
                 if nm <= 64 {
-                    if bits < 169 + nm && get(&head, 24, 30) < WEEK {
+                    if bits < 169 + nm && valid {
                         return self.refuse(3, Some(number));
                     }
                     let mask = get(&head, 169, 32) << 32 | get(&head, 201, 32);
                     nc = if nm == 0 { 0 } else { (mask >> (64 - nm)).count_ones() as usize };
                 }
-                169 + nm + 18 * ns + 48 * nc
+                let (of_sat, of_cell) = widths(self.kinds[system]);
+                169 + nm + of_sat * ns + of_cell * nc
             }
             _ => {
                 self.n.other += 1;
                 return;
             }
         };
-        let obs = number == 1004 || number == 1074;
-        let tow = get(&head, 24, 30);
-        if obs && tow >= WEEK {
+        let obs = number != 1005 && number != 1006;
+        if obs && !valid {
             return self.refuse(4, Some(number));
         }
         if bits < need {
@@ -675,9 +830,10 @@ impl<W: Write> Job<W> {
             }
             return;
         }
-        // the date near the reference
-        let low = self.near - WEEK / 2;
-        let epoch = low + (tow + WEEK - low % WEEK) % WEEK;
+        if system == GLONASS {
+            self.note_channels(p, sats, 169 + nm);
+        }
+        let epoch = self.moment(system, clock);
         let mut i = self.held.len();
         while i > 0 && self.held[i - 1].epoch >= epoch {
             i -= 1;
@@ -696,72 +852,114 @@ impl<W: Write> Job<W> {
                 i -= 1;
             }
             let mut s = self.free.pop().unwrap_or_else(|| {
-                Box::new(Slot { epoch: 0, leg: 0, msm: 0, legacy: [0; 1024 + PAD], multi: [0; 1024 + PAD], more: vec![] })
+                Box::new(Slot { epoch: 0, lens: [0; PLACES], bodies: Default::default(), more: vec![] })
             });
-            (s.epoch, s.leg, s.msm) = (epoch, 0, 0);
+            (s.epoch, s.lens) = (epoch, [0; PLACES]);
             s.more.clear();
             opened = true;
             self.held.insert(i, s);
         }
-        let s = &mut self.held[i];
-        let (place, room) = if number == 1004 { (&mut s.leg, &mut s.legacy) } else { (&mut s.msm, &mut s.multi) };
-        if self.splits && *place == 0 && !opened && !Self::has_cell(number, p, &mut self.table) {
+        let place = if is_legacy { LEGACY } else { system };
+        let had = self.held[i].lens[place];
+        if self.splits && had == 0 && !opened && !self.has_cell(place, p) {
             self.n.repeat += 1;
             return;
         }
-        if self.splits && *place != 0 && !same(&room[..*place - 1]) {
-            self.further(number, i, p);
-            return;
-        }
-        if *place != 0 {
-            if same(&room[..*place - 1]) {
+        let room = self.held[i].bodies[place].get_or_insert_with(|| Box::new([0; 1024 + PAD]));
+        if had != 0 {
+            if same(&room[..had - 1]) {
                 self.n.repeat += 1;
+            } else if self.splits {
+                self.further(number, place, i, p);
             } else {
                 self.n.conflict += 1;
                 writeln!(self.log, "link 1 conflict {number} {}", stamp(epoch)).unwrap();
             }
             return;
         }
-        *place = len + 1;
         room[..len].copy_from_slice(&p[..len]);
         room[len - 1] &= tail;
+        self.held[i].lens[place] = len + 1;
         self.n.taken += 1;
+        self.heard |= 1 << system;
+    }
+
+    // the GPS time of a clock, near the reference
+    fn moment(&self, system: usize, clock: u64) -> u64 {
+        let low = self.near - WEEK / 2;
+        let dated = |tow: u64| low + (tow + WEEK - low % WEEK) % WEEK;
+        if system == BEIDOU {
+            return dated((clock + 14_000) % WEEK);
+        }
+        if system != GLONASS {
+            return dated(clock);
+        }
+        let utc = (86_400_000 * (clock >> 27) + (clock & 0x7FF_FFFF)) as i64 - 10_800_000;
+        let at = |leap: i64| dated((utc + 1000 * leap).rem_euclid(WEEK as i64) as u64);
+        if let Some(leap) = self.leap {
+            return at(leap);
+        }
+        (0..18).rev().map(|k| (k, at(k as i64 + 1))).find(|&(k, time)| time >= LEAP[k]).map_or_else(|| at(0), |it| it.1)
+    }
+
+    // the slots of a message without a channel, and those of which it tells another one; its satellites begin at a bit
+    fn note_channels(&mut self, p: &[u8], sats: u64, begin: usize) {
+        let is_wide = self.kinds[GLONASS] & 1 != 0;
+        let mut bit = begin + 8 * sats.count_ones() as usize;
+        let mut sm = sats;
+        while sm != 0 {
+            let slot = sm.leading_zeros() as usize + 1;
+            sm &= !(1u64 << (64 - slot));
+            let due = self.given[slot & 63];
+            let mut told = NO_CHANNEL;
+            if is_wide {
+                // a satellite has 24 bits more behind these, so the next byte is there
+                let two = (p[bit >> 3] as u16) << 8 | p[(bit >> 3) + 1] as u16;
+                told = (two >> (12 - (bit & 7)) & 15) as u8;
+                bit += 4;
+            }
+            if slot <= SYSTEMS[GLONASS].sats {
+                self.lacked |= ((due == NO_CHANNEL) as u64) << slot;
+                self.other |= ((due != NO_CHANNEL && told != NO_CHANNEL && told != due) as u64) << slot;
+            }
+        }
     }
 
     // does a message have a cell?
-    fn has_cell(number: u64, p: &[u8], t: &mut Table) -> bool {
+    fn has_cell(&mut self, place: usize, p: &[u8]) -> bool {
         let mut b = [0; 1024 + PAD];
         b[..p.len()].copy_from_slice(p);
-        if number == 1004 {
+        if place == LEGACY {
             return (0..get(&b, 55, 5) as usize).any(|k| (1..=32).contains(&get(&b, 64 + 125 * k, 6)));
         }
         let (sats, sigs) = (get(&b, 73, 32) << 32 | get(&b, 105, 32), get(&b, 137, 32));
-        if sats >> 32 != 0 && sats << 32 == 0 && sigs & !KNOWN == 0 {
+        if sats != 0 && sats << SYSTEMS[place].sats == 0 && sigs & !SYSTEMS[place].known == 0 {
             // all are in the tables: is a bit of the cell mask set?
             let n = (sats.count_ones() * sigs.count_ones()) as usize;
             return (0..n).any(|k| get(&b, 169 + k, 1) != 0);
         }
-        t.clear();
-        cells_1074(&b, t);
-        t.sats != 0
+        self.table.clear();
+        cells_at(place, &self.kinds, &self.given, &b, &mut self.table);
+        self.table.sats != 0
     }
 
     // a message of an epoch that holds another one of its number
-    fn further(&mut self, number: u64, i: usize, p: &[u8]) {
+    fn further(&mut self, number: u64, place: usize, i: usize, p: &[u8]) {
         let mut b = [0; 1024 + PAD];
         b[..p.len()].copy_from_slice(p);
         let s = &mut self.held[i];
         let (mut a, mut n) = (Table::new(), Table::new());
-        if number == 1004 { cells_1004(&s.legacy, &mut a) } else { cells_1074(&s.multi, &mut a) };
+        cells_at(place, &self.kinds, &self.given, s.bodies[place].as_ref().unwrap(), &mut a);
         for (k, m) in &s.more {
-            if *k == number {
-                if number == 1004 { cells_1004(m, &mut a) } else { cells_1074(m, &mut a) };
+            if *k == place {
+                cells_at(place, &self.kinds, &self.given, m, &mut a);
             }
         }
-        if number == 1004 { cells_1004(&b, &mut n) } else { cells_1074(&b, &mut n) };
+        cells_at(place, &self.kinds, &self.given, &b, &mut n);
         // the cells in the order of the message
         let mut order: Vec<(usize, usize)> = vec![];
-        if number == 1004 {
+        let own = &SYSTEMS[place % LEGACY];
+        if place == LEGACY {
             for k in 0..get(&b, 55, 5) as usize {
                 let q = 64 + 125 * k;
                 let sat = get(&b, q, 6) as usize;
@@ -771,9 +969,9 @@ impl<W: Write> Job<W> {
                 }
             }
         } else {
-            for sat in 1..=32 {
+            for sat in 1..=own.sats {
                 for id in 1..=32 {
-                    let c = SIGNAL[id] as usize;
+                    let c = own.signal[id] as usize;
                     if c != 0 && n.has[sat] >> (c - 1) & 1 != 0 {
                         order.push((sat, c - 1));
                     }
@@ -786,13 +984,15 @@ impl<W: Write> Job<W> {
                 new = true;
             } else if a.cells[sat][c] != n.cells[sat][c] {
                 conflict = true;
-                let name = std::str::from_utf8(NAMES[c]).unwrap();
-                writeln!(self.log, "link 1 conflict {number} {} G{sat:02} {name}", stamp(s.epoch)).unwrap();
+                let name = std::str::from_utf8(own.names[c]).unwrap();
+                let (letter, sat) = (own.letter as char, own.first + sat - 1);
+                writeln!(self.log, "link 1 conflict {number} {} {letter}{sat:02} {name}", stamp(s.epoch)).unwrap();
             }
         }
         if new {
-            s.more.push((number, b));
+            s.more.push((place, b));
             self.n.taken += 1;
+            self.heard |= 1 << (place % LEGACY);
         } else if conflict {
             self.n.conflict += 1;
         } else {
@@ -801,43 +1001,55 @@ impl<W: Write> Job<W> {
     }
 
     fn record(&mut self, s: &Slot) {
-        let t = &mut self.table;
-        t.clear();
-        if s.msm != 0 {
-            cells_1074(&s.multi, t);
-            for (_, m) in s.more.iter().filter(|m| m.0 == 1074) {
-                cells_1074(m, t);
-            }
-        }
-        if s.leg != 0 {
-            cells_1004(&s.legacy, t);
-            for (_, m) in s.more.iter().filter(|m| m.0 == 1004) {
-                cells_1004(m, t);
-            }
-        }
-        if self.buf.len() - self.at < 3000 + 32 * (4 + 48 * 16) {
+        if self.buf.len() - self.at < self.room {
             self.out.write_all(&self.buf[..self.at]).expect("write");
             self.at = 0;
         }
         let start = self.at;
-        let o = &mut self.buf[start..];
-        let mut at = 36;
-        let mut lines = 0u32;
-        let width = 48 * self.codes.len();
+        let (mut at, mut lines) = (36, 0u32);
+        for system in 0..7 {
+            if s.lens[system] != 0 || system == GPS && s.lens[LEGACY] != 0 {
+                self.rows(system, s, &mut at, &mut lines);
+            }
+        }
+        if lines == 0 {
+            return;
+        }
+        self.finish_record(s.epoch, start, at, lines);
+    }
+
+    // the lines of a system, behind those before
+    fn rows(&mut self, system: usize, s: &Slot, at: &mut usize, lines: &mut u32) {
+        let own = &SYSTEMS[system];
+        let t = &mut self.table;
+        t.clear();
+        for place in [system, LEGACY] {
+            if s.lens[place] != 0 && place % LEGACY == system {
+                cells_at(place, &self.kinds, &self.given, s.bodies[place].as_ref().unwrap(), t);
+                for (_, m) in s.more.iter().filter(|m| m.0 == place) {
+                    cells_at(place, &self.kinds, &self.given, m, t);
+                }
+            }
+        }
+        let tracks = self.tracks[system].as_mut().unwrap();
+        let o = &mut self.buf[self.at..];
+        let (codes, listed) = (&self.codes[system], self.listed[system]);
+        let width = 48 * codes.len();
         let mut sats = t.sats;
         while sats != 0 {
             let sat = sats.trailing_zeros() as usize & 63;
             sats &= sats - 1;
             let has = t.has[sat];
             let row = &t.cells[sat];
-            let track = &mut self.tracks[sat];
-            let line = &mut o[at..at + 3 + width + 1];
-            line[0] = b'G';
-            line[1] = PAIRS[2 * sat];
-            line[2] = PAIRS[2 * sat + 1];
+            let track = &mut tracks[sat];
+            let line = &mut o[*at..*at + 3 + width + 1];
+            let name = own.first + sat - 1;
+            line[0] = own.letter;
+            line[1] = PAIRS[2 * name];
+            line[2] = PAIRS[2 * name + 1];
             let mut end = 0;
             let mut p = 0;
-            for (f, &c) in line[3..].chunks_exact_mut(48).zip(&self.codes) {
+            for (f, &c) in line[3..].chunks_exact_mut(48).zip(codes) {
                 let f: &mut [u8; 48] = f.try_into().unwrap();
                 p += 48;
                 if has >> c & 1 == 0 {
@@ -861,7 +1073,7 @@ impl<W: Write> Job<W> {
                     *fc = [b' '; 16];
                 }
                 if cell.phase != NONE {
-                    let digit = step(&mut track[c & 15], s.epoch, cell, FREQ[c & 15]);
+                    let digit = step(&mut track[c & 15], s.epoch, cell, own.freq[c & 15]);
                     let lli = if digit == 0 { b' ' } else { b'0' + digit };
                     let phase = cell.phase + if self.splits { 1_500_000 * track[c & 15].rolls } else { 0 };
                     if ok(phase) {
@@ -882,30 +1094,32 @@ impl<W: Write> Job<W> {
                 }
             }
             // codes that stand but aren't listed keep their tracks too
-            let mut rest = has & !self.listed;
+            let mut rest = has & !listed;
             while rest != 0 {
                 let c = rest.trailing_zeros() as usize & 15;
                 rest &= rest - 1;
                 if row[c].phase != NONE {
-                    step(&mut track[c], s.epoch, &row[c], FREQ[c]);
+                    step(&mut track[c], s.epoch, &row[c], own.freq[c]);
                 }
             }
             if end != 0 {
                 line[3 + end] = b'\n';
-                at += 4 + end;
-                lines += 1;
+                *at += 4 + end;
+                *lines += 1;
             }
         }
-        if lines == 0 {
-            return;
-        }
-        let day = (s.epoch / 86_400_000) as i64;
+    }
+
+    // the line of the epoch, and before the first record the header
+    fn finish_record(&mut self, epoch: u64, start: usize, mut at: usize, lines: u32) {
+        let o = &mut self.buf[start..];
+        let day = (epoch / 86_400_000) as i64;
         if day != self.day {
             self.day = day;
             let (y, m, d) = civil(day + GPS0);
             self.date.copy_from_slice(format!("> {y:04} {m:02} {d:02}").as_bytes());
         }
-        let ms = (s.epoch % 86_400_000) as u32;
+        let ms = (epoch % 86_400_000) as u32;
         let (h, mi, sec, f) = (ms / 3_600_000, ms / 60_000 % 60, ms / 1000 % 60, ms % 1000);
         o[..12].copy_from_slice(&self.date);
         o[12..36].copy_from_slice(b" 00 00  0.0000000  0  0\n");
@@ -919,8 +1133,11 @@ impl<W: Write> Job<W> {
         }
         o[22] = b'0' + (f / 100) as u8;
         two(&mut o[23..25], f % 100);
+        if lines >= 100 {
+            o[32] = b'0' + (lines / 100) as u8;
+        }
         if lines >= 10 {
-            two(&mut o[33..35], lines);
+            two(&mut o[33..35], lines % 100);
         } else {
             o[34] = b'0' + lines as u8;
         }
@@ -928,7 +1145,7 @@ impl<W: Write> Job<W> {
             // the header goes out before the first record
             self.head = true;
             let rec = self.buf[start..start + at].to_vec();
-            let h = self.header(s.epoch);
+            let h = self.header(epoch);
             self.buf[start..start + h.len()].copy_from_slice(&h);
             self.buf[start + h.len()..start + h.len() + rec.len()].copy_from_slice(&rec);
             at += h.len();
@@ -940,7 +1157,10 @@ impl<W: Write> Job<W> {
     fn header(&self, first: u64) -> Vec<u8> {
         let mut o = String::new();
         let mut line = |a: String, label: &str| o.push_str(&format!("{:<80}\n", format!("{a:<60}{label}")));
-        line(format!("{:>9}{:11}{:<20}{:<20}", "3.05", "", "OBSERVATION DATA", "G"), "RINEX VERSION / TYPE");
+        let systems: Vec<usize> = (0..7).filter(|&k| self.listed[k] != 0).collect();
+        let letter = |k: usize| (SYSTEMS[k].letter as char).to_string();
+        let column = if let [only] = systems[..] { letter(only) } else { "M".into() };
+        line(format!("{:>9}{:11}{:<20}{column:<20}", "3.05", "", "OBSERVATION DATA"), "RINEX VERSION / TYPE");
         let made = stamp(self.made);
         let made: String = made[..19].chars().filter(|c| c.is_ascii_digit() || *c == ' ').collect();
         line(format!("{:<20}{:20}{made} UTC", "rtcm2rinex", ""), "PGM / RUN BY / DATE");
@@ -966,17 +1186,18 @@ impl<W: Write> Job<W> {
         };
         line(format!("{}{}{}", f4(xyz[0]), f4(xyz[1]), f4(xyz[2])), "APPROX POSITION XYZ");
         line(format!("{}{}{}", f4(height), f4(0), f4(0)), "ANTENNA: DELTA H/E/N");
-        let types: Vec<String> = self
-            .codes
-            .iter()
-            .flat_map(|&c| {
-                let n = std::str::from_utf8(NAMES[c]).unwrap();
-                ["C", "L", "S"].map(|k| format!(" {k}{n}"))
-            })
-            .collect();
-        for (k, part) in types.chunks(13).enumerate() {
-            let lead = if k == 0 { format!("G  {:3}", types.len()) } else { " ".repeat(6) };
-            line(lead + &part.concat(), "SYS / # / OBS TYPES");
+        for &s in &systems {
+            let types: Vec<String> = self.codes[s]
+                .iter()
+                .flat_map(|&c| {
+                    let n = std::str::from_utf8(SYSTEMS[s].names[c]).unwrap();
+                    ["C", "L", "S"].map(|k| format!(" {k}{n}"))
+                })
+                .collect();
+            for (k, part) in types.chunks(13).enumerate() {
+                let lead = if k == 0 { format!("{}  {:3}", letter(s), types.len()) } else { " ".repeat(6) };
+                line(lead + &part.concat(), "SYS / # / OBS TYPES");
+            }
         }
         line("DBHZ".into(), "SIGNAL STRENGTH UNIT");
         let (y, m, d) = civil((first / 86_400_000) as i64 + GPS0);
@@ -990,7 +1211,22 @@ impl<W: Write> Job<W> {
             ),
             "TIME OF FIRST OBS",
         );
-        line("G".into(), "SYS / PHASE SHIFT");
+        for &s in &systems {
+            line(letter(s), "SYS / PHASE SHIFT");
+        }
+        if self.listed[GLONASS] != 0 {
+            let slots: Vec<String> = (1..=27)
+                .filter(|&k| self.given[k] != NO_CHANNEL)
+                .map(|k| format!("R{k:02} {:2} ", self.given[k] as i64 - 7))
+                .collect();
+            line(format!("{:3} {}", slots.len(), slots[..slots.len().min(8)].concat()), "GLONASS SLOT / FRQ #");
+            for part in slots.chunks(8).skip(1) {
+                line(" ".repeat(4) + &part.concat(), "GLONASS SLOT / FRQ #");
+            }
+            line(String::new(), "GLONASS COD/PHS/BIS");
+            let table = LEAP.iter().filter(|&&since| since <= first).count() as i64;
+            line(format!("{:6}", self.leap.unwrap_or(table)), "LEAP SECONDS");
+        }
         line(String::new(), "END OF HEADER");
         o.into_bytes()
     }
@@ -1006,6 +1242,17 @@ impl<W: Write> Job<W> {
             self.out.write_all(&h).expect("write");
         }
         self.out.flush().expect("write");
+        if self.listed[GLONASS] != 0 {
+            for (word, slots) in [("other-channel", self.other), ("no-channel", self.lacked)] {
+                let names: String = (1..=27u32).filter(|&k| slots >> k & 1 != 0).map(|k| format!(" R{k:02}")).collect();
+                writeln!(self.log, "{word}{}", if names.is_empty() { " -" } else { names.as_str() }).unwrap();
+            }
+        }
+        let silent = (0..7).filter(|&k| self.listed[k] != 0 && self.heard >> k & 1 == 0);
+        let silent: String = silent.map(|k| format!(" {}", SYSTEMS[k].letter as char)).collect();
+        if !silent.is_empty() && self.listed[1..].iter().any(|&it| it != 0) {
+            writeln!(self.log, "no-message{silent}").unwrap();
+        }
         let n = &self.n;
         write!(
             self.log,
@@ -1017,12 +1264,18 @@ impl<W: Write> Job<W> {
     }
 }
 
+// the cells of a body at this place
+#[inline(always)]
+fn cells_at(place: usize, kinds: &[u64; 7], given: &Channels, b: &Body, t: &mut Table) {
+    if place == LEGACY { cells_1004(b, t) } else { cells_msm(place, kinds[place], given, b, t) }
+}
+
 #[inline(always)]
 fn step(t: &mut Track, time: u64, c: &Cell, f: u64) -> u8 {
     let slip = t.time != 0 && ((c.lock as u64) < time - t.time || (t.msm == c.msm && c.lock < t.lock));
     let mut rolls = 0;
     if !c.msm && !t.msm && t.time != 0 && !slip {
-        let k = if f == FREQ[0] { 393_855_000 } else { 306_900_000 };
+        let k = if f == SYSTEMS[GPS].freq[0] { 393_855_000 } else { 306_900_000 };
         let d = (c.offset - t.offset) as i64 * k;
         const HALF: i64 = 750_000 * 149_896_229;
         rolls = t.rolls - (d > HALF) as i64 + (d < -HALF) as i64;
@@ -1032,6 +1285,10 @@ fn step(t: &mut Track, time: u64, c: &Cell, f: u64) -> u8 {
 }
 
 // -------------------------------------------------------------------- main
+
+fn index_of(letter: &str) -> usize {
+    SYSTEMS.iter().position(|s| s.letter == letter.as_bytes()[0]).expect("a letter of a system")
+}
 
 fn main() {
     let mut words: Vec<String> = std::env::args().skip(1).collect();
@@ -1082,7 +1339,7 @@ fn main() {
                 t.clear();
                 match (p[0] as u32) << 4 | p[1] as u32 >> 4 {
                     1004 => cells_1004(&b, &mut t),
-                    1074 => cells_1074(&b, &mut t),
+                    1074 => cells_msm(GPS, 4, &[NO_CHANNEL; 64], &b, &mut t),
                     _ => (),
                 }
                 for s in 1..33 {
@@ -1102,15 +1359,23 @@ fn main() {
                 near: 0,
                 made: 0,
                 marker: String::new(),
-                codes: vec![],
-                listed: 0,
+                codes: Default::default(),
+                listed: [0; 7],
+                kinds: [4; 7],
+                taken: [0; 67],
+                given: [NO_CHANNEL; 64],
+                leap: None,
+                other: 0,
+                lacked: 0,
+                heard: 0,
                 splits: false,
                 window: 64,
                 held: Default::default(),
                 free: vec![],
                 arp: [None, None],
-                tracks: Box::new([[Track::default(); 16]; 33]),
+                tracks: Default::default(),
                 table: Table::new(),
+                room: 4000,
                 day: -1,
                 date: [0; 12],
                 head: false,
@@ -1131,16 +1396,38 @@ fn main() {
                     "--marker" => j.marker = v(),
                     "--window" => j.window = v().parse().expect("window"),
                     "--codes" => {
-                        j.codes = v()
-                            .split(',')
-                            .map(|c| NAMES.iter().position(|n| &n[..] == c.as_bytes()).expect("code"))
-                            .collect()
+                        for name in v().split(',') {
+                            let (k, code) = if name.len() == 3 { (index_of(&name[..1]), &name[1..]) } else { (GPS, name) };
+                            let c = SYSTEMS[k].names.iter().position(|n| &n[..] == code.as_bytes()).expect("code");
+                            j.codes[k].push(c);
+                            j.listed[k] |= 1 << c;
+                        }
                     }
+                    "--msm" => {
+                        for (at, word) in v().split(',').enumerate() {
+                            if at == 0 {
+                                j.kinds = [word.parse().expect("kind"); 7];
+                            } else {
+                                j.kinds[index_of(&word[..1])] = word[1..].parse().expect("kind");
+                            }
+                        }
+                    }
+                    "--channels" => {
+                        for word in v().split(',').filter(|&it| it != "none") {
+                            let (slot, channel) = word.split_once(':').expect("channel");
+                            j.given[slot.parse::<usize>().expect("slot")] = (channel.parse::<i64>().expect("channel") + 7) as u8;
+                        }
+                    }
+                    "--leap-seconds" => j.leap = Some(v().parse().expect("leap seconds")),
                     "--splits" => j.splits = true,
                     _ => link = w.clone(),
                 }
             }
-            j.listed = j.codes.iter().fold(0, |m, &c| m | 1 << c);
+            for k in (0..7).filter(|&k| j.listed[k] != 0) {
+                j.taken[(SYSTEMS[k].before + j.kinds[k] - 1071) as usize] = k as u8 + 1;
+                j.tracks[k] = Some(Box::new([[Track::default(); 16]; 64]));
+                j.room += SYSTEMS[k].sats * (4 + 48 * j.codes[k].len());
+            }
             total = stream(&link, |p| j.payload(p));
             j.finish();
         }

@@ -12,8 +12,11 @@ from operator import and_, lshift
 from random import Random
 from typing import NamedTuple
 
-from messages import COARSE, FINE, FINE_LOCK_TIMES, FREQUENCY, LIGHT, legacy_lock_time, msm_lock_time
+from clocks import clock_of
+from messages import COARSE, FINE, FINE_LOCK_TIMES, LIGHT, legacy_lock_time, msm_lock_time
+from model import moment
 from station import header, mask
+from systems import BY_LETTER, TYPES, carrier, number_of
 from wire import HEADERS, LEGACY_SATELLITE, MSM_CELL, MSM_SATELLITE, WEEK_MS, BitWriter, Table, frame_of
 
 METRES = LIGHT / 1000  # a millisecond of light
@@ -22,9 +25,12 @@ PERIOD, PASS = 43_082_000, 14_400_000
 BETWEEN_SLIPS = 7_200_000  # ms, the mean
 UNLOCKED = 10_000  # ms after a rise in which L2 has no values yet
 HALF_CYCLES = 3_000  # ms of lock in which half a cycle may be missing
-SIGNALS = (2, 10)  # the codes 1C and 2W, as a 1004 tells them
-WAVES = tuple(LIGHT / FREQUENCY[band] for band in "12")
-DELAYS = tuple((FREQUENCY["1"] / FREQUENCY[band]) ** 2 for band in "12")  # of the ionosphere, as multiples of that of L1
+
+# Of each system how many satellites rise, and its two codes. Those of GPS are as a 1004 tells them.
+HEARD = {"G": (32, ("1C", "2W")), "R": (24, ("1C", "2P")), "E": (30, ("1C", "7Q")), "C": (35, ("2I", "7I"))}
+SIGNALS = {letter: tuple(BY_LETTER[letter].signals[it] for it in codes) for letter, (_, codes) in HEARD.items()}
+CHANNELS = {slot: 5 * slot % 14 - 7 for slot in range(1, 25)}  # of GLONASS
+WEEK = moment("2024-05-12T00:00:00")  # in which all times lie
 
 LEGACY_TIMES = [legacy_lock_time(it) for it in range(128)]
 COARSE_TIMES = [msm_lock_time(it) for it in range(16)]
@@ -87,15 +93,26 @@ def legacy_row(it: Heard) -> int:
     return LEGACY.number(it.satellite, 0, l1_range, offset(first), lock, int(whole), strength, 3, *l2)
 
 
+def like(number: int) -> int:
+    """The MSM of GPS that has the same fields."""
+    return number if number == 1004 else 1070 + number % 10
+
+
 def satellite_row(it: Heard, number: int) -> tuple[int, ...]:
-    """The whole ms of the rough range and its 1024th parts, in an MSM that has them with the rough rate."""
+    """The whole ms of the rough range and its 1024th parts; in an MSM that has them, with the extended information, which is a
+    channel, and the rough rate."""
     whole, part = divmod(round(it.cells[0].range / METRES * 1024), 1024)
-    return (whole, 0, part, round(it.rate)) if number % 2 else (whole, part)
+    extended = CHANNELS[it.satellite] + 7 if letter_of(number) == "R" else 0
+    return (whole, extended, part, round(it.rate)) if number % 2 else (whole, part)
+
+
+def letter_of(number: int) -> str:
+    return "G" if number == 1004 else TYPES[number][0].letter
 
 
 def cell_rows(it: Heard, number: int) -> Iterator[tuple[int, ...]]:
     """Of each cell the fine range and phase, the lock time indicator, half a cycle, the strength, and the fine rate."""
-    scale, times, strengths = (FINE, FINE_TIMES, 16) if number >= 1076 else (COARSE, COARSE_TIMES, 1)
+    scale, times, strengths = (FINE, FINE_TIMES, 16) if number % 10 >= 6 else (COARSE, COARSE_TIMES, 1)
     range_scale, phase_scale = scale.range_units / METRES, scale.phase_units / METRES
     rough = round(it.cells[0].range / METRES * 1024)
     rough_range, rough_phase = scale.range_units // 1024 * rough, scale.phase_units // 1024 * rough
@@ -107,13 +124,17 @@ def cell_rows(it: Heard, number: int) -> Iterator[tuple[int, ...]]:
 
 @lru_cache
 def head_of(number: int, satellites: tuple[int, ...], more: int) -> tuple[int, int, int]:
-    """The width of a header, its bits at the time of week 0, and how many of them stand after this time."""
-    masks = {"satellite_mask": mask(satellites, 64), "signal_mask": mask(SIGNALS, 32)}
-    told = {"synchronous": more, "satellites": len(satellites)} if number == 1004 else masks
-    fields = HEADERS[number]
+    """The width of a header, its bits at a clock of 0, and how many of them stand after the clock."""
+    if number == 1004:
+        told = {"synchronous": more, "satellites": len(satellites)}
+    else:
+        masks = {"satellite_mask": mask(satellites, 64), "signal_mask": mask(SIGNALS[letter_of(number)], 32)}
+        told = {"multiple_message": more, **masks}
+    fields = HEADERS[like(number)]
     packer = Packer(fields)
     place = [entry.name for entry in fields].index("tow")
-    return packer.width, packer.number(*header(number, **told).values()), packer.shifts[place]
+    values = header(like(number), **told) | {"number": number}
+    return packer.width, packer.number(*values.values()), packer.shifts[place]
 
 
 def put_columns(bits: BitWriter, fields: Table, rows: list[tuple[int, ...]]) -> None:
@@ -127,10 +148,10 @@ def put_columns(bits: BitWriter, fields: Table, rows: list[tuple[int, ...]]) -> 
 
 
 class Epoch:
-    """What is heard at a time of week, in the order of the satellites."""
+    """What is heard of a system at a reading of its clock, in the order of the satellites."""
 
-    def __init__(self, tow: int, heard: list[Heard]) -> None:
-        self.tow = tow
+    def __init__(self, clock: int, heard: list[Heard]) -> None:
+        self.clock = clock
         self.heard = heard
         self.satellites = tuple(it.satellite for it in heard)
 
@@ -138,7 +159,7 @@ class Epoch:
         """A message of which the header is written."""
         width, head, place = head_of(number, self.satellites, more)
         bits = BitWriter()
-        bits.put(width, head | self.tow << place)
+        bits.put(width, head | self.clock << place)
         return bits
 
     @cached_property
@@ -152,13 +173,13 @@ class Epoch:
             bits.put(LEGACY.width, row)
         return frame_of(bits.to_bytes())
 
-    def msm(self, number: int) -> bytes:
-        """A frame of an MSM."""
-        bits = self.begun(number)
+    def msm(self, number: int, more: int = 0) -> bytes:
+        """A frame of an MSM, which says whether more messages of this epoch follow."""
+        bits = self.begun(number, more)
         for it in self.heard:
             bits.put(2, 0b11 if len(it.cells) > 1 else 0b10)
-        put_columns(bits, MSM_SATELLITE[number], [satellite_row(it, number) for it in self.heard])
-        put_columns(bits, MSM_CELL[number], [row for it in self.heard for row in cell_rows(it, number)])
+        put_columns(bits, MSM_SATELLITE[like(number)], [satellite_row(it, number) for it in self.heard])
+        put_columns(bits, MSM_CELL[like(number)], [row for it in self.heard for row in cell_rows(it, number)])
         return frame_of(bits.to_bytes())
 
 
@@ -185,14 +206,18 @@ class Band:
 
 
 class Sky:
-    """32 satellites that rise at different times."""
+    """The satellites of a system, which rise at different times."""
 
-    def __init__(self, seed: int) -> None:
-        self.rng = Random(f"sky {seed}")
-        places = list(range(32))
+    def __init__(self, seed: int, letter: str = "G") -> None:
+        self.rng = Random(f"sky {seed}" if letter == "G" else f"sky {seed} {letter}")
+        count, codes = HEARD[letter]
+        places = list(range(count))
         self.rng.shuffle(places)
-        self.shifts = [int(PERIOD * (place + self.rng.random()) / 32) for place in places]
-        self.bands = [[Band(self.rng, wave) for wave in WAVES] for _ in places]
+        self.shifts = [int(PERIOD * (place + self.rng.random()) / count) for place in places]
+        carriers = [[carrier(BY_LETTER[letter], code, CHANNELS.get(at + 1)) or 0 for code in codes] for at in range(count)]
+        self.bands = [[Band(self.rng, LIGHT / it) for it in both] for both in carriers]
+        # of the ionosphere, as multiples of that of the first band
+        self.delays = [[(both[0] / it) ** 2 for it in both] for both in carriers]
 
     def heard(self, ms: int) -> Iterator[Heard]:
         clock = 300 * sin(ms / 4e6)  # of the receiver, in m
@@ -211,7 +236,7 @@ class Sky:
         cells = []
         for number, band in enumerate(self.bands[at][: 1 if since < UNLOCKED else 2]):
             lock = band.lock(ms, ms - since)
-            delay = (3 + 9 * away) * DELAYS[number]
+            delay = (3 + 9 * away) * self.delays[at][number]
             range = length + delay + (noise & 255) / 400
             phase = length - delay + band.cycles + (noise >> 8 & 255) / 60_000
             cells.append(Cell(range, phase, lock, strength - 4 * number))
@@ -219,9 +244,15 @@ class Sky:
         return Heard(at + 1, 4 * 3.4e6 * place / (PASS / 1000), cells)
 
 
-def epochs(seed: int, count: int, first: int) -> Iterator[Epoch]:
+def epochs(seed: int, count: int, first: int, letter: str = "G") -> Iterator[Epoch]:
     """So many epochs, each a second after the one before, from a time of week on."""
     assert first + 1000 * count <= WEEK_MS
-    sky = Sky(seed)
+    sky = Sky(seed, letter)
     for ms in range(0, 1000 * count, 1000):
-        yield Epoch(first + ms, list(sky.heard(ms)))
+        yield Epoch(clock_of(BY_LETTER[letter], WEEK + first + ms), list(sky.heard(ms)))
+
+
+def together(systems: dict[str, Epoch], kind: int) -> bytes:
+    """The frames of one epoch of several systems, an MSM of this kind for each."""
+    last = len(systems) - 1
+    return b"".join(its.msm(number_of(BY_LETTER[it], kind), int(at < last)) for at, (it, its) in enumerate(systems.items()))

@@ -33,7 +33,7 @@ NOTE = re.compile(r" *(?://|#) (pins|refuses): (.*)$")
 STRING = r'"([^"]*)"'
 RUST = r"fn (\w+)\(", r"(?:const|static) (\w+)", STRING
 PYTHON = r"(?:def|class) (\w+)", r"yield \w+\((.*)\)", STRING
-SHELL = (r"\b(?:fails|finds|leaves|expect|header|marker|refused_alike|bad_\w+|follow|same|right|as_at_a_pipe|well) ([\w\"'${}.-]+)",)
+SHELL = (r"\b(?:fails|finds|leaves|expect|header|marker|refused_alike|bad|bad_\w+|follow|same|right|as_at_a_pipe|well|kept|absent) ([\w\"'${}.-]+)",)
 
 
 class Pinnable(NamedTuple):
