@@ -3,7 +3,7 @@ use Rattle.std.proofs.Common.{◌≡◌, ◌<◌, ◌+◌, ◌^◌, ℕ, List, [
 use Rattle.rtk_obs.specs.declared.code.Code.{Code}
 use Rattle.rtk_obs.specs.Calendar.{ReadsAs}
 use Rattle.rtk_rinex.specs.Header.{IsMarker}
-use Rattle.rtk_rinex.specs.Reading.{IsMoment, reading_of}
+use Rattle.rtk_obs.specs.Reading.{IsMoment, reading_of}
 use Rattle.rtk_rinex.specs.Record.{EpochTableView}
 use Rattle.rtk_tracking.specs.Epochs.{capped}
 use Rattle.rtk_chart.specs.Epochs.{slips_in, returns_in, rises_in}

@@ -11,7 +11,7 @@ use Rattle.rtk_obs.specs.declared.time.Civil.{Civil}
 use Rattle.rtk_obs.specs.Calendar.{ReadsAs}
 use Rattle.rtk_obs.proofs.PublicLaws.{one_moment}
 use Rattle.rtk_obs.specs.CivilText.{last_digits, date_text, clock_text, civil_text}
-use Rattle.rtk_rinex.specs.Reading.{reading_of}
+use Rattle.rtk_obs.specs.Reading.{reading_of}
 use Rattle.rtk_tracking.specs.Epochs.{capped}
 use Rattle.rtk_chart.specs.Heading.{seconds_text, interval_lines}
 use Rattle.rtk_chart.specs.TextPicture.{named_count_line, moment_line}

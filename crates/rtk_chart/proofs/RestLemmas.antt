@@ -14,7 +14,7 @@ use Rattle.rtk_obs.specs.declared.time.Civil.{Civil}
 use Rattle.rtk_obs.specs.declared.code.Band.{Band}
 use Rattle.rtk_obs.specs.declared.code.Band.TheVariants.{L1, L2, L5}
 use Rattle.rtk_obs.specs.declared.code.Code.{Code}
-use Rattle.rtk_rinex.specs.Reading.{reading_of}
+use Rattle.rtk_obs.specs.Reading.{reading_of}
 use Rattle.rtk_rinex.specs.Record.{EpochTableView}
 use Rattle.rtk_tracking.specs.Epochs.{capped}
 use Rattle.rtk_tracking.specs.Extremes.{lesser, greater}

@@ -1,6 +1,6 @@
 -- The time bins of a picture, each drawn as a column (this project's rule).
 use Rattle.std.specs.Prelude.{◌≡◌, ◌≤◌, ◌<◌, ℕ, ◌+◌, ◌-◌, ◌*◌, ◌/◌, Option, None, Some, max, min}
-use Rattle.rtk_rinex.specs.Reading.{IsMoment}
+use Rattle.rtk_obs.specs.Reading.{IsMoment}
 use Rattle.rtk_chart.specs.declared.scale.Scale.{Scale}
 
 -- formula

@@ -4,7 +4,7 @@ use Rattle.std.specs.List.{list_any, range_with_len}
 use Rattle.rtk_obs.specs.declared.code.Code.{Code}
 use Rattle.rtk_obs.specs.Code.{name_of}
 use Rattle.rtk_obs.specs.CivilText.{civil_text}
-use Rattle.rtk_rinex.specs.Reading.{reading_of}
+use Rattle.rtk_obs.specs.Reading.{reading_of}
 use Rattle.rtk_chart.specs.Grid.{no_bin, tracking_at, is_out}
 use Rattle.rtk_chart.specs.Signs.{is_tracked, has_slip, has_return, has_rise, has_half, least_level, is_drawn, has_code, is_never, is_missing}
 use Rattle.rtk_chart.specs.Heading.{interval_lines}

@@ -1,7 +1,7 @@
 -- Ticks along the time of a picture (this project's rule): at whole seconds, minutes, hours or days.
 use Rattle.std.specs.Prelude.{ℕ, ◌+◌, ◌-◌, ◌*◌, ◌/◌, nat_le, nat_lt, List, [], ◌∷◌, Option, None, Some, unwrap_or, min, if◌then◌else◌}
 use Rattle.std.specs.List.{find}
-use Rattle.rtk_rinex.specs.Reading.{reading_of}
+use Rattle.rtk_obs.specs.Reading.{reading_of}
 use Rattle.rtk_obs.specs.CivilText.{date_text, clock_text}
 use Rattle.rtk_chart.specs.Scale.{bin_start}
 use Rattle.rtk_chart.specs.declared.scale.Scale.{Scale}

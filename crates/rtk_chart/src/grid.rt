@@ -2,7 +2,7 @@
 
 ghost use Rattle.std.specs.Prelude.{◌≡◌, ◌<◌, ◌*◌, ◌&&◌, nat_le, ℕ, Some, List, [], ◌∷◌, length, get_or, IfOk};
 ghost use Rattle.rtk_obs.specs.declared.code.Code.{Code};
-ghost use Rattle.rtk_rinex.specs.Reading.{IsMoment};
+ghost use Rattle.rtk_obs.specs.Reading.{IsMoment};
 ghost use Rattle.rtk_rinex.specs.Record.{EpochTableView};
 ghost use Rattle.rtk_tracking.specs.Interval.{missing_before};
 ghost use Rattle.rtk_chart.specs.Scale.{IsScale};

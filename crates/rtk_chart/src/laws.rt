@@ -6,7 +6,7 @@ ghost use Rattle.rtk_chart.specs.MarkLaws.{CodesShowEpochs, SatellitesShowEpochs
 ghost use Rattle.rtk_chart.specs.HeadingLaws.{TablesHaveNumbers, TextHasHeading, EqualTextHeadings, SvgHasHeading, EqualSvgHeadings};
 ghost use Rattle.rtk_chart.specs.SizeLaws.{SvgHasItsHeight, DaysFitScreen, NoneIsHigher, BarsAreSmall, NoBarIsLarger, BandsAreSmall, PicturesAreSmall, DaysAreSmall};
 
-use rtk_rinex::one_reading;
+use rtk_obs::one_reading;
 use rtk_tracking::bits_are_of_three_kinds;
 
 /// A bin, which is drawn as a column, is as few intervals long as leave room for the file: so long,

@@ -1,7 +1,7 @@
 //! In which bins satellites have an outage. The 32 satellites of a bin stand side by side in one list.
 
 ghost use Rattle.std.specs.Prelude.{◌≡◌, ◌≤◌, ◌<◌, ◌*◌, ◌/◌, ◌%◌, ◌==◌, ◌&&◌, nat_le, List, [], ◌∷◌, length, IfOk};
-ghost use Rattle.rtk_rinex.specs.Reading.{IsMoment};
+ghost use Rattle.rtk_obs.specs.Reading.{IsMoment};
 ghost use Rattle.rtk_rinex.specs.Record.{EpochTableView};
 ghost use Rattle.rtk_tracking.specs.Epochs.{newest_moment};
 ghost use Rattle.rtk_chart.specs.Scale.{IsScale};

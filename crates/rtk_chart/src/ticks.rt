@@ -70,7 +70,7 @@ pub(crate) fn tick_at(scale: &Scale, step: u64, bin: u64) -> Option<GpsMs>
 }
 
 /// Appends what stands at a tick.
-#[tactic(auto, using(rtk_rinex::proofs::PublicLaws::reading_is), unfolding(crate::specs::Ticks::tick_label))]
+#[tactic(auto, using(rtk_obs::proofs::PublicLaws::reading_is), unfolding(crate::specs::Ticks::tick_label))]
 pub(crate) fn put_tick_label(text: &mut Vec<u8>, step: u64, moment: GpsMs) -> Result<(), AllocError>
     ensures { OnOk result (text.new.items ≡ text.old.items ++ tick_label step moment) }
 {

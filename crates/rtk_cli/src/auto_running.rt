@@ -201,7 +201,9 @@ fn convert_beside<R: Files + Eprint + AllocGlobal, W: Write + Drop>(
     }
 }
 
-// Gives a file that was converted its name, or else says why not. A file without a record replaces none.
+// Gives a file that was converted its name, or else says why not. A file without a record replaces none. It is no part of its caller:
+// the calls of the system hold names on the stack, and the conversion, which the caller calls before, needs that room.
+#[inline(never)]
 fn name_converted<R: Files + Eprint + AllocGlobal>(
     rt: &R,
     whole: Beside<R::File>,

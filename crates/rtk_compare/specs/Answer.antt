@@ -4,7 +4,7 @@ use Rattle.rtk_obs.specs.declared.any_code.AnyCode.{AnyCode}
 use Rattle.rtk_obs.specs.AnyCode.{name_of, text_of}
 use Rattle.rtk_obs.specs.CivilText.{civil_text}
 use Rattle.rtk_obs.specs.SatelliteIndex.{index_name}
-use Rattle.rtk_rinex.specs.Reading.{reading_of}
+use Rattle.rtk_obs.specs.Reading.{reading_of}
 use Rattle.rtk_compare.specs.declared.difference.Class.{Class}
 use Rattle.rtk_compare.specs.declared.difference.Class.TheVariants.{Lost, Changed, Explained}
 use Rattle.rtk_compare.specs.declared.difference.What.{What}

@@ -1,7 +1,7 @@
 //! The text of what was found, as lines or as JSON.
 
 ghost use Rattle.std.specs.Prelude.{◌≡◌, ◌++◌, ◌||◌, nat_lt, length, OnOk, IfOk, flat_map};
-ghost use Rattle.rtk_rinex.specs.Reading.{reading_of};
+ghost use Rattle.rtk_obs.specs.Reading.{reading_of};
 ghost use Rattle.rtk_compare.specs.Answer.{in_form, class_word, what_word, keyed_word, epoch_word, satellite_text, time_of_place, satellite_of_place, code_of_place, slot_of_place, place_text, class_text, difference_text, count_text, class_counts, more_line, class_lines, lines_text, object_text, objects_text, json_of, answer_text};
 ghost use Rattle.rtk_compare.specs.declared.form.Form.TheVariants.{Lines, Json};
 

@@ -23,12 +23,11 @@ use Rattle.rtk_obs.specs.declared.signal_cells.SignalEntry.{SignalEntry}
 use Rattle.rtk_obs.specs.AnyCode.{code_of_gps}
 use Rattle.rtk_obs.specs.AnyCode as any_code
 use Rattle.rtk_obs.specs.Cell.{IsSatellite}
-use Rattle.rtk_obs.proofs.PublicLaws.{cells_of-satellites}
+use Rattle.rtk_obs.proofs.PublicLaws.{cells_of-satellites, entries-of-gps, number-of-gps, place_bound, same_signal}
 use Rattle.rtk_obs.specs.Code.{place_of}
 use Rattle.rtk_obs.specs.MessageCells.{cells_of}
 use Rattle.rtk_obs.specs.SatelliteIndex.{letter_of}
 use Rattle.rtk_obs.specs.SignalCells.{signal_of, entries_of}
-use Rattle.rtk_obs.proofs.PublicLaws.{entries-of-gps, number-of-gps, place_bound, same_signal}
 use Rattle.rtk_collect.specs.declared.conflicts.AnySatelliteCode.{AnySatelliteCode}
 use Rattle.rtk_collect.specs.declared.conflicts.SatelliteCode.{SatelliteCode}
 use Rattle.rtk_collect.specs.declared.outcome.Outcome.{Outcome}

@@ -24,7 +24,7 @@ use Rattle.rtk_collect.specs.Late.{late}
 use Rattle.rtk_collect.specs.Accepted.{first, station, no_cells, with_arrival, kept}
 use Rattle.rtk_collect.proofs.PublicLaws.{with_cells-all, with_arrival-new, with_arrival-below, with_arrival-same, kept-falls, kept-late, kept-new}
 use Rattle.rtk_rinex.specs.Header.{IsPositionView}
-use Rattle.rtk_rinex.specs.Reading.{IsMoment}
+use Rattle.rtk_obs.specs.Reading.{IsMoment}
 use Rattle.rtk_rinex.specs.MixedTable.{MixedTable, IsMixedTable, mixed_table_text}
 use Rattle.rtk_convert.specs.declared.frame_class.FrameClass.{FrameClass}
 use Rattle.rtk_convert.specs.declared.frame_class.FrameClass.TheVariants.{OtherMessage, Refused, Foreign, Dated}

@@ -5,7 +5,7 @@ use Rattle.rtk_message.specs.declared.system.System.TheVariants.{Gps, Glonass, G
 use Rattle.rtk_obs.specs.Clocks.{IsClockMoment}
 use Rattle.rtk_obs.specs.Dating.{IsDated, IsReference}
 use Rattle.rtk_obs.specs.GlonassTime.{IsMoscowMoment, glonass_time_of}
-use Rattle.rtk_rinex.specs.Reading.{IsMoment}
+use Rattle.rtk_obs.specs.Reading.{IsMoment}
 
 dated-moment : (near tow t : ℕ) → IsReference near → IsDated near tow t → IsMoment t
 dated-moment near tow t r h = let to = r.to in let before = h.before in omega arith

@@ -15,7 +15,7 @@ use Rattle.rtk_obs.specs.CivilText.{last_digits}
 use Rattle.rtk_obs.specs.SatelliteIndex.{satellites_before, system_at, letter_of, name_offset, index_name}
 use Rattle.rtk_rinex.specs.declared.epoch_table.Observed.{Observed}
 use Rattle.rtk_rinex.specs.declared.epoch_table.SatelliteRow.{SatelliteRow}
-use Rattle.rtk_rinex.specs.Reading.{reading_of}
+use Rattle.rtk_obs.specs.Reading.{reading_of}
 use Rattle.rtk_rinex.specs.Record.{EpochTableView, no_observation, observations, trim_end, has_line, satellite_line, epoch_line, lines_of, record_text}
 use Rattle.rtk_rinex.specs.RecordLines.{RecordLinesView, IsFreeIn}
 use Rattle.rtk_rinex.specs.MixedRecord.{MixedLinesView, HoldsMixedLines, mixed_satellite_line, mixed_lines_of, mixed_record_text}

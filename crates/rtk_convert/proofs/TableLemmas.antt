@@ -22,7 +22,7 @@ use Rattle.rtk_obs.specs.SignalCells.{IsSignalInRange}
 use Rattle.rtk_collect.specs.Signals.{signals}
 use Rattle.rtk_collect.specs.EpochSet.{EpochSetView, is_from, FirstIsBelow, EpochsFall}
 use Rattle.rtk_rinex.specs.declared.epoch_table.Observed.{Observed}
-use Rattle.rtk_rinex.specs.Reading.{IsMoment}
+use Rattle.rtk_obs.specs.Reading.{IsMoment}
 use Rattle.rtk_rinex.specs.Header.{PositionView, IsPositionView}
 use Rattle.rtk_rinex.specs.MixedForm.{form_of_head, has_phases, phases_in}
 use Rattle.rtk_rinex.specs.MixedHead.{MixedHeadView}

@@ -5,7 +5,7 @@ use Rattle.rtk_obs.specs.declared.any_code.AnyCode.{AnyCode}
 use Rattle.rtk_obs.specs.AnyCode.{name_of}
 use Rattle.rtk_obs.specs.CivilText.{civil_text, last_digits}
 use Rattle.rtk_obs.specs.SatelliteIndex.{index_name}
-use Rattle.rtk_rinex.specs.Reading.{reading_of}
+use Rattle.rtk_obs.specs.Reading.{reading_of}
 
 -- formula
 -- the epoch of a message; a hyphen for a station message, which has none

@@ -20,7 +20,7 @@ use Rattle.rtk_rinex.specs.MixedForm.{FormView, codes_in, has_channel, phases_in
 use Rattle.rtk_rinex.specs.MixedHead.{GlonassView, MixedHeadView, AreInOrder, IsMixedList, IsMixedHead, IsMixedHeadFault, TellsGlonass, letter}
 use Rattle.rtk_rinex.specs.MixedHeader.{codes_of}
 use Rattle.rtk_rinex.specs.MixedTable.{MixedTable, IsMixedTable, IsMixedRow, IsMixedEpoch}
-use Rattle.rtk_rinex.specs.Reading.{IsMoment}
+use Rattle.rtk_obs.specs.Reading.{IsMoment}
 use Rattle.rtk_rinex.specs.Record.{EpochTableView}
 use Rattle.rtk_cut.specs.declared.kept_systems.KeptSystems.{KeptSystems}
 use Rattle.rtk_cut.specs.KeptSystems.{keeps, kept_codes, kept_glonass, kept_head, keeps_row, kept_epoch, keeps_some, kept_epochs, kept_table}

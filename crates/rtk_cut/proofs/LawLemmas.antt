@@ -4,7 +4,7 @@ use Rattle.std.specs.Prelude.{All, unwrap_or}
 use Rattle.std.specs.List.{filter}
 use Rattle.std.proofs.lemmas.List.Elements.{All-nil, All-filter, All-head, All-weaker}
 use Rattle.std.proofs.lemmas.List.Kept.{AllPairs-filter}
-use Rattle.rtk_rinex.specs.Reading.{IsMoment}
+use Rattle.rtk_obs.specs.Reading.{IsMoment}
 use Rattle.rtk_rinex.specs.Record.{EpochTableView}
 use Rattle.rtk_rinex.specs.Table.{WellFormedTable, IsWellFormedTable, IsTableEpoch, StartsAt}
 use Rattle.rtk_rinex.specs.MixedForm.{FormView, form_of_head}

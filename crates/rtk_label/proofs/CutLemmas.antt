@@ -6,7 +6,7 @@ use Rattle.std.proofs.lemmas.Bool.{cases_order}
 use Rattle.std.proofs.lemmas.List.{drop_at, drop-drop, take-append-drop, take-append-le, drop-append-le, length-drop}
 use Rattle.rtk_rinex.specs.Columns.{left}
 use Rattle.rtk_rinex.specs.Header.{header_line, header_text}
-use Rattle.rtk_rinex.specs.Reading.{date_after}
+use Rattle.rtk_obs.specs.Reading.{date_after}
 use Rattle.rtk_label.specs.Steps.Fronts.{plain_file}
 use Rattle.rtk_label.specs.Steps.Shown.{IsNumberIn}
 use Rattle.rtk_label.proofs.ChoiceLemmas.{blank_or_filled}

@@ -9,7 +9,7 @@ use Rattle.rtk_rinex.specs.Columns.{left, right}
 use Rattle.rtk_rinex.specs.Header.{header_line, types, types_label, first_types_line, continuation_line, last_lines, unit_line, first_line}
 use Rattle.rtk_rinex.specs.MixedHead.{letter}
 use Rattle.rtk_rinex.specs.MixedHeader.{codes_of, types_text, system_types_lines, by_system, phase_shift_line, glonass_lines}
-use Rattle.rtk_rinex.specs.Reading.{reading_of}
+use Rattle.rtk_obs.specs.Reading.{reading_of}
 use Rattle.rtk_rinex.specs.Record.{record_text}
 use Rattle.rtk_rinex.specs.MixedRecord.{mixed_record_text}
 use Rattle.rtk_rinex.specs.Table.{WellFormedTable, IsWellFormedTable}

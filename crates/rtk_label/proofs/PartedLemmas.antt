@@ -4,7 +4,7 @@ use Rattle.std.specs.Prelude.{IfSome}
 use Rattle.std.proofs.lemmas.List.{take_at, drop_at, drop-drop, take-append-drop, length-take-le, append_cancel_left}
 use Rattle.rtk_rinex.specs.Columns.{left, IsField}
 use Rattle.rtk_rinex.specs.Header.{header_line}
-use Rattle.rtk_rinex.specs.Reading.{IsMoment}
+use Rattle.rtk_obs.specs.Reading.{IsMoment}
 use Rattle.rtk_rinex.specs.Table.{WellFormedTable, IsWellFormedTable, table_text}
 use Rattle.rtk_rinex.specs.MixedTable.{MixedTable, IsMixedTable, mixed_table_text}
 use Rattle.rtk_label.specs.Fields.{marker_number_line}

@@ -6,7 +6,7 @@ use Rattle.rtk_rinex.specs.Columns.{left, fixed}
 use Rattle.rtk_rinex.specs.Header.{HeadView, PositionView, IsMarker, IsPositionView, header_line, made_text, made_line, marker_line, place_line, height_line, types_lines, unit_line, first_line, first_text, last_lines, header_text}
 use Rattle.rtk_rinex.specs.MixedHead.{MixedHeadView}
 use Rattle.rtk_rinex.specs.MixedHeader.{version_letter, mixed_version_line, by_system, system_types_lines, phase_shift_line, glonass_lines, mixed_header_text}
-use Rattle.rtk_rinex.specs.Reading.{reading_of}
+use Rattle.rtk_obs.specs.Reading.{reading_of}
 use Rattle.rtk_rinex.specs.Record.{record_text}
 use Rattle.rtk_rinex.specs.MixedRecord.{mixed_record_text}
 use Rattle.rtk_rinex.specs.Table.{WellFormedTable, IsWellFormedTable, table_text}

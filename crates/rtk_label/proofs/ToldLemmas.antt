@@ -5,9 +5,9 @@ use Rattle.std.proofs.lemmas.Bool.Decides.{nat_tests}
 use Rattle.std.proofs.lemmas.Fmt.{length-decimal-le}
 use Rattle.std.proofs.lemmas.List.{append-nil, take_at, drop_at, length-take, length-take-le, length-drop, take-append-drop}
 use Rattle.rtk_obs.specs.declared.time.Civil.{Civil}
-use Rattle.rtk_rinex.specs.Columns.{left, right, decimals, fixed}
+use Rattle.rtk_rinex.specs.Columns.{left, right, decimals, fixed, seconds_of}
 use Rattle.rtk_rinex.specs.Header.{header_line, first_text}
-use Rattle.rtk_rinex.specs.Reading.{IsMoment, CivilDate, next_date, date_after, reading_of, seconds_of}
+use Rattle.rtk_obs.specs.Reading.{IsMoment, CivilDate, next_date, date_after, reading_of}
 use Rattle.rtk_label.specs.TimeLines.{interval_label, last_label, interval_line, last_time_line, asked, extent_lines}
 use Rattle.rtk_label.specs.Steps.Told.{label_end, BeginsWith, HasNoTimeLine, AreTold}
 use Rattle.rtk_label.specs.declared.time_lines.TimeLines.{TimeLines}

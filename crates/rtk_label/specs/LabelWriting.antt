@@ -2,7 +2,7 @@
 -- is the text of one well-formed table at most, so the table is the one whose text it is.
 use Rattle.std.specs.Prelude.{◌≡◌, ◌≢◌, ◌<◌, ℕ, ◌+◌, ◌-◌, ◌*◌, ◌/◌, nat_le, List, [], ◌++◌, length, take, drop, Option, IfSome, if◌then◌else◌}
 use Rattle.rtk_frame.specs.Stream.{with_more, TakesPart}
-use Rattle.rtk_rinex.specs.Reading.{IsMoment}
+use Rattle.rtk_obs.specs.Reading.{IsMoment}
 use Rattle.rtk_rinex.specs.Table.{WellFormedTable, IsWellFormedTable, table_text}
 use Rattle.rtk_rinex.specs.MixedTable.{MixedTable, IsMixedTable, mixed_table_text}
 use Rattle.rtk_label.specs.Labelled.{LabelView, IsLabel, IsFor, front_lines, labelled_text, labelled_with, mixed_front_lines, labelled_mixed_text, labelled_mixed_with}

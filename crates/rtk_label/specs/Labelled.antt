@@ -7,7 +7,7 @@ use Rattle.rtk_rinex.specs.Columns.{left, right, fixed, IsField}
 use Rattle.rtk_rinex.specs.Header.{HeadView, PositionView, header_line, made_text, types_lines, last_lines, unit_line, first_line}
 use Rattle.rtk_rinex.specs.MixedHead.{MixedHeadView}
 use Rattle.rtk_rinex.specs.MixedHeader.{version_letter, mixed_version_line, by_system, system_types_lines, phase_shift_line, glonass_lines}
-use Rattle.rtk_rinex.specs.Reading.{reading_of}
+use Rattle.rtk_obs.specs.Reading.{reading_of}
 use Rattle.rtk_rinex.specs.Record.{record_text}
 use Rattle.rtk_rinex.specs.MixedRecord.{mixed_record_text}
 use Rattle.rtk_rinex.specs.Table.{WellFormedTable, table_text}

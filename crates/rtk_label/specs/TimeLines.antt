@@ -4,7 +4,7 @@
 use Rattle.std.specs.Prelude.{ℕ, nat_lt, Bool, List, [], ◌++◌, codes, pos, Option, None, Some, if◌then◌else◌}
 use Rattle.rtk_rinex.specs.Columns.{fixed}
 use Rattle.rtk_rinex.specs.Header.{header_line, first_text}
-use Rattle.rtk_rinex.specs.Reading.{reading_of}
+use Rattle.rtk_obs.specs.Reading.{reading_of}
 use Rattle.rtk_label.specs.declared.time_lines.TimeLines.{TimeLines}
 
 abbrev pub interval_label : List ℕ

@@ -2,9 +2,8 @@
 
 ghost use Rattle.std.specs.Prelude.{◌≡◌, ◌≢◌, ◌+◌, ◌^◌, ◌<◌, ◌≤◌, [], ◌∷◌, ◌++◌, length, take, drop, pos, decimal, if◌then◌else◌, not, false, ◌&&◌, Decides};
 ghost use Rattle.rtk_obs.specs.CivilText.{last_digits};
-ghost use Rattle.rtk_rinex.specs.Columns.{right, fixed};
+ghost use Rattle.rtk_rinex.specs.Columns.{right, fixed, seconds_of};
 ghost use Rattle.rtk_rinex.specs.Header.{header_line, first_text};
-ghost use Rattle.rtk_rinex.specs.Reading.{seconds_of};
 ghost use Rattle.rtk_label.specs.TimeLines.{interval_line, last_time_line, asked, extent_lines};
 ghost use Rattle.rtk_label.specs.Steps.Told.{AreTold};
 

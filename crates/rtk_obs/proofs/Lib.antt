@@ -2,6 +2,7 @@
 pub mod PublicLaws
 -- Laws on the definitions, and what this crate's functions compute
 mod YearLemmas
+mod ReadingLemmas
 mod CodeLemmas
 mod EqualityLemmas
 mod RoundingLemmas

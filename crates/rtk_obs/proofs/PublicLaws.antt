@@ -3,6 +3,8 @@
 
 -- the clause `one_moment` of `civil_laws`
 pub use Rattle.rtk_obs.proofs.YearLemmas.{one_moment}
+-- the clauses `one` and `reads` of `one_reading`, that two readings with equal fields are the same, and the last year of a moment
+pub use Rattle.rtk_obs.proofs.ReadingLemmas.{reading_is, reading-reads, same_civil, year-bound}
 -- the clause `equality` of `code_laws`
 pub use Rattle.rtk_obs.proofs.EqualityLemmas.{code_same}
 -- the clause `each` of `cells_are_distinct`; the clauses `each`, `satellites` and `kind` of `cells_are_in_range`

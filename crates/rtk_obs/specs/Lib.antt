@@ -1,5 +1,6 @@
 pub mod Dating
 pub mod Calendar
+pub mod Reading
 pub mod CivilText
 pub mod SatelliteIndex
 pub mod LeapSeconds

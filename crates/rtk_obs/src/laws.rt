@@ -30,6 +30,7 @@ ghost use Rattle.rtk_obs.specs.declared.position.Position.{Position};
 ghost use Rattle.rtk_obs.specs.declared.track.Track.{Track};
 ghost use Rattle.rtk_obs.specs.declared.track.Digits.{Digits};
 ghost use Rattle.rtk_obs.specs.Calendar.{ReadsAs};
+ghost use Rattle.rtk_obs.specs.Reading.{IsMoment, reading_of};
 ghost use Rattle.rtk_obs.specs.Dating.{IsDated};
 ghost use Rattle.rtk_obs.specs.declared.glonass_time.GlonassTime.{GlonassTime};
 ghost use Rattle.rtk_obs.specs.LeapSeconds.{IsLeapSecondsAt};
@@ -74,6 +75,12 @@ pub fn civil_laws()
     ensures reads_back { (t : ℕ) (c : Civil) (answer : Option ℕ) → t ≤ LAST_MS → ReadsAs t c
         → MatchOption answer ((s : ℕ) → s ≤ LAST_MS → ¬ (ReadsAs s c)) (λ s. ReadsAs s c) → answer ≡ Some t }
     ensures equality { (a b : Civil) → IsTrue (⟦<Civil as PartialEq>⟧.eq a b) ↔ (a ≡ b) }
+{}
+
+/// A moment has one reading, which `reading_of` gives.
+pub fn one_reading()
+    ensures one { (t : ℕ) (c : Civil) → ReadsAs t c → c ≡ reading_of t }
+    ensures reads { (t : ℕ) → IsMoment t → ReadsAs t (reading_of t) }
 {}
 
 /// A time of week has one date near a reference.

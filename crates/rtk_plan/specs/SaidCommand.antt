@@ -8,7 +8,7 @@ use Rattle.rtk_obs.specs.CivilText.{date_text, clock_text}
 use Rattle.rtk_obs.specs.declared.any_code.AnyCode.{AnyCode}
 use Rattle.rtk_obs.specs.AnyCode.{name_of}
 use Rattle.rtk_rinex.specs.MixedHead.{MixedHeadView}
-use Rattle.rtk_rinex.specs.Reading.{reading_of}
+use Rattle.rtk_obs.specs.Reading.{reading_of}
 use Rattle.rtk_survey.specs.SummaryText.{msm_option}
 use Rattle.rtk_setup.specs.Setup.{SetupView}
 

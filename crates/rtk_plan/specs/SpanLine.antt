@@ -5,7 +5,7 @@ use Rattle.rtk_survey.specs.declared.date_message.DateMessage.{DateMessage}
 use Rattle.rtk_survey.specs.declared.date_message.DateMessage.TheVariants.{Utc, Ephemeris}
 use Rattle.rtk_obs.specs.CivilText.{date_text}
 use Rattle.rtk_obs.specs.declared.time.TheConstants.{LAST_MS}
-use Rattle.rtk_rinex.specs.Reading.{reading_of}
+use Rattle.rtk_obs.specs.Reading.{reading_of}
 use Rattle.rtk_plan.specs.SaidCommand.{time_text}
 use Rattle.rtk_plan.specs.declared.span_line.DateSource.{DateSource}
 use Rattle.rtk_plan.specs.declared.span_line.DateSource.TheVariants.{Words, Station, OtherStation, Ephemerides}

@@ -6,7 +6,7 @@ use Rattle.std.proofs.lemmas.Bool.{cases_Bool, cases_eq, eq-eqb, or_parts}
 use Rattle.std.proofs.lemmas.List.Sums.{sum_by-cons, count_by-le-length}
 use Rattle.std.proofs.Math.Nat.{div-le_of_le-mul}
 use Rattle.rtk_rinex.specs.declared.epoch_table.Observed.{Observed}
-use Rattle.rtk_rinex.specs.Reading.{reading_of}
+use Rattle.rtk_obs.specs.Reading.{reading_of}
 use Rattle.rtk_tracking.specs.Epochs.{capped, shown_at}
 use Rattle.rtk_tracking.specs.Passes.{Sighting, sightings_of, has_phase, begins_pass, is_known, is_kept}
 use Rattle.rtk_tracking.proofs.PublicLaws.{each-bit}

@@ -1,7 +1,7 @@
 -- A run of epochs, and the last hour with slips, an epoch more.
 use Rattle.std.proofs.Common.{◌≡◌, cond, ℕ, Bool, true, false, List, ◌∷◌, Option, None, sym, ap, ◌∙◌}
 use Rattle.rtk_obs.specs.declared.time.Civil.{Civil}
-use Rattle.rtk_rinex.specs.Reading.{reading_of}
+use Rattle.rtk_obs.specs.Reading.{reading_of}
 use Rattle.rtk_rinex.specs.declared.epoch_table.Observed.{Observed}
 use Rattle.rtk_tracking.specs.Passes.{Sighting, has_phase, begins_pass}
 use Rattle.rtk_quality.specs.Hours.{hour_at}

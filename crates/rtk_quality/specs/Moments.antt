@@ -1,7 +1,7 @@
 -- The epochs at which several satellites slip (this project's rule). The epochs are listed newest first, and the
 -- moments oldest first.
 use Rattle.std.specs.Prelude.{ℕ, nat_lt, Bool, List, [], ◌∷◌, ◌++◌, count_by, Option, None, Some, if◌then◌else◌}
-use Rattle.rtk_rinex.specs.Reading.{reading_of}
+use Rattle.rtk_obs.specs.Reading.{reading_of}
 use Rattle.rtk_rinex.specs.Record.{EpochTableView}
 use Rattle.rtk_rinex.specs.declared.epoch_table.SatelliteRow.{SatelliteRow}
 use Rattle.rtk_tracking.specs.Epochs.{capped}

@@ -1,7 +1,7 @@
 -- The passes of a satellite with their spans (this project's rule). What came is listed newest first.
 use Rattle.std.specs.Prelude.{ℕ, nat_lt, not, List, [], ◌∷◌, count_by, Option, is_some, unwrap_or, if◌then◌else◌}
 use Rattle.std.specs.List.{range_with_len}
-use Rattle.rtk_rinex.specs.Reading.{reading_of}
+use Rattle.rtk_obs.specs.Reading.{reading_of}
 use Rattle.rtk_rinex.specs.declared.epoch_table.Observed.{Observed}
 use Rattle.rtk_tracking.specs.Passes.{Sighting, has_phase, begins_pass, outage_before, is_slip}
 use Rattle.rtk_quality.specs.Counts.{plus}

@@ -1,7 +1,7 @@
 //! The hours of a file.
 
 ghost use Rattle.std.specs.Prelude.{◌≡◌, ◌<◌, List, [], ◌++◌, reverse, Some, IfOk, OnOk};
-ghost use Rattle.rtk_rinex.specs.Reading.{reading_of};
+ghost use Rattle.rtk_obs.specs.Reading.{reading_of};
 ghost use Rattle.rtk_quality.specs.Hours.{hour_at, start_of};
 ghost use Rattle.rtk_quality.specs.Steps.Noted.{since_hour, missing_since, missing_until, no_locks, locks_plus, without_records, with_record, ended_hour, hour_onto, ended_by, list_of_hour, hours_with, AreHours};
 

@@ -1,7 +1,7 @@
 //! The times at which codes of satellites are missing.
 
 ghost use Rattle.std.specs.Prelude.{◌≡◌, ◌<◌, ◌≤◌, ◌++◌, map, not, ℕ, List, [], ◌∷◌, Option, None, length, IfOk, OnOk};
-ghost use Rattle.rtk_rinex.specs.Reading.{reading_of};
+ghost use Rattle.rtk_obs.specs.Reading.{reading_of};
 ghost use Rattle.rtk_rinex.specs.Record.{EpochTableView};
 ghost use Rattle.rtk_tracking.specs.Passes.{Sighting, has_phase, begins_pass};
 ghost use Rattle.rtk_quality.specs.Largest.{list_of, AreLargest};

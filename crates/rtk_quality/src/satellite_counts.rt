@@ -2,7 +2,7 @@
 
 ghost use Rattle.std.specs.Prelude.{◌≡◌, ◌<◌, ℕ, ◌&&◌, not, List, [], ◌∷◌, Option, None, Some, if◌then◌else◌};
 ghost use Rattle.std.specs.List.{list_any};
-ghost use Rattle.rtk_rinex.specs.Reading.{reading_of};
+ghost use Rattle.rtk_obs.specs.Reading.{reading_of};
 ghost use Rattle.rtk_tracking.specs.Passes.{Sighting, last_record, has_phase, begins_pass, is_kept, is_slip, is_return};
 ghost use Rattle.rtk_tracking.specs.Standing.{AreMarked, AreKnown};
 ghost use Rattle.rtk_tracking.specs.Epochs.{shown_at};

@@ -9,7 +9,7 @@ use Rattle.std.proofs.lemmas.List.Kept.{AllPairs-cons}
 use Rattle.std.proofs.lemmas.List.Sums.{sum_by-append}
 use Rattle.rtk_obs.specs.declared.time.Civil.{Civil}
 use Rattle.rtk_obs.specs.CivilText.{last_digits}
-use Rattle.rtk_rinex.specs.Reading.{reading_of}
+use Rattle.rtk_obs.specs.Reading.{reading_of}
 use Rattle.rtk_rinex.specs.Record.{EpochTableView, observations, has_line, trim_end, epoch_line, satellite_line, record_text}
 use Rattle.rtk_rinex.specs.Table.{IsTableRow, IsTableEpoch}
 use Rattle.rtk_rinex.specs.CheckLine.{IsNextSatellite, IsNextTime, IsEpochFault, IsSatelliteFault}

@@ -6,11 +6,12 @@ use Rattle.rtk_obs.specs.CivilText.{last_digits}
 use Rattle.rtk_rinex.proofs.ColumnsLemmas.{right-front}
 use Rattle.std.proofs.lemmas.Fmt.{length-decimal-le}
 use Rattle.rtk_obs.specs.declared.time.Civil.{Civil}
-use Rattle.rtk_rinex.specs.Columns.{right, decimals}
-use Rattle.rtk_rinex.specs.Reading.{IsMoment, reading_of, seconds_of}
+use Rattle.rtk_rinex.specs.Columns.{right, decimals, seconds_of}
+use Rattle.rtk_obs.specs.Reading.{IsMoment, reading_of}
 use Rattle.rtk_rinex.specs.Record.{epoch_date_text, epoch_columns, epoch_line}
 use Rattle.rtk_rinex.specs.Steps.CheckValues.{seconds_in, civil_in, count_in}
-use Rattle.rtk_rinex.proofs.ReadingLemmas.{same_civil, FitsColumns, FitsColumns-reading_of}
+use Rattle.rtk_obs.proofs.PublicLaws.{same_civil}
+use Rattle.rtk_rinex.proofs.ReadingLemmas.{FitsColumns, FitsColumns-reading_of}
 use Rattle.rtk_rinex.proofs.DigitsLemmas.{digits_from-last_2, digits_from-last_4, digits_from-seconds, digits_from-right, length-right, take-exact, drop-exact}
 
 pub length-seconds : (n : ℕ) → n < 10 ^ 10 → length (right 11 (decimals 7 false n)) ≡ 11

@@ -8,7 +8,7 @@ use Rattle.rtk_obs.specs.declared.any_code.AnyCode.{AnyCode}
 use Rattle.rtk_obs.specs.declared.any_code.AnyCode.TheVariants.{G1C}
 use Rattle.rtk_obs.specs.Code as gps
 use Rattle.rtk_obs.specs.AnyCode.{name_of, text_of}
-use Rattle.rtk_rinex.specs.Reading.{reading_of}
+use Rattle.rtk_obs.specs.Reading.{reading_of}
 use Rattle.rtk_rinex.specs.Header.{header_line, version_line, made_line, marker_line, position_lines, types_of, types, types_lines, unit_line, first_line, header_text}
 use Rattle.rtk_rinex.specs.MixedHead.{letter}
 use Rattle.rtk_rinex.specs.MixedHeader.{version_letter, codes_of, three_types, types_text, types_lines_of, system_types_lines, phase_shift_line, by_system, mixed_header_text, GpsFilesStay}

@@ -9,8 +9,8 @@ use Rattle.rtk_obs.specs.declared.code.Code.{Code}
 use Rattle.rtk_obs.specs.declared.code.Code.TheVariants.{G1C, G1P, G1W, G1S, G1L, G1X, G2C, G2D, G2P, G2W, G2S, G2L, G2X, G5I, G5Q, G5X}
 use Rattle.rtk_obs.specs.Coordinates.{IsCoordinate}
 use Rattle.rtk_obs.specs.CivilText.{last_digits}
-use Rattle.rtk_rinex.specs.Columns.{left, right, decimals, fixed}
-use Rattle.rtk_rinex.specs.Reading.{IsMoment, reading_of, seconds_of}
+use Rattle.rtk_rinex.specs.Columns.{left, right, decimals, fixed, seconds_of}
+use Rattle.rtk_obs.specs.Reading.{IsMoment, reading_of}
 use Rattle.rtk_rinex.specs.Header.{made_text, types_of, types, types_label, first_text}
 use Rattle.rtk_rinex.specs.Lines.{HasNoEnd}
 use Rattle.rtk_rinex.proofs.ReadingLemmas.{FitsColumns-reading_of}

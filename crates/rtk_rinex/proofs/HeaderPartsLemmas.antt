@@ -8,13 +8,12 @@ use Rattle.std.proofs.lemmas.List.Elements.{All-head, All-tail}
 use Rattle.rtk_obs.specs.declared.code.Code.{Code}
 use Rattle.rtk_obs.specs.declared.time.Civil.{Civil}
 use Rattle.rtk_obs.specs.Calendar.{ReadsAs}
-use Rattle.rtk_obs.proofs.PublicLaws.{one_moment}
-use Rattle.rtk_rinex.specs.Reading.{IsMoment, reading_of}
+use Rattle.rtk_obs.proofs.PublicLaws.{one_moment, reading-reads}
+use Rattle.rtk_obs.specs.Reading.{IsMoment, reading_of}
 use Rattle.rtk_rinex.specs.Header.{HeadView, PositionView}
 use Rattle.rtk_rinex.specs.HeaderFault.{AreLines}
 use Rattle.rtk_rinex.specs.Lines.{HasNoEnd, text_of}
 use Rattle.rtk_rinex.specs.Steps.HeaderRead.{ShowsHeader}
-use Rattle.rtk_rinex.proofs.ReadingLemmas.{reading-reads}
 use Rattle.rtk_rinex.proofs.HeaderShownLemmas.{made_is, marker_is, place_is, height_is, first_is}
 use Rattle.rtk_rinex.proofs.HeaderRowsLemmas.{line_of, ended, Values, IsGood, text_with, made_row, marker_row, place_row, height_row, types_part, first_row, from_unit, all_parts, all_text}
 use Rattle.rtk_rinex.proofs.HeaderGoodLemmas.{all_lines}

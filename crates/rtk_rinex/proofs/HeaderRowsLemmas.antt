@@ -8,7 +8,7 @@ use Rattle.rtk_obs.specs.declared.code.Code.{Code}
 use Rattle.rtk_obs.specs.declared.code.Code.TheVariants.{G1C, G1P, G1W, G1S, G1L, G1X, G2C, G2D, G2P, G2W, G2S, G2L, G2X, G5I, G5Q, G5X}
 use Rattle.rtk_obs.specs.Code.{name_of}
 use Rattle.rtk_rinex.specs.Columns.{left, right, fixed}
-use Rattle.rtk_rinex.specs.Reading.{IsMoment, reading_of}
+use Rattle.rtk_obs.specs.Reading.{IsMoment, reading_of}
 use Rattle.rtk_rinex.specs.Lines.{text_of}
 use Rattle.rtk_rinex.specs.Header.{HeadView, PositionView, IsHeadView, IsPositionView, header_line, made_text, types_of, types, types_label, continuation_line, types_lines, first_text, header_text}
 

@@ -11,14 +11,14 @@ use Rattle.rtk_obs.specs.Calendar.{ReadsAs}
 use Rattle.rtk_obs.specs.Coordinates.{IsCoordinate, AreCoordinates}
 use Rattle.rtk_obs.specs.PositionFields.{HasFields}
 use Rattle.rtk_obs.specs.declared.position.Position.{Position}
-use Rattle.rtk_obs.proofs.PublicLaws.{one_moment}
-use Rattle.rtk_rinex.specs.Columns.{left, right, decimals, fixed}
-use Rattle.rtk_rinex.specs.Reading.{IsMoment, reading_of, seconds_of}
+use Rattle.rtk_obs.proofs.PublicLaws.{one_moment, same_civil, reading-reads}
+use Rattle.rtk_rinex.specs.Columns.{left, right, decimals, fixed, seconds_of}
+use Rattle.rtk_obs.specs.Reading.{IsMoment, reading_of}
 use Rattle.rtk_rinex.specs.Record.{trim_end}
 use Rattle.rtk_rinex.specs.Header.{header_line, made_line, marker_line, place_line, height_line, first_types_line, types_label, first_text, first_line, IsMarker, PositionView, IsPositionView}
 use Rattle.rtk_rinex.specs.Steps.Digits.{digits_from, number_in}
 use Rattle.rtk_rinex.specs.Steps.HeaderShown.{number_at, made_civil, first_civil}
-use Rattle.rtk_rinex.proofs.ReadingLemmas.{same_civil, FitsColumns, FitsColumns-reading_of, reading-reads}
+use Rattle.rtk_rinex.proofs.ReadingLemmas.{FitsColumns, FitsColumns-reading_of}
 use Rattle.rtk_rinex.proofs.RecordLemmas.{trim_end-blank, trim_end-done}
 use Rattle.rtk_rinex.proofs.DigitsLemmas.{digits_from-last_2, digits_from-last_4, digits_from-seconds, digits_from-right, digits_from-tenthousandths, number_of-fixed_4, length-left, take-exact, piece, length-right}
 

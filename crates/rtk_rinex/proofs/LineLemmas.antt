@@ -12,8 +12,8 @@ use Rattle.rtk_obs.specs.declared.time.Civil.{Civil}
 use Rattle.rtk_rinex.specs.declared.epoch_table.Observed.{Observed}
 use Rattle.rtk_rinex.specs.declared.epoch_table.SatelliteRow.{SatelliteRow}
 use Rattle.rtk_obs.specs.CivilText.{last_digits}
-use Rattle.rtk_rinex.specs.Columns.{right, decimals, fixed, is_negative}
-use Rattle.rtk_rinex.specs.Reading.{IsMoment, reading_of, seconds_of}
+use Rattle.rtk_rinex.specs.Columns.{right, decimals, fixed, is_negative, seconds_of}
+use Rattle.rtk_obs.specs.Reading.{IsMoment, reading_of}
 use Rattle.rtk_rinex.specs.Record.{is_written, observation, observations, lli_digit, strength_digit, strength_value, before_trimmed, trim_end, satellite_line, epoch_date_text, epoch_columns, epoch_line}
 use Rattle.rtk_rinex.specs.Lines.{HasNoEnd, IsLine}
 use Rattle.rtk_rinex.proofs.ValuesLemmas.{written-magnitude}

@@ -12,7 +12,7 @@ use Rattle.rtk_obs.specs.declared.time.Civil.{Civil}
 use Rattle.rtk_obs.specs.SatelliteIndex.{index_name, system_at, bit_at, letter_of}
 use Rattle.rtk_rinex.specs.declared.epoch_table.Observed.{Observed}
 use Rattle.rtk_rinex.specs.declared.epoch_table.SatelliteRow.{SatelliteRow}
-use Rattle.rtk_rinex.specs.Reading.{reading_of}
+use Rattle.rtk_obs.specs.Reading.{reading_of}
 use Rattle.rtk_rinex.specs.Record.{EpochTableView, is_present, is_written, has_line, trim_end}
 use Rattle.rtk_rinex.specs.Table.{IsObserved, shown_value, shown, shown_row, shown_epoch}
 use Rattle.rtk_rinex.specs.MixedHead.{MixedHeadView}

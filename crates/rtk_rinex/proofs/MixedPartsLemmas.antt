@@ -4,7 +4,7 @@ use Rattle.std.specs.List.{list_all}
 use Rattle.rtk_obs.specs.declared.any_code.AnyCode.{AnyCode}
 use Rattle.rtk_obs.specs.AnyCode.{system_of}
 use Rattle.rtk_rinex.specs.Columns.{right, fixed}
-use Rattle.rtk_rinex.specs.Reading.{IsMoment, reading_of}
+use Rattle.rtk_obs.specs.Reading.{IsMoment, reading_of}
 use Rattle.rtk_rinex.specs.Header.{PositionView, IsMarker, IsPositionView, header_line, made_line, marker_line, place_line, height_line, unit_line, first_line}
 use Rattle.rtk_rinex.specs.Lines.{HasNoEnd}
 use Rattle.rtk_rinex.specs.MixedHead.{GlonassView, MixedHeadView, letter, IsMixedHead, TellsGlonass}

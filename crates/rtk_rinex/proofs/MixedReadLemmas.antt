@@ -5,7 +5,7 @@ use Rattle.rtk_rinex.specs.Columns.{fixed}
 use Rattle.rtk_rinex.specs.Header.{PositionView, IsMarker, IsPositionView, made_text, first_text, made_line, marker_line, place_line, height_line, first_line}
 use Rattle.rtk_rinex.specs.MixedHead.{MixedHeadView, GlonassView, TellsGlonass}
 use Rattle.rtk_rinex.specs.MixedHeader.{version_letter, mixed_version_line, phase_shift_line, by_system, glonass_lines, unknown_lines}
-use Rattle.rtk_rinex.specs.Reading.{IsMoment, reading_of}
+use Rattle.rtk_obs.specs.Reading.{IsMoment, reading_of}
 use Rattle.rtk_rinex.specs.Steps.HeaderShown.{StartsWith}
 use Rattle.rtk_rinex.specs.Steps.MixedHeaderRead.{Reads, types_and_unit, IsListOf}
 use Rattle.rtk_rinex.specs.Steps.MixedRoom.{IsFileLetter}

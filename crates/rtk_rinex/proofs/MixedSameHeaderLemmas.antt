@@ -13,9 +13,9 @@ use Rattle.rtk_obs.specs.declared.time.Civil.{Civil}
 use Rattle.rtk_obs.specs.AnyCode.{name_of, text_of}
 use Rattle.rtk_obs.specs.Calendar.{ReadsAs}
 use Rattle.rtk_obs.specs.Carriers.{AreChannels, channel_at}
-use Rattle.rtk_obs.proofs.PublicLaws.{one_moment}
+use Rattle.rtk_obs.proofs.PublicLaws.{one_moment, reading-reads}
 use Rattle.rtk_rinex.specs.Columns.{left, right}
-use Rattle.rtk_rinex.specs.Reading.{IsMoment, reading_of}
+use Rattle.rtk_obs.specs.Reading.{IsMoment, reading_of}
 use Rattle.rtk_rinex.specs.Header.{PositionView, header_line, made_line, marker_line, place_line, height_line, types_label, unit_line, first_line}
 use Rattle.rtk_rinex.specs.MixedHead.{GlonassView, TellsGlonass, letter}
 use Rattle.rtk_rinex.specs.MixedHeader.{codes_of, three_types, types_text, types_lines_of, system_types_lines, phase_shift_line, by_system, channel_text, slot_text, slots_text, slots_label, slots_lines, biases_line, leap_line, glonass_lines, unknown_lines, version_letter, mixed_version_line}
@@ -29,7 +29,6 @@ use Rattle.rtk_rinex.proofs.HeaderShownLemmas.{line_rest, line_is, made_is, mark
 use Rattle.rtk_rinex.proofs.MixedListLemmas.{HaveOnePlace}
 use Rattle.rtk_rinex.proofs.MixedPartsLemmas.{MixedValues, IsGoodMixed, mixed_text, end_line, all_is, from_made, from_marker, from_unknown, from_place, from_height, from_types, from_first, from_shift, from_glonass, list_of}
 use Rattle.rtk_rinex.proofs.MixedRoomLemmas.{length-name, length-types_text, three_columns, types_lines-some}
-use Rattle.rtk_rinex.proofs.ReadingLemmas.{reading-reads}
 use Rattle.rtk_rinex.proofs.SlotsReadLemmas.{slot_shown, length-slot_some, length-slots}
 use Rattle.rtk_rinex.proofs.SystemLinesLemmas.{from, types_from, Starts, starts_from, is_apart, starts_apart}
 use Rattle.rtk_rinex.proofs.SystemOrderLemmas.{in_groups, seven}

@@ -6,7 +6,7 @@ use Rattle.std.proofs.lemmas.List.Elements.{All-head, All-tail}
 use Rattle.rtk_rinex.specs.declared.check_fault.CheckFault.{CheckFault}
 use Rattle.rtk_rinex.specs.declared.epoch_table.SatelliteRow.{SatelliteRow}
 use Rattle.rtk_rinex.specs.Columns.{left}
-use Rattle.rtk_rinex.specs.Reading.{IsMoment, reading_of}
+use Rattle.rtk_obs.specs.Reading.{IsMoment, reading_of}
 use Rattle.rtk_rinex.specs.Header.{PositionView, IsPositionView, header_line}
 use Rattle.rtk_rinex.specs.Record.{EpochTableView, epoch_line}
 use Rattle.rtk_rinex.specs.Table.{StartsAt}

@@ -9,14 +9,13 @@ use Rattle.std.proofs.lemmas.List.{append-nil, nil_from_length}
 use Rattle.rtk_rinex.specs.declared.epoch_table.SatelliteRow.{SatelliteRow}
 use Rattle.rtk_obs.specs.declared.time.Civil.{Civil}
 use Rattle.rtk_obs.specs.Calendar.{ReadsAs}
-use Rattle.rtk_rinex.specs.Reading.{IsMoment, reading_of}
+use Rattle.rtk_obs.specs.Reading.{IsMoment, reading_of}
 use Rattle.rtk_rinex.specs.Record.{EpochTableView, epoch_line, satellite_line, record_text}
 use Rattle.rtk_rinex.specs.Table.{IsTableRow, IsTableEpoch, StartsAt}
 use Rattle.rtk_rinex.specs.CheckLine.{IsNextTime, IsNextSatellite}
 use Rattle.rtk_rinex.specs.Lines.{IsLine}
 use Rattle.rtk_rinex.specs.CheckText.{AreEpochs, last_satellite, last_time}
-use Rattle.rtk_rinex.proofs.ReadingLemmas.{reading-reads}
-use Rattle.rtk_obs.proofs.PublicLaws.{one_moment}
+use Rattle.rtk_obs.proofs.PublicLaws.{reading-reads, one_moment}
 use Rattle.rtk_rinex.proofs.EpochLemmas.{epoch-shows, line-columns, length-line}
 use Rattle.rtk_rinex.proofs.RowLemmas.{row-shows}
 use Rattle.rtk_rinex.proofs.CheckLemmas.{record-lines}

@@ -1,9 +1,10 @@
 -- Numbers and texts in columns, by the formats of RINEX 3.05, Tables A2 and A3: Fw.d, Iw, Aw.
 -- Source: RINEX 3.05, Tables A2 and A3
-use Rattle.std.specs.Prelude.{◌≢◌, ◌≤◌, ℕ, ◌-◌, ◌/◌, ◌^◌, List, ◌∷◌, ◌++◌, length, replicate, ℤ, pos, negsuc, unsigned_abs, Bool, true, false, decimal, All, slice_get, Some}
+use Rattle.std.specs.Prelude.{◌≢◌, ◌≤◌, ℕ, ◌+◌, ◌*◌, ◌-◌, ◌/◌, ◌^◌, List, ◌∷◌, ◌++◌, length, replicate, ℤ, pos, negsuc, unsigned_abs, Bool, true, false, decimal, All, slice_get, Some}
 use Rattle.std.specs.Int.{IsInRange}
 use Rattle.std.specs.Fmt.{sign_text}
 use Rattle.rtk_obs.specs.CivilText.{last_digits}
+use Rattle.rtk_obs.specs.declared.time.Civil.{Civil}
 
 -- formula
 -- a text at the right end of w columns, after blanks (Iw of a number's digits)
@@ -37,3 +38,8 @@ decimals k negative n = sign_text negative ++ decimal (n / 10 ^ k) ++ 46 ∷ las
 -- a number of units of 10^-k with k decimals, at the right end of w columns (Fw.k)
 abbrev pub fixed : ℕ → ℕ → ℤ → List ℕ
 fixed k w v = right w (decimals k (is_negative v) (unsigned_abs v))
+
+-- formula
+-- the seconds of a reading in units of 10^-7 s
+abbrev pub seconds_of : Civil → ℕ
+seconds_of c = c.second * 10_000_000 + c.millisecond * 10_000

@@ -9,8 +9,8 @@ use Rattle.rtk_obs.specs.declared.position.Position.{Position}
 use Rattle.rtk_obs.specs.Coordinates.{IsCoordinate}
 use Rattle.rtk_obs.specs.declared.time.Civil.{Civil}
 use Rattle.rtk_obs.specs.CivilText.{last_digits}
-use Rattle.rtk_rinex.specs.Columns.{left, right, decimals, fixed}
-use Rattle.rtk_rinex.specs.Reading.{IsMoment, reading_of, seconds_of}
+use Rattle.rtk_rinex.specs.Columns.{left, right, decimals, fixed, seconds_of}
+use Rattle.rtk_obs.specs.Reading.{IsMoment, reading_of}
 
 -- what is known of a file before its observations: the marker's name, the listed codes, and the
 -- moment at which the file is made (this project's choice)

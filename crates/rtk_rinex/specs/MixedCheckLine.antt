@@ -3,7 +3,7 @@
 use Rattle.std.specs.Prelude.{◌≡◌, ◌≢◌, ◌≤◌, ◌<◌, ℕ, ◌+◌, ◌-◌, ◌*◌, List, take, length, slice_get, Option, Some}
 use Rattle.std.specs.Int.{IsInRange}
 use Rattle.rtk_obs.specs.SatelliteIndex.{IsSatelliteIndex, index_name}
-use Rattle.rtk_rinex.specs.Reading.{IsMoment, reading_of}
+use Rattle.rtk_obs.specs.Reading.{IsMoment, reading_of}
 use Rattle.rtk_rinex.specs.Record.{epoch_line}
 use Rattle.rtk_rinex.specs.MixedRecord.{mixed_satellite_line}
 use Rattle.rtk_rinex.specs.MixedForm.{FormView, width_at, most_satellites}

@@ -2,7 +2,7 @@
 -- not with these and the line of the fault.
 use Rattle.std.specs.Prelude.{◌≡◌, ◌≢◌, ◌<◌, ℕ, ◌+◌, List, [], ◌∷◌, ◌++◌, length, flat_map, Option, Some, None, ◌⊎◌}
 use Rattle.std.specs.Int.{IsInRange}
-use Rattle.rtk_rinex.specs.Reading.{IsMoment, reading_of}
+use Rattle.rtk_obs.specs.Reading.{IsMoment, reading_of}
 use Rattle.rtk_rinex.specs.Record.{EpochTableView, epoch_line}
 use Rattle.rtk_rinex.specs.MixedRecord.{mixed_satellite_line, mixed_record_text}
 use Rattle.rtk_rinex.specs.MixedForm.{FormView, most_satellites}

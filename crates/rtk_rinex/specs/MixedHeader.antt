@@ -9,7 +9,7 @@ use Rattle.rtk_obs.specs.AnyCode.{name_of, text_of}
 use Rattle.rtk_obs.specs.Carriers.{channel_at}
 use Rattle.rtk_obs.specs.CivilText.{last_digits}
 use Rattle.rtk_rinex.specs.Columns.{right}
-use Rattle.rtk_rinex.specs.Reading.{reading_of}
+use Rattle.rtk_obs.specs.Reading.{reading_of}
 use Rattle.rtk_rinex.specs.Header.{HeadView, PositionView, IsHeadView, header_line, made_line, marker_line, position_lines, types_label, continuation_line, unit_line, first_line, header_text}
 use Rattle.rtk_rinex.specs.MixedHead.{GlonassView, MixedHeadView, letter}
 

@@ -1,7 +1,7 @@
 -- What is wrong with the header of a text of any systems: its first line with which no header begins, or
 -- the line that is not whole.
 use Rattle.std.specs.Prelude.{◌≡◌, ℕ, ◌+◌, List, [], ◌∷◌, ◌++◌}
-use Rattle.rtk_rinex.specs.Reading.{IsMoment}
+use Rattle.rtk_obs.specs.Reading.{IsMoment}
 use Rattle.rtk_rinex.specs.Header.{PositionView, IsPositionView}
 use Rattle.rtk_rinex.specs.HeaderFault.{AreLines}
 use Rattle.rtk_rinex.specs.Lines.{HasNoEnd}

@@ -6,8 +6,8 @@ use Rattle.std.specs.List.{flat_map, filter, list_any}
 use Rattle.std.specs.Ordering.{int_eq}
 use Rattle.rtk_obs.specs.declared.time.Civil.{Civil}
 use Rattle.rtk_obs.specs.CivilText.{last_digits}
-use Rattle.rtk_rinex.specs.Columns.{right, fixed, decimals}
-use Rattle.rtk_rinex.specs.Reading.{IsMoment, reading_of, seconds_of}
+use Rattle.rtk_rinex.specs.Columns.{right, fixed, decimals, seconds_of}
+use Rattle.rtk_obs.specs.Reading.{IsMoment, reading_of}
 use Rattle.rtk_rinex.specs.declared.epoch_table.Observed.{Observed}
 use Rattle.rtk_rinex.specs.declared.epoch_table.SatelliteRow.{SatelliteRow}
 

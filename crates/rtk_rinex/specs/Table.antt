@@ -2,7 +2,7 @@
 use Rattle.std.specs.Prelude.{◌≡◌, ◌≢◌, ◌<◌, nat_lt, ℕ, List, [], ◌∷◌, ◌++◌, length, flat_map, map, All, AllPairs, ℤ, Option, Some, None, Bool, false, ◌&&◌, if◌then◌else◌, IsTrue}
 use Rattle.std.specs.Int.{IsInRange}
 use Rattle.std.specs.List.{filter}
-use Rattle.rtk_rinex.specs.Reading.{IsMoment}
+use Rattle.rtk_obs.specs.Reading.{IsMoment}
 use Rattle.rtk_rinex.specs.Header.{HeadView, PositionView, IsHeadView, IsPositionView, header_text}
 use Rattle.rtk_rinex.specs.Record.{EpochTableView, IsEpochTableView, IsStrengthOrNone, HasWidth, is_written, is_present, has_line, record_text}
 use Rattle.rtk_rinex.specs.declared.epoch_table.Observed.{Observed}

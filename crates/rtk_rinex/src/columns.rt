@@ -4,8 +4,7 @@
 
 ghost use Rattle.std.specs.Prelude.{◌≡◌, ℕ, ◌+◌, ◌*◌, ◌/◌, ◌%◌, ◌^◌, ◌<◌, ◌≤◌, ◌∷◌, ◌++◌, length, take, set, replicate, decimal, if◌then◌else◌, false, pos, negsuc, ◌≤ℤ◌};
 ghost use Rattle.rtk_obs.specs.CivilText.{last_digits};
-ghost use Rattle.rtk_rinex.specs.Columns.{right, decimals, fixed};
-ghost use Rattle.rtk_rinex.specs.Reading.{seconds_of};
+ghost use Rattle.rtk_rinex.specs.Columns.{right, decimals, fixed, seconds_of};
 
 use arrayvec::ArrayVec;
 use rtk_obs::Civil;

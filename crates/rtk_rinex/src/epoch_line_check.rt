@@ -2,7 +2,7 @@
 
 ghost use Rattle.std.specs.Prelude.{◌≡◌, ◌≢◌, ℕ, ◌<◌, ◌≤◌, length, MatchOption};
 ghost use Rattle.std.specs.Int.{IsInRange};
-ghost use Rattle.rtk_rinex.specs.Reading.{IsMoment, reading_of};
+ghost use Rattle.rtk_obs.specs.Reading.{IsMoment, reading_of};
 ghost use Rattle.rtk_rinex.specs.Record.{epoch_columns, epoch_line};
 ghost use Rattle.rtk_rinex.specs.Steps.CheckValues.{seconds_in, civil_in, count_in};
 

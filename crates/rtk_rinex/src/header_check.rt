@@ -7,7 +7,7 @@ ghost use Rattle.rtk_rinex.specs.HeaderFault.{AreLines, IsFaultOfHeader};
 ghost use Rattle.rtk_rinex.specs.Steps.HeaderRead.{HasHeader, IsOnlyHeader, ShowsHeader, BeginAlike, IsLineCause, IsUnlike};
 ghost use Rattle.rtk_rinex.specs.Steps.HeaderShown.{StartsWith, line_at, name_at, number_at, made_civil, first_civil, AreAllCodes};
 ghost use Rattle.rtk_rinex.specs.Lines.{HasNoEnd, IsLine};
-ghost use Rattle.rtk_rinex.specs.Reading.{IsMoment, reading_of};
+ghost use Rattle.rtk_obs.specs.Reading.{IsMoment, reading_of};
 ghost use Rattle.std.specs.Int.{IsInRange};
 ghost use Rattle.std.specs.Prelude.{◌≡◌, ◌≢◌, ℕ, ◌+◌, ◌*◌, ◌%◌, ◌/◌, ◌<◌, ◌≤◌, List, [], ◌++◌, length, take, drop, AllPairs, slice_index_or, Some, IfSome, IsSomeAnd, MatchOption, ◌^◌, ◌∷◌, Decides, IfOk, IfErr, OnErr};
 

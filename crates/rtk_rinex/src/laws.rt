@@ -1,18 +1,15 @@
-//! Laws over the definitions of readings, tables and faults; and the law of `==` on faults.
+//! Laws over the definitions of tables and faults; and the law of `==` on faults.
 //!
 //! Each function here does nothing. Its contract is the law, and a caller that calls it may cite
 //! it; proofs of other crates cite the same facts from `proofs/PublicLaws.antt`.
 
 ghost use Rattle.std.specs.Prelude.{◌≡◌, ◌↔◌, ℕ, IsTrue};
-ghost use Rattle.rtk_obs.specs.declared.time.Civil.{Civil};
-ghost use Rattle.rtk_obs.specs.Calendar.{ReadsAs};
 ghost use Rattle.rtk_rinex.specs.CheckTable.{OneFault, FaultMeansNoTable, OneTable, TextIsAccepted};
 ghost use Rattle.rtk_rinex.specs.KeptTable.{TextIsKept};
 ghost use Rattle.rtk_rinex.specs.MixedCheckTable.{MixedOneFault, MixedFaultMeansNoTable, MixedOneTable, MixedTextIsAccepted};
 ghost use Rattle.rtk_rinex.specs.MixedHeader.{GpsFilesStay};
 ghost use Rattle.rtk_rinex.specs.MixedRecord.{GpsRecordsStay};
 ghost use Rattle.rtk_rinex.specs.MixedTable.{MixedFilesAreTables};
-ghost use Rattle.rtk_rinex.specs.Reading.{IsMoment, reading_of};
 ghost use Rattle.rtk_rinex.specs.Table.{RecordsAreOfTables, FilesAreTables};
 ghost use Rattle.rtk_rinex.specs.declared.check_fault.Cause.{Cause};
 ghost use Rattle.rtk_rinex.specs.declared.check_fault.CheckFault.{CheckFault};
@@ -23,12 +20,6 @@ use crate::check_fault::{Cause, CheckFault};
 use crate::head_fault::HeadFault;
 use crate::mixed_head_fault::MixedHeadFault;
 use rtk_obs::{any_code_laws, code_laws};
-
-/// A moment has one reading, which `reading_of` gives.
-pub fn one_reading()
-    ensures one { (t : ℕ) (c : Civil) → ReadsAs t c → c ≡ reading_of t }
-    ensures reads { (t : ℕ) → IsMoment t → ReadsAs t (reading_of t) }
-{}
 
 /// The record of an epoch has no bytes, or it is the record of an epoch of a well-formed table.
 pub fn records_are_of_tables()

@@ -7,7 +7,7 @@ ghost use Rattle.rtk_rinex.specs.HeaderFault.{AreLines};
 ghost use Rattle.rtk_rinex.specs.MixedHead.{GlonassView, IsMixedHead, TellsGlonass};
 ghost use Rattle.rtk_rinex.specs.MixedHeader.{mixed_version_line, leap_line, glonass_lines, mixed_header_text};
 ghost use Rattle.rtk_rinex.specs.MixedHeaderFault.{IsFaultOfMixedHeader, BeginsWithMixedHeader, IsOnlyMixedHeader};
-ghost use Rattle.rtk_rinex.specs.Reading.{IsMoment};
+ghost use Rattle.rtk_obs.specs.Reading.{IsMoment};
 ghost use Rattle.rtk_rinex.specs.Steps.HeaderShown.{StartsWith};
 ghost use Rattle.rtk_rinex.specs.Steps.MixedHeaderRead.{Reads, ShowsMixedHeader};
 ghost use Rattle.rtk_rinex.specs.Steps.MixedRoom.{IsFileLetter};

@@ -35,7 +35,7 @@ impl<'a> MixedTextTable<'a> {
     ghost use Rattle.rtk_rinex.specs.MixedForm.{form_of_head};
     ghost use Rattle.rtk_rinex.specs.MixedRecords.{AreMixedLeft, IsMixedRecordsView};
     ghost use Rattle.rtk_rinex.specs.MixedTable.{MixedTable, IsMixedTable, mixed_table_text};
-    ghost use Rattle.rtk_rinex.specs.Reading.{IsMoment};
+    ghost use Rattle.rtk_obs.specs.Reading.{IsMoment};
 
     // Returns the table whose text this is.
     fn of_text(text: &'a [u8], counts: LineCounts) -> MixedTextTable<'a>

@@ -3,8 +3,7 @@
 ghost use Rattle.std.specs.Prelude.{◌≡◌, ◌+◌, ◌<◌, ◌≤◌, ◌-◌, [], ◌∷◌, ◌++◌, length, take, drop, replicate, codes, decimal, false, IsTrue};
 ghost use Rattle.std.specs.List.{list_any};
 ghost use Rattle.rtk_rinex.specs.Record.{is_written, is_present, observation, observations, strength_digit, strength_value, lli_digit, has_observation, has_line, trim_end, epoch_date_text, epoch_line};
-ghost use Rattle.rtk_rinex.specs.Columns.{right, decimals};
-ghost use Rattle.rtk_rinex.specs.Reading.{seconds_of};
+ghost use Rattle.rtk_rinex.specs.Columns.{right, decimals, seconds_of};
 ghost use Rattle.rtk_rinex.specs.RecordLines.{ended};
 
 use crate::columns::{

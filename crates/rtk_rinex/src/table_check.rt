@@ -42,7 +42,7 @@ impl<'a> Model for TextTable<'a> {
 impl<'a> TextTable<'a> {
     ghost use Rattle.rtk_rinex.specs.CheckTable.{TableView, HoldsTable};
     ghost use Rattle.rtk_rinex.specs.Header.{IsHeadView, IsPositionView, position_view};
-    ghost use Rattle.rtk_rinex.specs.Reading.{IsMoment};
+    ghost use Rattle.rtk_obs.specs.Reading.{IsMoment};
     ghost use Rattle.rtk_rinex.specs.Records.{AreLeft, IsRecordsView};
     ghost use Rattle.rtk_rinex.specs.Table.{WellFormedTable, IsWellFormedTable, table_text};
 

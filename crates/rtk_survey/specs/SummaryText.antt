@@ -13,7 +13,7 @@ use Rattle.rtk_obs.specs.declared.code.Code.{Code}
 use Rattle.rtk_obs.specs.declared.code.Code.TheVariants.{G2P, G2W}
 use Rattle.rtk_obs.specs.CivilText.{last_digits, date_text, clock_text}
 use Rattle.rtk_obs.specs.Code.{name_of, all_codes}
-use Rattle.rtk_rinex.specs.Reading.{reading_of}
+use Rattle.rtk_obs.specs.Reading.{reading_of}
 use Rattle.rtk_survey.specs.Counting.{shown_count}
 use Rattle.rtk_survey.specs.Look.{look_of, look_name}
 use Rattle.rtk_survey.specs.Proposal.{proposed}

@@ -4,7 +4,7 @@
 
 ghost use Rattle.std.specs.Prelude.{◌≡◌, ◌++◌, List, OnOk};
 ghost use Rattle.rtk_survey.specs.declared.date_message.DateMessage.{DateMessage};
-ghost use Rattle.rtk_rinex.specs.Reading.{reading_of};
+ghost use Rattle.rtk_obs.specs.Reading.{reading_of};
 ghost use Rattle.rtk_survey.specs.Contents.{CountsWeeks};
 ghost use Rattle.rtk_survey.specs.Summary.{weeks_text};
 ghost use Rattle.rtk_survey.specs.SummaryText.{date_time_text, near_text, first_date_line, date_line, date_lines, week_line};

@@ -1,7 +1,7 @@
 //! The interval of a file, the epochs that are missing by it, and how near to a moment an epoch counts.
 
 ghost use Rattle.std.specs.Prelude.{◌≡◌, ◌<◌, ◌≤◌, Some, IfOk};
-ghost use Rattle.rtk_rinex.specs.Reading.{IsMoment};
+ghost use Rattle.rtk_obs.specs.Reading.{IsMoment};
 ghost use Rattle.rtk_rinex.specs.Table.{WellFormedTable, IsWellFormedTable, table_text};
 ghost use Rattle.rtk_rinex.specs.MixedTable.{MixedTable, IsMixedTable, mixed_table_text};
 ghost use Rattle.rtk_tracking.specs.Interval.{interval_of_file, interval_of_epochs, missing_before, nearness_of};

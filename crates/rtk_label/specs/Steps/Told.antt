@@ -1,7 +1,7 @@
 -- Which time lines stand at the begin of a text.
 use Rattle.std.specs.Prelude.{◌≡◌, ◌≤◌, ℕ, List, [], ◌∷◌, ◌++◌, length, take, drop, Option, IfSome}
 use Rattle.rtk_rinex.specs.Columns.{left}
-use Rattle.rtk_rinex.specs.Reading.{IsMoment}
+use Rattle.rtk_obs.specs.Reading.{IsMoment}
 use Rattle.rtk_label.specs.TimeLines.{interval_label, last_label, extent_lines}
 use Rattle.rtk_label.specs.declared.time_lines.TimeLines.{TimeLines}
 

@@ -1,6 +1,6 @@
 -- The header with which a text begins, one at most, and the header that a text shows.
 use Rattle.std.specs.Prelude.{◌≡◌, ◌≢◌, ℕ, ◌+◌, List, ◌∷◌, ◌++◌, length, All}
-use Rattle.rtk_rinex.specs.Reading.{IsMoment}
+use Rattle.rtk_obs.specs.Reading.{IsMoment}
 use Rattle.rtk_rinex.specs.Header.{HeadView, PositionView, IsHeadView, IsPositionView, header_text}
 use Rattle.rtk_rinex.specs.HeaderFault.{IsHeader, BeginsHeader}
 use Rattle.rtk_rinex.specs.Lines.{HasNoEnd, text_of}

@@ -1,5 +1,5 @@
 use Rattle.std.proofs.Common.{append_assoc}
-use Rattle.rtk_rinex.proofs.PublicLaws.{reading_is}
+use Rattle.rtk_obs.proofs.PublicLaws.{reading_is}
 use Rattle.rtk_chart.specs.SvgPicture.{svg_span}
 use Rattle.rtk_chart.proofs.svg_picture.put_span.Goals as goal
 

@@ -1,5 +1,5 @@
 use Rattle.std.proofs.Common.{append_assoc}
-use Rattle.rtk_rinex.proofs.PublicLaws.{reading_is}
+use Rattle.rtk_obs.proofs.PublicLaws.{reading_is}
 use Rattle.rtk_chart.proofs.text_picture.put_moment_line.Goals as goal
 
 pub returns : goal.returns

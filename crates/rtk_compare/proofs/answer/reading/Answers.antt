@@ -1,4 +1,4 @@
-use Rattle.rtk_rinex.proofs.PublicLaws.{reading_is}
+use Rattle.rtk_obs.proofs.PublicLaws.{reading_is}
 use Rattle.rtk_compare.proofs.answer.reading.Goals as goal
 
 pub returns : goal.returns

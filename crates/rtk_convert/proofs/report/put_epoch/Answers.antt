@@ -1,7 +1,7 @@
 use Rattle.std.proofs.Common.{ℕ, ◌++◌, Option, sym, ap, ◌∙◌}
 use Rattle.rtk_obs.specs.CivilText.{civil_text}
 use Rattle.rtk_obs.specs.declared.time.Civil.{Civil}
-use Rattle.rtk_rinex.proofs.PublicLaws.{reading_is}
+use Rattle.rtk_obs.proofs.PublicLaws.{reading_is}
 use Rattle.rtk_convert.specs.ReportText.{epoch_text}
 use Rattle.rtk_convert.proofs.report.put_epoch.Goals as goal
 

@@ -1,6 +1,6 @@
 use Rattle.std.proofs.Common.{ℕ, ◌++◌, List, Option, sym, ap, ◌∙◌}
 use Rattle.std.proofs.lemmas.List.{append-nil}
-use Rattle.rtk_rinex.proofs.PublicLaws.{reading_is}
+use Rattle.rtk_obs.proofs.PublicLaws.{reading_is}
 use Rattle.rtk_label.specs.TimeLines.{last_time_line}
 use Rattle.rtk_label.proofs.time_lines.put_last_line.Goals as goal
 

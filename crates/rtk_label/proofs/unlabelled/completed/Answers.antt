@@ -2,7 +2,7 @@ use Rattle.std.proofs.Common.{◌≡◌, ◌-◌, List, ℕ, ◌++◌, length, t
 use Rattle.std.specs.Fmt.{digits}
 use Rattle.rtk_rinex.specs.Columns.{left}
 use Rattle.rtk_rinex.specs.Header.{header_line, header_text}
-use Rattle.rtk_rinex.specs.Reading.{date_after}
+use Rattle.rtk_obs.specs.Reading.{date_after}
 use Rattle.rtk_label.specs.Steps.Fronts.{plain_file}
 use Rattle.rtk_label.specs.declared.unlabelled.TheConstants.{PLAIN_LINES}
 use Rattle.rtk_label.proofs.CutLemmas.{filled_up}

@@ -1,5 +1,5 @@
 use Rattle.std.proofs.Common.{◌++◌, ℕ, List, Option, sym, ap, subst, ◌∙◌}
-use Rattle.rtk_rinex.proofs.PublicLaws.{reading_is}
+use Rattle.rtk_obs.proofs.PublicLaws.{reading_is}
 use Rattle.rtk_quality.specs.Records.{unit_of}
 use Rattle.rtk_quality.specs.QualityText.{heading_text}
 use Rattle.rtk_quality.specs.Standing.{StandForSatellites}

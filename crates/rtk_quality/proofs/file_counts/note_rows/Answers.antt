@@ -1,7 +1,7 @@
 use Rattle.std.proofs.Common.{◌≡◌, ◌<◌, ◌≤◌, ◌+◌, ◌-◌, ◌∷◌, ◌++◌, ◌∙◌, ℕ, List, length, get_or, sym, ap, subst, length-set, arith, Option}
 use Rattle.std.proofs.lemmas.List.{append-nil, take_all, at_drop_all}
-use Rattle.rtk_rinex.proofs.PublicLaws.{reading_is}
-use Rattle.rtk_rinex.specs.Reading.{reading_of}
+use Rattle.rtk_obs.proofs.PublicLaws.{reading_is}
+use Rattle.rtk_obs.specs.Reading.{reading_of}
 use Rattle.rtk_rinex.specs.Record.{EpochTableView, IsSatelliteRow}
 use Rattle.rtk_rinex.specs.declared.epoch_table.SatelliteRow.{SatelliteRow}
 use Rattle.rtk_tracking.specs.Epochs.{newest_moment}

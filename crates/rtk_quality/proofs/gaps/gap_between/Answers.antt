@@ -1,5 +1,5 @@
 use Rattle.std.proofs.Common.{ℕ, Some, ap, ◌∙◌}
-use Rattle.rtk_rinex.proofs.PublicLaws.{reading_is}
+use Rattle.rtk_obs.proofs.PublicLaws.{reading_is}
 use Rattle.rtk_tracking.specs.Interval.{missing_before}
 use Rattle.rtk_quality.proofs.GapLemmas.{gap-is}
 use Rattle.rtk_quality.proofs.gaps.gap_between.Goals as goal

@@ -1,8 +1,7 @@
 use Rattle.std.proofs.Common.{◌≡◌, arith, ◌∙◌, ap}
-use Rattle.rtk_rinex.specs.Reading.{reading_of}
-use Rattle.rtk_rinex.proofs.ReadingLemmas.{reading-reads, reading_is}
+use Rattle.rtk_obs.specs.Reading.{reading_of}
+use Rattle.rtk_obs.proofs.PublicLaws.{reading-reads, reading_is, one_moment}
 use Rattle.rtk_rinex.specs.Steps.Digits.{digits_from}
-use Rattle.rtk_obs.proofs.PublicLaws.{one_moment}
 use Rattle.rtk_rinex.proofs.EpochLemmas.{epoch-shows}
 use Rattle.rtk_rinex.proofs.epoch_line_check.stamp_in.Goals as goal
 use Rattle.rtk_rinex.proofs.epoch_line_check.stamp_in.Goals.{then-count-eq0-via-then-count-eq0, then-count-eq0-via-else-count-eq0+then-count-most}

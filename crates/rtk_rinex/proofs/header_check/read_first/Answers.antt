@@ -1,5 +1,5 @@
 use Rattle.std.proofs.Common.{◌≡◌, ◌∙◌, arith}
-use Rattle.rtk_rinex.specs.Reading.{reading_of}
+use Rattle.rtk_obs.specs.Reading.{reading_of}
 use Rattle.rtk_rinex.proofs.HeaderShownLemmas.{first_is, moment_read}
 use Rattle.rtk_rinex.proofs.header_check.read_first.Goals as goal
 

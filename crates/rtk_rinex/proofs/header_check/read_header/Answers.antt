@@ -4,9 +4,9 @@ use Rattle.std.proofs.lemmas.List.{get_or-take, length-take}
 use Rattle.rtk_obs.specs.declared.code.Code.{Code}
 use Rattle.rtk_obs.specs.declared.time.Civil.{Civil}
 use Rattle.rtk_rinex.specs.Header.{HeadView, version_line, made_line, marker_line, position_view, place_line, height_line, types_lines, unit_line, first_line, header_text}
-use Rattle.rtk_rinex.specs.Reading.{reading_of}
+use Rattle.rtk_obs.specs.Reading.{reading_of}
 use Rattle.rtk_rinex.proofs.HeaderLemmas.{parts-in_row}
-use Rattle.rtk_rinex.proofs.ReadingLemmas.{reading_is}
+use Rattle.rtk_obs.proofs.PublicLaws.{reading_is}
 use Rattle.rtk_rinex.proofs.HeaderShownLemmas.{good_or, shown_or, some_or}
 use Rattle.rtk_rinex.proofs.HeaderRowsLemmas.{one_text, text_of-types, unknown_text, Values, IsGood, values_of, version_part, made_row, marker_row, unknown_part, place_row, height_row, types_part, unit_part, first_row, end_part, from_made, from_marker, from_unknown, from_place, from_height, from_types, from_unit, from_first, all_parts}
 use Rattle.rtk_rinex.proofs.PartLemmas.{ReadsBack, back_then, back_fixed, back_line, ends_line, starts}

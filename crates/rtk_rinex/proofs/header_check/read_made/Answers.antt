@@ -1,5 +1,5 @@
 use Rattle.std.proofs.Common.{◌≡◌, ◌∙◌, ◌%◌, ℕ, Some}
-use Rattle.rtk_rinex.specs.Reading.{reading_of}
+use Rattle.rtk_obs.specs.Reading.{reading_of}
 use Rattle.rtk_rinex.specs.declared.head_fault.HeadFault.TheVariants.{Made}
 use Rattle.rtk_rinex.proofs.HeaderShownLemmas.{made_is, moment_read, good_kept}
 use Rattle.rtk_rinex.proofs.header_check.read_made.Goals as goal

@@ -1,7 +1,7 @@
 use Rattle.rtk_rinex.specs.Header.{version_line, made_line, marker_line, position_view, place_line, height_line, types_lines, unit_line, first_line, header_text}
-use Rattle.rtk_rinex.specs.Reading.{reading_of}
+use Rattle.rtk_obs.specs.Reading.{reading_of}
 use Rattle.rtk_rinex.proofs.HeaderLemmas.{parts-in_row}
-use Rattle.rtk_rinex.proofs.ReadingLemmas.{reading_is}
+use Rattle.rtk_obs.proofs.PublicLaws.{reading_is}
 use Rattle.rtk_rinex.proofs.header_text.header_lines.Goals as goal
 
 pub returns : goal.returns

@@ -3,7 +3,7 @@ use Rattle.std.proofs.lemmas.Result.{err_from_is_err_and}
 use Rattle.rtk_rinex.specs.Header.{IsPositionView, position_view}
 use Rattle.rtk_rinex.specs.HeaderFault.{AreLines}
 use Rattle.rtk_rinex.specs.MixedHead.{IsMixedHead}
-use Rattle.rtk_rinex.specs.Reading.{IsMoment}
+use Rattle.rtk_obs.specs.Reading.{IsMoment}
 use Rattle.rtk_rinex.specs.MixedHeaderFault.{IsOnlyMixedHeader}
 use Rattle.rtk_rinex.specs.Steps.MixedHeaderRead.{ShowsMixedHeader}
 use Rattle.rtk_rinex.specs.declared.mixed_header_check.MixedHeaderParts.{MixedHeaderParts}

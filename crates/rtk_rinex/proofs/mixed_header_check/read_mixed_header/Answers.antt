@@ -4,13 +4,13 @@ use Rattle.rtk_obs.specs.declared.time.Civil.{Civil}
 use Rattle.rtk_rinex.specs.Header.{position_view, header_line, made_line, marker_line, place_line, height_line, first_line}
 use Rattle.rtk_rinex.specs.MixedHead.{MixedHeadView, GlonassView, TellsGlonass}
 use Rattle.rtk_rinex.specs.MixedHeader.{version_letter, mixed_version_line, phase_shift_line, by_system, glonass_lines, unknown_lines}
-use Rattle.rtk_rinex.specs.Reading.{reading_of}
+use Rattle.rtk_obs.specs.Reading.{reading_of}
 use Rattle.rtk_rinex.specs.Steps.MixedHeaderRead.{Reads, types_and_unit, IsListOf}
 use Rattle.rtk_rinex.proofs.HeaderShownLemmas.{shown_or, some_or}
 use Rattle.rtk_rinex.proofs.MixedPartsLemmas.{MixedValues, IsGoodMixed, mixed_values, mixed_text, whole_mixed}
 use Rattle.rtk_rinex.proofs.MixedReadLemmas.{MixedSteps, mixed_read, mixed_written}
 use Rattle.rtk_rinex.proofs.MixedVerdictLemmas.{ReadsMixed, shows_mixed, only_mixed}
-use Rattle.rtk_rinex.proofs.ReadingLemmas.{reading_is}
+use Rattle.rtk_obs.proofs.PublicLaws.{reading_is}
 use Rattle.rtk_rinex.proofs.mixed_header_check.read_mixed_header.Goals as goal
 
 -- ---- the parts that are read

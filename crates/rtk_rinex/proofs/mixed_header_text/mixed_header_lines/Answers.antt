@@ -1,8 +1,8 @@
 use Rattle.rtk_rinex.specs.Header.{made_line, marker_line, position_view, place_line, height_line, unit_line, first_line}
 use Rattle.rtk_rinex.specs.MixedHeader.{version_letter, mixed_version_line, by_system, system_types_lines, phase_shift_line, glonass_lines, mixed_header_text}
-use Rattle.rtk_rinex.specs.Reading.{reading_of}
+use Rattle.rtk_obs.specs.Reading.{reading_of}
 use Rattle.rtk_rinex.proofs.MixedRoomLemmas.{mixed-in_row}
-use Rattle.rtk_rinex.proofs.ReadingLemmas.{reading_is}
+use Rattle.rtk_obs.proofs.PublicLaws.{reading_is}
 use Rattle.rtk_rinex.proofs.mixed_header_text.mixed_header_lines.Goals as goal
 
 pub returns : goal.returns

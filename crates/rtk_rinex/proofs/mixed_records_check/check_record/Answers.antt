@@ -1,5 +1,5 @@
 use Rattle.std.proofs.Common.{◌≢◌, length, None, arith, ap}
-use Rattle.rtk_rinex.specs.Reading.{reading_of}
+use Rattle.rtk_obs.specs.Reading.{reading_of}
 use Rattle.rtk_rinex.proofs.MixedCheckLemmas.{rows-all, rows-rise, record-lines, record-is}
 use Rattle.rtk_rinex.proofs.mixed_records_check.check_record.Goals as goal
 

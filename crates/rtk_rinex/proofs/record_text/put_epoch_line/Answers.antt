@@ -1,6 +1,5 @@
 use Rattle.std.proofs.Common.{decimal, codes, false, ◌++◌, ◌∷◌, [], refl, ◌∙◌, arith}
-use Rattle.rtk_rinex.specs.Columns.{right, decimals}
-use Rattle.rtk_rinex.specs.Reading.{seconds_of}
+use Rattle.rtk_rinex.specs.Columns.{right, decimals, seconds_of}
 use Rattle.rtk_rinex.specs.Record.{epoch_date_text}
 use Rattle.rtk_rinex.proofs.EpochLemmas.{length-seconds, three-parts, line-parts}
 use Rattle.rtk_rinex.proofs.record_text.put_epoch_line.Goals as goal

@@ -1,5 +1,5 @@
 use Rattle.std.proofs.Common.{◌≡◌, ℕ, List, length}
-use Rattle.rtk_rinex.specs.Reading.{reading_of}
+use Rattle.rtk_obs.specs.Reading.{reading_of}
 use Rattle.rtk_tracking.specs.Passes.{Sighting, begins_pass}
 use Rattle.rtk_quality.specs.Standing.{StandForCodes}
 use Rattle.rtk_quality.proofs.MissingCodeLemmas.{CodesUpTo}

@@ -1,6 +1,6 @@
 use Rattle.std.proofs.Common.{◌≡◌, ◌∷◌, ℕ, Bool, true, false, cond, not, ◌&&◌, Option, Some, None, refl, sym, ap, subst, ◌∙◌}
 use Rattle.rtk_obs.specs.declared.time.Civil.{Civil}
-use Rattle.rtk_rinex.specs.Reading.{reading_of}
+use Rattle.rtk_obs.specs.Reading.{reading_of}
 use Rattle.rtk_tracking.specs.Passes.{Sighting, has_phase, last_phase, is_away, begins_pass, outage_before}
 use Rattle.rtk_tracking.specs.Standing.{AreKnown, StandsForPass}
 use Rattle.rtk_tracking.specs.declared.passes.Pass.{Pass}

@@ -1,11 +1,11 @@
 use Rattle.std.proofs.Common.{◌≡◌, ◌<◌, ◌++◌, [], length, take, drop, ap, sym, subst, ◌∙◌, arith, length-append, length-drop}
 use Rattle.std.proofs.lemmas.List.{take_at}
-use Rattle.rtk_rinex.specs.Reading.{reading_of}
+use Rattle.rtk_obs.specs.Reading.{reading_of}
 use Rattle.rtk_rinex.specs.Record.{epoch_line}
 use Rattle.rtk_rinex.specs.MixedRecord.{MixedLinesView, HoldsMixedLines, mixed_record_text}
 use Rattle.rtk_rinex.proofs.EpochLemmas.{length-written}
 use Rattle.rtk_rinex.proofs.MixedRecordLemmas.{mixed-record-some, mixed-record-none, lines-after}
-use Rattle.rtk_rinex.proofs.ReadingLemmas.{reading_is}
+use Rattle.rtk_obs.proofs.PublicLaws.{reading_is}
 use Rattle.rtk_rinex.proofs.mixed_record_lines.MixedRecordLines.finish.Goals as goal
 
 pub returns-then-self-gt0-clause-text : goal.returns-then-self-gt0-clause-text

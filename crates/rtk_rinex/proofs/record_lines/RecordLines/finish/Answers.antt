@@ -2,11 +2,11 @@ use Rattle.std.proofs.Common.{◌≡◌, ℕ, ◌<◌, List, ◌++◌, [], lengt
 use Rattle.std.specs.Prelude.{max}
 use Rattle.std.proofs.Math.Seq.{drop-append_seam}
 use Rattle.std.proofs.lemmas.List.{take_at}
-use Rattle.rtk_rinex.specs.Reading.{reading_of}
+use Rattle.rtk_obs.specs.Reading.{reading_of}
 use Rattle.rtk_rinex.specs.Record.{epoch_line, record_text}
 use Rattle.rtk_rinex.specs.RecordLines.{RecordLinesView, HoldsLines}
 use Rattle.rtk_rinex.proofs.EpochLemmas.{length-written}
-use Rattle.rtk_rinex.proofs.ReadingLemmas.{reading_is}
+use Rattle.rtk_obs.proofs.PublicLaws.{reading_is}
 use Rattle.rtk_rinex.proofs.RecordLinesLemmas.{line-put, drop-line, record-some, record-none}
 use Rattle.rtk_rinex.proofs.record_lines.RecordLines.finish.Goals as goal
 

@@ -1,5 +1,5 @@
-use Rattle.rtk_rinex.proofs.ReadingLemmas.{reading_is, reading-reads}
-use Rattle.rtk_rinex.proofs.laws.one_reading.Goals as goal
+use Rattle.rtk_obs.proofs.PublicLaws.{reading_is, reading-reads}
+use Rattle.rtk_obs.proofs.laws.one_reading.Goals as goal
 
 pub returns-clause-one : goal.returns-clause-one
 returns-clause-one c = reading_is

@@ -1,6 +1,5 @@
 -- The civil reading of a moment of GPS time, as a function.
--- Source: RINEX 3.05, Table A3: date and time in the calendar, as GPS time
-use Rattle.std.specs.Prelude.{◌≤◌, ℕ, zero, suc, ◌+◌, ◌*◌, ◌/◌, ◌%◌, pos, nat_lt, if◌then◌else◌}
+use Rattle.std.specs.Prelude.{◌≤◌, ℕ, zero, suc, ◌+◌, ◌/◌, ◌%◌, pos, nat_lt, if◌then◌else◌}
 use Rattle.jiff_core.specs.Calendar.{days_in_month}
 use Rattle.rtk_obs.specs.declared.time.Civil.{Civil}
 
@@ -45,8 +44,3 @@ reading_of t =
       second = t / 1000 % 60;
       millisecond = t % 1000;
     }
-
--- formula
--- the seconds of a reading in units of 10^-7 s
-abbrev pub seconds_of : Civil → ℕ
-seconds_of c = c.second * 10_000_000 + c.millisecond * 10_000
