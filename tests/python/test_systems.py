@@ -150,6 +150,12 @@ class Conversions(Case):
     def test_a_part_and_a_label(self) -> None:
         done = rtcm2rinex.convert(io.BytesIO(WHOLE), **SEVEN)
         self.assertEqual(list(rtcm2rinex.cut(done.open(), every=1).observations()), list(done.observations()))
+        part = rtcm2rinex.cut(done.open(), systems="RE")
+        self.assertEqual((part.header().codes, part.header().channels), (("R2P", "E8X"), {10: -5}))
+        self.assertEqual([it.satellite for it in part.observations()], ["R10", "E11"])
+        with self.assertRaises(rtcm2rinex.FileError) as raised:
+            rtcm2rinex.cut(part.open(), systems="RG")
+        self.assertEqual((raised.exception.line, raised.exception.number), ("the file has no codes of G", 0))
         labelled = rtcm2rinex.label(done.open(), marker_number="1", agency="Survey").header()
         self.assertEqual((labelled.agency, labelled.codes, labelled.channels), ("Survey", done.header().codes, {10: -5}))
 
