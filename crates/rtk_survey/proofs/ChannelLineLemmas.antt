@@ -5,7 +5,7 @@ use Rattle.std.specs.List.{range_with_len}
 use Rattle.rtk_message.specs.declared.any_message.AnyMessage.{AnyMessage}
 use Rattle.rtk_survey.specs.Channels.{tells_field, place_of_field, IsChannelTold, CountsChannels, place_is_told, place_is_counted}
 use Rattle.rtk_survey.specs.Counting.{count_of}
-use Rattle.rtk_survey.specs.SummaryText.{told_channel_text, joined_channels, channels_text, line_if_some, channel_line}
+use Rattle.rtk_survey.specs.SummaryText.{told_channel_text, joined_channels, told_channels_text, line_if_some, channel_line}
 
 -- ---- one place after another
 
@@ -60,7 +60,7 @@ told-as table ms place from within counts =
     ap (λ (k : ℕ). nat_lt 0 (get_or table k 0)) (sym (same-place place)) ∙ ap (λ (n : ℕ). nat_lt 0 n) (counted-as table ms (place / 14) (place % 14) is counts)
 
 pub channel-line-is : (table : List ℕ) (ms : List AnyMessage) → CountsChannels table ms → channel_line (place_is_counted table) ≡ channel_line (place_is_told ms)
-unfolding channel_line channels_text
+unfolding channel_line told_channels_text
 channel-line-is table ms counts =
     ap (λ (ps : List ℕ). line_if_some (codes " channels") (joined_channels 32 ps))
     (filters-agree (place_is_counted table) (place_is_told ms) 14 378 (λ k from lt. told-as table ms k from (omega (arith, lt)) counts))

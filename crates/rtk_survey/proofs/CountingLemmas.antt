@@ -31,7 +31,7 @@ use Rattle.rtk_survey.specs.NumberLaws.{IsHeld}
 use Rattle.rtk_survey.specs.Proposal.{epochs_in, times_with_value, epochs_with_value, entries_with}
 use Rattle.rtk_survey.specs.ReadFrames.{messages_read, ReadFrame, ReadsFrames, read_frame, with_message, with_fault, bytes_in, messages_in, faults_in, messages_from}
 use Rattle.rtk_survey.specs.Summary.{all_numbers, size_lines, epochs_beside, station_lines, lines_if_any, stations_text, weeks_text, system_weeks_text, unread_lines, summary_text}
-use Rattle.rtk_survey.specs.SummaryText.{number_line, counted_line, numbered_line, message_numbers, message_lines, epoch_lines, channel_line, time_lines, look_line, near_text, signal_lines, proposal_lines, all_codes_text, nothing_line, untaken_numbers}
+use Rattle.rtk_survey.specs.SummaryText.{number_line, counted_line, numbered_line, message_numbers, message_lines, system_epoch_lines, channel_line, time_lines, look_line, near_text, signal_lines, proposal_lines, all_codes_text, nothing_line, untaken_numbers}
 use Rattle.rtk_survey.specs.SystemTellings.{system_messages_in}
 use Rattle.rtk_survey.specs.declared.station_dates.StationDates.{StationDates}
 use Rattle.rtk_survey.specs.Tracing.{is_numbered, is_other, is_short, is_outside_week, is_no_number, is_too_many_cells, times_of_week, entries_in, has_satellite, has_code}
@@ -212,7 +212,7 @@ proposals-stand name station ms d e held =
     ++ time_lines (times_of_week ms)
     ++ told_lines d e
     ++ signal_lines (has_satellite (entries_in ms)) (has_code (entries_in ms)) (has_index (cells_beside ms)) (has_any_code (cells_beside ms))
-    ++ epoch_lines (epochs_beside ms)
+    ++ system_epoch_lines (epochs_beside ms)
     ++ channel_line (place_is_told ms)
     ++ clock_lines (clocks_of ms).offsets in
     let whole = append-nil (station_lines name station ms d e) in

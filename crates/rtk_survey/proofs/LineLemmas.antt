@@ -23,7 +23,7 @@ use Rattle.rtk_survey.specs.FrameDates.{proposed_date}
 use Rattle.rtk_survey.specs.FrameEquipment.{told_lines}
 use Rattle.rtk_survey.specs.Proposal.{epochs_with_value, entries_with}
 use Rattle.rtk_survey.specs.Summary.{all_numbers, epochs_beside, station_lines}
-use Rattle.rtk_survey.specs.SummaryText.{look_line, number_line, numbered_line, message_numbers, message_lines, epoch_lines, channel_line, list_line, time_lines, near_text, untaken_numbers, listed_satellite, satellites_text, listed_index, indices_text, joined_names, joined_texts, codes_text, all_codes_text, words_text, auto_line, next_lines, signal_lines, proposal_lines}
+use Rattle.rtk_survey.specs.SummaryText.{look_line, number_line, numbered_line, message_numbers, message_lines, system_epoch_lines, channel_line, list_line, time_lines, near_text, untaken_numbers, listed_satellite, satellites_text, listed_index, indices_text, joined_names, joined_texts, codes_text, all_codes_text, words_text, auto_line, next_lines, signal_lines, proposal_lines}
 use Rattle.std.specs.BTreeMap.{BTreeMap}
 use Rattle.rtk_survey.specs.Contents.{count_at, HasCodes, HasSignals, HasSystemSignals, IsStationOf, HasMsms, equipment_at, epochs_held, codes_held, any_codes_held, messages_held, system_epochs_held}
 use Rattle.rtk_survey.specs.Steps.Tables.{counts_text, untaken_text, look_lines}
@@ -213,7 +213,7 @@ lines_held name number s d e times =
     ++ time_lines times
     ++ told_lines d e
     ++ signal_lines (λ n. get_or s.signals.satellites n false) (λ c. get_or s.signals.codes.marks (place_of c) false) (λ n. get_or s.system_signals.satellites n false) (λ c. get_or s.system_signals.codes (number_of c) false)
-    ++ epoch_lines (system_epochs_held s)
+    ++ system_epoch_lines (system_epochs_held s)
     ++ channel_line (place_is_counted s.channels.items)
     ++ clock_lines (clocks_at s.clocks).offsets
     ++ proposal_lines name (near_text (proposed_date d)) number (epochs_held s.msm) (codes_held s.msm)
@@ -242,10 +242,10 @@ station-lines-are name number s d e ms stands =
     let channels : List ℕ = channel_line (place_is_told ms) in
     let clocks : List ℕ = clock_lines (clocks_of ms).offsets in
     let channels' : List ℕ = channel_line (place_is_counted s.channels.items) in
-    let epochs' : List ℕ = epoch_lines (system_epochs_held s) in
-    ap (λ (t : List ℕ). head ++ t ++ times ++ dates ++ signals ++ epoch_lines (epochs_beside ms) ++ channels ++ clocks ++ proposal) (sym (messages-agree s ms d e stands))
-    ∙ ap (λ (t : List ℕ). head ++ messages' ++ times ++ dates ++ t ++ epoch_lines (epochs_beside ms) ++ channels ++ clocks ++ proposal) (sym (signals-are s.signals s.system_signals ms stands.signals stands.system_signals))
-    ∙ ap (λ (t : ℕ → ℕ). head ++ messages' ++ times ++ dates ++ signals' ++ epoch_lines t ++ channels ++ clocks ++ proposal) (sym (epochs-beside-are s ms stands.system_msm))
+    let epochs' : List ℕ = system_epoch_lines (system_epochs_held s) in
+    ap (λ (t : List ℕ). head ++ t ++ times ++ dates ++ signals ++ system_epoch_lines (epochs_beside ms) ++ channels ++ clocks ++ proposal) (sym (messages-agree s ms d e stands))
+    ∙ ap (λ (t : List ℕ). head ++ messages' ++ times ++ dates ++ t ++ system_epoch_lines (epochs_beside ms) ++ channels ++ clocks ++ proposal) (sym (signals-are s.signals s.system_signals ms stands.signals stands.system_signals))
+    ∙ ap (λ (t : ℕ → ℕ). head ++ messages' ++ times ++ dates ++ signals' ++ system_epoch_lines t ++ channels ++ clocks ++ proposal) (sym (epochs-beside-are s ms stands.system_msm))
     ∙ ap (λ (t : List ℕ). head ++ messages' ++ times ++ dates ++ signals' ++ epochs' ++ t ++ clocks ++ proposal) (sym (channel-line-is s.channels.items ms stands.channels))
     ∙ ap (λ (x : ClockSurvey). head ++ messages' ++ times ++ dates ++ signals' ++ epochs' ++ channels' ++ clock_lines x.offsets ++ proposal) (sym stands.clocks)
     ∙ ap (λ (t : List ℕ). head ++ messages' ++ times ++ dates ++ signals' ++ epochs' ++ channels' ++ clock_lines (clocks_at s.clocks).offsets ++ t) (sym (proposal-is name near number s.msm ms stands.msm))

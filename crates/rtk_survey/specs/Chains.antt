@@ -81,9 +81,9 @@ abbrev pub ahead_of : ℕ → ℕ → ℕ
 ahead_of base t = (t + week_ms - base) % week_ms
 
 -- the place of an offset, the first of which has this place
-abbrev pub place_from : ℕ → ℕ → List ClockOffset → Option ℕ
-place_from k ahead [] = None
-place_from k ahead (o ∷ os) = if o.ahead_ms == ahead then Some k else place_from (suc k) ahead os
+abbrev pub offset_place : ℕ → ℕ → List ClockOffset → Option ℕ
+offset_place k ahead [] = None
+offset_place k ahead (o ∷ os) = if o.ahead_ms == ahead then Some k else offset_place (suc k) ahead os
 
 abbrev pub counted_offset : ClockOffset → ClockOffset
 counted_offset o = record { ahead_ms = o.ahead_ms; count = shown_count (o.count + 1) }
@@ -98,7 +98,7 @@ with_counted_at (Some k) ahead list = record { items = set list.items k (counted
 with_counted_at None ahead list = if nat_lt (length list.items) 16 then record { items = list.items ++ new_offset ahead ∷ [] } else list
 
 abbrev pub with_counted : ℕ → ArrayVec ClockOffset → ArrayVec ClockOffset
-with_counted ahead list = with_counted_at (place_from 0 ahead list.items) ahead list
+with_counted ahead list = with_counted_at (offset_place 0 ahead list.items) ahead list
 
 -- table
 abbrev pub with_ahead : System → ℕ → ClockOffsets → ClockOffsets

@@ -5,6 +5,7 @@ use Rattle.std.specs.List.{sum_by}
 use Rattle.rtk_message.specs.Fields.{week_ms}
 use Rattle.rtk_obs.specs.CivilText.{last_digits}
 use Rattle.rtk_survey.specs.Counting.{shown_count}
+use Rattle.rtk_survey.specs.SummaryText.{number_line}
 use Rattle.rtk_survey.specs.Telling.{half_week_ms}
 use Rattle.rtk_survey.specs.declared.clock_chains.ClockOffset.{ClockOffset}
 use Rattle.rtk_survey.specs.declared.clock_chains.ClockOffsets.{ClockOffsets}
@@ -13,17 +14,20 @@ use Rattle.rtk_survey.specs.declared.clock_chains.ClockOffsets.{ClockOffsets}
 
 -- formula
 -- how far an offset is from 0
-abbrev pub from_zero : ℕ → ℕ
+unfoldable pub from_zero : ℕ → ℕ
 from_zero ahead = min ahead (week_ms - ahead)
 
 -- formula
--- an offset comes before another one: it is more frequent; of two alike it is nearer to 0; of two alike it is behind
-abbrev pub is_told_before : ClockOffset → ClockOffset → Bool
-is_told_before a b =
-    if nat_lt b.count a.count then true else
-    if nat_lt a.count b.count then false else
+-- an offset is nearer to 0 than another one; of two that are as near the one that is behind
+abbrev pub is_nearer_zero : ClockOffset → ClockOffset → Bool
+is_nearer_zero a b =
     if nat_lt (from_zero a.ahead_ms) (from_zero b.ahead_ms) then true else
     if nat_lt (from_zero b.ahead_ms) (from_zero a.ahead_ms) then false else nat_lt b.ahead_ms a.ahead_ms
+
+-- formula
+-- an offset comes before another one: it is more frequent, or as frequent and nearer to 0
+abbrev pub is_told_before : ClockOffset → ClockOffset → Bool
+is_told_before a b = if nat_lt b.count a.count then true else if nat_lt a.count b.count then false else is_nearer_zero a b
 
 abbrev pub told_of_two : Option ClockOffset → ClockOffset → Option ClockOffset
 told_of_two None o = Some o
@@ -49,20 +53,29 @@ compared_clocks os = shown_count (sum_by (λ o. o.count) os)
 
 -- formula
 -- seconds with three decimals, as in 14.000
-abbrev pub offset_seconds_text : ℕ → List ℕ
+unfoldable pub offset_seconds_text : ℕ → List ℕ
 offset_seconds_text ms = decimal (ms / 1000) ++ 46 ∷ last_digits 3 (ms % 1000)
 
 -- formula
--- an offset within half a week, as in +14.000 or -0.001
-abbrev pub offset_text : ℕ → List ℕ
-offset_text ahead = if nat_le ahead half_week_ms then 43 ∷ offset_seconds_text ahead else 45 ∷ offset_seconds_text (week_ms - ahead)
+-- a plus within half a week, else a hyphen
+unfoldable pub offset_sign : ℕ → ℕ
+offset_sign ahead = if nat_le ahead half_week_ms then 43 else 45
 
 -- formula
--- the letter of the system, the offset, and how many clocks have it of how many
+-- an offset, as in +14.000 or -0.001
+unfoldable pub offset_text : ℕ → List ℕ
+offset_text ahead = offset_sign ahead ∷ offset_seconds_text (from_zero ahead)
+
+-- formula
+-- the words, the letter of the system and the offset
+unfoldable pub clock_words : ℕ → ℕ → List ℕ
+clock_words letter ahead = codes " clock " ++ letter ∷ 32 ∷ offset_text ahead
+
+-- formula
+-- an offset, and how many clocks have it of how many
 abbrev pub clock_line_of : ℕ → ℕ → Option ClockOffset → List ℕ
 clock_line_of letter all None = []
-clock_line_of letter all (Some o) =
-    codes " clock " ++ letter ∷ codes " " ++ offset_text o.ahead_ms ++ codes " " ++ decimal o.count ++ codes " of " ++ decimal all ++ 10 ∷ []
+clock_line_of letter all (Some o) = number_line (clock_words letter o.ahead_ms ++ codes " " ++ decimal o.count ++ codes " of ") all
 
 abbrev pub clock_line : ℕ → List ClockOffset → List ℕ
 clock_line letter os = clock_line_of letter (compared_clocks os) (told_offset os)

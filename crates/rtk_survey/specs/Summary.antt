@@ -19,7 +19,7 @@ use Rattle.rtk_survey.specs.FrameEquipment.{equipment_among, is_mentioned, told_
 use Rattle.rtk_survey.specs.Proposal.{epochs_in, epochs_with_value, entries_with}
 use Rattle.rtk_survey.specs.ReadFrames.{ReadFrame, ReadsFrames, bytes_in, messages_in, faults_in, messages_from}
 use Rattle.rtk_survey.specs.Tracing.{is_numbered, is_other, is_short, is_outside_week, is_no_number, is_too_many_cells, times_of_week, entries_in, has_satellite, has_code}
-use Rattle.rtk_survey.specs.SummaryText.{number_line, counted_line, numbered_line, message_lines, epoch_lines, channel_line, time_lines, week_line, system_week_line, look_line, signal_lines, near_text, proposal_lines, all_codes_text, nothing_line, untaken_numbers}
+use Rattle.rtk_survey.specs.SummaryText.{number_line, counted_line, numbered_line, message_lines, system_epoch_lines, channel_line, time_lines, week_line, system_week_line, look_line, signal_lines, near_text, proposal_lines, all_codes_text, nothing_line, untaken_numbers}
 use Rattle.rtk_survey.specs.SystemTellings.{system_messages_in, names_week}
 use Rattle.rtk_survey.specs.declared.station_dates.StationDates.{StationDates}
 use Rattle.rtk_survey.specs.declared.system_message.SystemMessage.{SystemMessage}
@@ -43,7 +43,7 @@ station_lines name station ms d e =
     ++ time_lines (times_of_week ms)
     ++ told_lines d e
     ++ signal_lines (has_satellite (entries_in ms)) (has_code (entries_in ms)) (has_index (cells_beside ms)) (has_any_code (cells_beside ms))
-    ++ epoch_lines (epochs_beside ms)
+    ++ system_epoch_lines (epochs_beside ms)
     ++ channel_line (place_is_told ms)
     ++ clock_lines (clocks_of ms).offsets
     ++ proposal_lines name (near_text (proposed_date d)) station (λ kind. epochs_with_value kind ms) (λ kind. has_code (entries_with kind ms))

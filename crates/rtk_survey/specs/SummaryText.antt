@@ -73,8 +73,8 @@ message_lines count = flat_map (λ n. numbered_line (codes " message ") n (count
 
 -- formula
 -- how many epochs with a value the messages of each number of another system than GPS have
-unfoldable pub epoch_lines : (ℕ → ℕ) → List ℕ
-epoch_lines epochs = flat_map (λ n. numbered_line (codes " epochs ") n (epochs n)) beside_numbers
+unfoldable pub system_epoch_lines : (ℕ → ℕ) → List ℕ
+system_epoch_lines epochs = flat_map (λ n. numbered_line (codes " epochs ") n (epochs n)) beside_numbers
 
 -- ---- times
 
@@ -217,8 +217,8 @@ joined_channels separator (p ∷ ps) = separator ∷ told_channel_text p ++ join
 
 -- formula
 -- the channels of slots 1 to 27 that messages tell, as an option lists them; a slot with several is named with each
-unfoldable pub channels_text : (ℕ → Bool) → List ℕ
-channels_text told = joined_channels 32 (filter told (range_with_len 14 378))
+unfoldable pub told_channels_text : (ℕ → Bool) → List ℕ
+told_channels_text told = joined_channels 32 (filter told (range_with_len 14 378))
 
 -- formula
 -- without a channel there is no line
@@ -227,7 +227,7 @@ line_if_some words [] = []
 line_if_some words (x ∷ xs) = words ++ (x ∷ xs) ++ 10 ∷ []
 
 unfoldable pub channel_line : (ℕ → Bool) → List ℕ
-channel_line told = line_if_some (codes " channels") (channels_text told)
+channel_line told = line_if_some (codes " channels") (told_channels_text told)
 
 -- ---- the commands that convert a station, by how many epochs of each MSM have a value, and by the
 -- codes that `convert` takes with each

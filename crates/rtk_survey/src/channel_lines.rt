@@ -40,7 +40,7 @@ fn is_counted(table: &[u64], place: usize) -> bool
 
 // The channels that are told, as an option lists them.
 fn channels_text(alloc: Global, table: &[u64]) -> Result<Vec<u8>, AllocError>
-    ensures { IfOk result (λ text. text.items ≡ spec.channels_text (place_is_counted table.now)) }
+    ensures { IfOk result (λ text. text.items ≡ spec.told_channels_text (place_is_counted table.now)) }
 {
     let mut text = Vec::new(alloc);
     let mut separator = b' ';

@@ -179,7 +179,7 @@ fn ahead_of(base: u32, time: u32) -> u32
 }
 
 fn place_of(ahead: u32, list: &[ClockOffset]) -> Option<usize>
-    ensures value { result ≡ spec.place_from 0 ahead list.now }
+    ensures value { result ≡ spec.offset_place 0 ahead list.now }
     ensures bound { IfSome result (λ at. at < length list.now) }
 {
     for (at, offset) in list.iter().enumerate() {

@@ -2,11 +2,11 @@
 //!
 //! If memory is refused, a first part of what is put may stand there.
 
-ghost use Rattle.std.specs.Prelude.{◌≡◌, ◌≤◌, ◌<◌, ◌++◌, get_or, OnOk};
+ghost use Rattle.std.specs.Prelude.{◌≡◌, ◌++◌, get_or, OnOk};
 ghost use Rattle.rtk_survey.specs.Chains.{no_clocks};
 ghost use Rattle.rtk_survey.specs.ClockLines as spec;
 
-use crate::clock_chains::{ClockOffset, ClockOffsets, ClockSurvey};
+use crate::clock_chains::{ClockOffset, ClockSurvey};
 use crate::line::put_line;
 use rtk_message::{put_named, put_number};
 use rtk_obs::{HALF_WEEK_MS, WEEK_MS, three_digits};
@@ -14,11 +14,26 @@ use std::alloc::AllocError;
 
 // ---- the offset that is told
 
+#[tactic(auto, unfolding(crate::specs::ClockLines::from_zero))]
 fn from_zero(ahead: u32) -> u64
     ensures { result ≡ spec.from_zero ahead }
 {
     let ahead = u64::from(ahead);
     ahead.min(WEEK_MS.saturating_sub(ahead))
+}
+
+fn is_nearer_zero(a: ClockOffset, b: ClockOffset) -> bool
+    ensures { result ≡ spec.is_nearer_zero a b }
+{
+    let of_a = from_zero(a.ahead_ms);
+    let of_b = from_zero(b.ahead_ms);
+    if of_a < of_b {
+        return true;
+    }
+    if of_b < of_a {
+        return false;
+    }
+    b.ahead_ms < a.ahead_ms
 }
 
 fn is_told_before(a: ClockOffset, b: ClockOffset) -> bool
@@ -30,13 +45,7 @@ fn is_told_before(a: ClockOffset, b: ClockOffset) -> bool
     if a.count < b.count {
         return false;
     }
-    if from_zero(a.ahead_ms) < from_zero(b.ahead_ms) {
-        return true;
-    }
-    if from_zero(b.ahead_ms) < from_zero(a.ahead_ms) {
-        return false;
-    }
-    b.ahead_ms < a.ahead_ms
+    is_nearer_zero(a, b)
 }
 
 fn told_of_two(known: Option<ClockOffset>, offset: ClockOffset) -> Option<ClockOffset>
@@ -89,6 +98,7 @@ pub fn compared_clocks(offsets: &[ClockOffset]) -> u64
 
 // ---- the lines
 
+#[tactic(auto, unfolding(crate::specs::ClockLines::offset_seconds_text))]
 fn put_seconds(lines: &mut Vec<u8>, ms: u64) -> Result<(), AllocError>
     ensures { OnOk result (lines.new.items ≡ lines.old.items ++ spec.offset_seconds_text ms) }
 {
@@ -97,16 +107,33 @@ fn put_seconds(lines: &mut Vec<u8>, ms: u64) -> Result<(), AllocError>
     lines.extend_from_slice(&three_digits((ms % 1000) as u16))
 }
 
-fn put_offset(lines: &mut Vec<u8>, ahead: u64) -> Result<(), AllocError>
+#[tactic(auto, unfolding(crate::specs::ClockLines::offset_sign))]
+fn offset_sign(ahead: u32) -> u8
+    ensures { result ≡ spec.offset_sign ahead }
+{
+    if u64::from(ahead) <= HALF_WEEK_MS {
+        b'+'
+    } else {
+        b'-'
+    }
+}
+
+#[tactic(auto, unfolding(crate::specs::ClockLines::offset_text))]
+fn put_offset(lines: &mut Vec<u8>, ahead: u32) -> Result<(), AllocError>
     ensures { OnOk result (lines.new.items ≡ lines.old.items ++ spec.offset_text ahead) }
 {
-    if ahead <= HALF_WEEK_MS {
-        lines.push(b'+')?;
-        put_seconds(lines, ahead)
-    } else {
-        lines.push(b'-')?;
-        put_seconds(lines, WEEK_MS.saturating_sub(ahead))
-    }
+    lines.push(offset_sign(ahead))?;
+    put_seconds(lines, from_zero(ahead))
+}
+
+#[tactic(auto, unfolding(crate::specs::ClockLines::clock_words))]
+fn put_clock_words(lines: &mut Vec<u8>, letter: u8, ahead: u32) -> Result<(), AllocError>
+    ensures { OnOk result (lines.new.items ≡ lines.old.items ++ spec.clock_words letter ahead) }
+{
+    lines.extend_from_slice(b" clock ")?;
+    lines.push(letter)?;
+    lines.push(b' ')?;
+    put_offset(lines, ahead)
 }
 
 fn put_told(
@@ -120,10 +147,7 @@ fn put_told(
     let Some(offset) = told else {
         return Ok(());
     };
-    lines.extend_from_slice(b" clock ")?;
-    lines.push(letter)?;
-    lines.push(b' ')?;
-    put_offset(lines, u64::from(offset.ahead_ms))?;
+    put_clock_words(lines, letter, offset.ahead_ms)?;
     put_named(lines, b" ", offset.count)?;
     put_line(lines, b" of ", all)
 }
@@ -135,9 +159,10 @@ fn put_clock(lines: &mut Vec<u8>, letter: u8, offsets: &[ClockOffset]) -> Result
 }
 
 // Appends a line for each system whose clocks differ from those of their chains.
-fn put_offsets(lines: &mut Vec<u8>, offsets: &ClockOffsets) -> Result<(), AllocError>
-    ensures { OnOk result (lines.new.items ≡ lines.old.items ++ spec.clock_lines offsets.now) }
+fn put_offsets(lines: &mut Vec<u8>, clocks: &ClockSurvey) -> Result<(), AllocError>
+    ensures { OnOk result (lines.new.items ≡ lines.old.items ++ spec.clock_lines clocks.now.offsets) }
 {
+    let offsets = &clocks.offsets;
     put_clock(lines, b'E', offsets.galileo.as_slice())?;
     put_clock(lines, b'C', offsets.beidou.as_slice())?;
     put_clock(lines, b'J', offsets.qzss.as_slice())?;
@@ -153,5 +178,5 @@ pub(crate) fn put_clocks(lines: &mut Vec<u8>, station: &[ClockSurvey]) -> Result
     if station.len() == 0 {
         return Ok(());
     }
-    put_offsets(lines, &station[0].offsets)
+    put_offsets(lines, &station[0])
 }

@@ -4,7 +4,7 @@
 
 ghost use Rattle.std.specs.Prelude.{◌≡◌, ◌++◌, OnOk};
 ghost use Rattle.rtk_survey.specs.Contents as spec;
-ghost use Rattle.rtk_survey.specs.SummaryText.{message_lines, epoch_lines};
+ghost use Rattle.rtk_survey.specs.SummaryText.{message_lines, system_epoch_lines};
 
 use crate::line::put_numbered;
 use crate::station::StationSurvey;
@@ -52,7 +52,7 @@ pub(crate) fn put_messages(lines: &mut Vec<u8>, station: &StationSurvey) -> Resu
 
 /// Appends a line for each number of another system than GPS that has epochs.
 pub(crate) fn put_epochs(lines: &mut Vec<u8>, station: &StationSurvey) -> Result<(), AllocError>
-    ensures { OnOk result (lines.new.items ≡ lines.old.items ++ epoch_lines (spec.system_epochs_held station.now)) }
+    ensures { OnOk result (lines.new.items ≡ lines.old.items ++ system_epoch_lines (spec.system_epochs_held station.now)) }
 {
     for number in &BESIDE_GPS {
         let count = epochs_numbered(&station.system_msm, *number);

@@ -3,7 +3,7 @@
 //!
 //! Of these messages only such fields are read, and the counts that say how long the message is.
 
-ghost use Rattle.std.specs.Prelude.{◌≡◌, ◌≤◌, ◌<◌, ◌+◌, ◌^◌, ◌↔◌, IsTrue, length, drop};
+ghost use Rattle.std.specs.Prelude.{◌≡◌, ◌≤◌, ◌<◌, ◌+◌, ◌^◌, length, drop};
 ghost use Rattle.rtk_bits.specs.Bits.{bits};
 ghost use Rattle.rtk_survey.specs.DateMessages.{unsigned_at, size_of_1013};
 ghost use Rattle.rtk_survey.specs.SystemMessages as spec;
@@ -75,12 +75,12 @@ fn field_at(payload: &[u8], place: usize, width: usize) -> u64
     reader.next_u(width)
 }
 
-// Has the payload so many bits?
-fn is_long(payload: &[u8], size: u128) -> bool
-    ensures { IsTrue result ↔ (size ≤ length (bits payload.now)) }
+// How many bits the payload has.
+fn bit_count(payload: &[u8]) -> u128
+    ensures { result ≡ length (bits payload.now) }
 {
     let reader = BitReader::new(payload);
-    size <= reader.remaining()
+    reader.remaining()
 }
 
 fn beidou_week(payload: &[u8]) -> SystemWeek
@@ -130,41 +130,37 @@ fn leap_seconds(payload: &[u8]) -> LeapSeconds
 fn read_1042(payload: &[u8]) -> Option<SystemMessage>
     ensures { result ≡ spec.if_long 511 (bits payload.now) (Week (spec.beidou_week_at (bits payload.now))) }
 {
-    if is_long(payload, 511) {
-        Some(SystemMessage::Week(beidou_week(payload)))
-    } else {
-        None
+    if bit_count(payload) < 511 {
+        return None;
     }
+    Some(SystemMessage::Week(beidou_week(payload)))
 }
 
 fn read_1045(payload: &[u8]) -> Option<SystemMessage>
     ensures { result ≡ spec.if_long 496 (bits payload.now) (Week (spec.galileo_week_at 1045 (bits payload.now))) }
 {
-    if is_long(payload, 496) {
-        Some(SystemMessage::Week(galileo_week(payload, 1045)))
-    } else {
-        None
+    if bit_count(payload) < 496 {
+        return None;
     }
+    Some(SystemMessage::Week(galileo_week(payload, 1045)))
 }
 
 fn read_1046(payload: &[u8]) -> Option<SystemMessage>
     ensures { result ≡ spec.if_long 504 (bits payload.now) (Week (spec.galileo_week_at 1046 (bits payload.now))) }
 {
-    if is_long(payload, 504) {
-        Some(SystemMessage::Week(galileo_week(payload, 1046)))
-    } else {
-        None
+    if bit_count(payload) < 504 {
+        return None;
     }
+    Some(SystemMessage::Week(galileo_week(payload, 1046)))
 }
 
 fn read_1020(payload: &[u8]) -> Option<SystemMessage>
     ensures { result ≡ spec.if_long 360 (bits payload.now) (Slot (spec.slot_channel_at (bits payload.now))) }
 {
-    if is_long(payload, 360) {
-        Some(SystemMessage::Slot(slot_channel(payload)))
-    } else {
-        None
+    if bit_count(payload) < 360 {
+        return None;
     }
+    Some(SystemMessage::Slot(slot_channel(payload)))
 }
 
 // How many bits a 1013 has.
@@ -185,13 +181,38 @@ fn leap_if_given(leap: LeapSeconds) -> Option<SystemMessage>
     }
 }
 
+// The leap seconds that a 1013 tells, if they are given.
+fn leap_told(payload: &[u8]) -> Option<SystemMessage>
+    requires { 70 ≤ length (bits payload.now) }
+    ensures { result ≡ spec.leap_if_given (spec.leap_seconds_at (bits payload.now)) }
+{
+    leap_if_given(leap_seconds(payload))
+}
+
 fn read_leap_seconds(payload: &[u8]) -> Option<SystemMessage>
     ensures { result ≡ spec.leap_if_long (bits payload.now) }
 {
-    if is_long(payload, 70) && is_long(payload, size_of_1013(payload)) {
-        leap_if_given(leap_seconds(payload))
-    } else {
-        None
+    let size = bit_count(payload);
+    if size < 70 {
+        return None;
+    }
+    if size < size_of_1013(payload) {
+        return None;
+    }
+    leap_told(payload)
+}
+
+// What a message of this number tells.
+fn read_numbered(payload: &[u8], number: u64) -> Option<SystemMessage>
+    ensures { result ≡ spec.system_message_numbered number (bits payload.now) }
+{
+    match number {
+        1042 => read_1042(payload),
+        1045 => read_1045(payload),
+        1046 => read_1046(payload),
+        1020 => read_1020(payload),
+        1013 => read_leap_seconds(payload),
+        _ => None,
     }
 }
 
@@ -201,12 +222,9 @@ pub fn system_message_in(payload: &[u8]) -> Option<SystemMessage>
     ensures { result ≡ spec.system_message_in (bits payload.now) }
 {
     let mut reader = BitReader::new(payload);
-    match reader.take_u(12)? {
-        1042 => read_1042(payload),
-        1045 => read_1045(payload),
-        1046 => read_1046(payload),
-        1020 => read_1020(payload),
-        1013 => read_leap_seconds(payload),
-        _ => None,
+    if reader.remaining() < 12 {
+        return None;
     }
+    let number = reader.next_u(12);
+    read_numbered(payload, number)
 }

@@ -3,7 +3,7 @@ use Rattle.std.proofs.lemmas.List.{append-nil}
 use Rattle.std.specs.Prelude.{filter}
 use Rattle.std.specs.List.{range_with_len}
 use Rattle.rtk_survey.specs.Channels.{place_is_counted}
-use Rattle.rtk_survey.specs.SummaryText.{joined_channels, channels_text}
+use Rattle.rtk_survey.specs.SummaryText.{joined_channels, told_channels_text}
 use Rattle.rtk_survey.proofs.ChannelLineLemmas.{channel-named, channel-passed}
 use Rattle.rtk_survey.proofs.channel_lines.channels_text.Goals.{then-is_counted+in_ok-push+in_ok-put_told_channel, else-is_counted}
 use Rattle.rtk_survey.proofs.channel_lines.channels_text.Goals as goal
@@ -24,7 +24,7 @@ loop-place-preserved c =
     ]
 
 pub returns : goal.returns
-unfolding channels_text
+unfolding told_channels_text
 returns c =
     let told : ℕ → Bool = place_is_counted c.args.table.now in
     let text : List ℕ = c.loop-place.text.items in

@@ -11,6 +11,6 @@ unfolding clock_lines
 no-lines [] none = refl
 no-lines (s ∷ ss) none = absurd (omega (arith, none))
 
-pub returns-then-len-eq0 : goal.returns-then-len-eq0
-returns-then-len-eq0 c =
-    sym (append-nil c.args.lines.now.items) ∙ ap (λ (t : List ℕ). c.args.lines.now.items ++ t) (sym (no-lines c.args.station.now (omega (arith, c.if-len-eq0.true))))
+pub returns-then-station-eq0 : goal.returns-then-station-eq0
+returns-then-station-eq0 c =
+    sym (append-nil c.args.lines.now.items) ∙ ap (λ (t : List ℕ). c.args.lines.now.items ++ t) (sym (no-lines c.args.station.now (omega (arith, c.if-station-eq0.true))))

@@ -1,12 +1,13 @@
-use Rattle.std.proofs.Common.{◌++◌, ◌∙◌, append_assoc, List, ℕ, ap}
+use Rattle.std.proofs.Common.{◌++◌, ◌∙◌, List, ℕ, ap}
 use Rattle.rtk_survey.specs.ClockLines.{clock_line, clock_lines}
+use Rattle.rtk_survey.specs.declared.clock_chains.ClockOffset.{ClockOffset}
 use Rattle.rtk_survey.proofs.ListLemmas.{and-then}
 use Rattle.rtk_survey.proofs.clock_lines.put_offsets.Goals as goal
 
 pub returns : goal.returns
 unfolding clock_lines
 returns c =
-    let s = c.args.offsets.now in
+    let s = c.args.clocks.now.offsets in
     let l0 : List ℕ = c.args.lines.now.items in
     let l1 : List ℕ = c.put_clock.new.lines.items in
     let l2 : List ℕ = c.put_clock-2.new.lines.items in
@@ -22,8 +23,8 @@ returns c =
     (and-then l0 l3 l4 (e ++ b ++ j) a
     (and-then l0 l2 l3 (e ++ b) j
     (and-then l0 l1 l2 e b
-    (c.in_ok-put_clock.ensures ∙ ap (λ os. l0 ++ clock_line 69 os) c.as_slice.ensures.value)
-    (c.in_ok-put_clock-2.ensures ∙ ap (λ os. l1 ++ clock_line 67 os) c.as_slice-2.ensures.value))
-    (c.in_ok-put_clock-3.ensures ∙ ap (λ os. l2 ++ clock_line 74 os) c.as_slice-3.ensures.value))
-    (c.in_ok-put_clock-4.ensures ∙ ap (λ os. l3 ++ clock_line 83 os) c.as_slice-4.ensures.value))
-    (c.in_ok-put_clock-5.ensures ∙ ap (λ os. l4 ++ clock_line 73 os) c.as_slice-5.ensures.value)
+    (c.in_ok-put_clock.ensures ∙ ap (λ (os : List ClockOffset). l0 ++ clock_line 69 os) c.as_slice.ensures.value)
+    (c.in_ok-put_clock-2.ensures ∙ ap (λ (os : List ClockOffset). l1 ++ clock_line 67 os) c.as_slice-2.ensures.value))
+    (c.in_ok-put_clock-3.ensures ∙ ap (λ (os : List ClockOffset). l2 ++ clock_line 74 os) c.as_slice-3.ensures.value))
+    (c.in_ok-put_clock-4.ensures ∙ ap (λ (os : List ClockOffset). l3 ++ clock_line 83 os) c.as_slice-4.ensures.value))
+    (c.in_ok-put_clock-5.ensures ∙ ap (λ (os : List ClockOffset). l4 ++ clock_line 73 os) c.as_slice-5.ensures.value)

@@ -9,7 +9,7 @@ use Rattle.rtk_survey.specs.ClockLines.{clock_lines}
 use Rattle.rtk_survey.specs.FrameDates.{proposed_date}
 use Rattle.rtk_survey.specs.FrameEquipment.{told_lines}
 use Rattle.rtk_survey.specs.Summary.{station_lines}
-use Rattle.rtk_survey.specs.SummaryText.{number_line, message_lines, epoch_lines, channel_line, time_lines, near_text, signal_lines, proposal_lines}
+use Rattle.rtk_survey.specs.SummaryText.{number_line, message_lines, system_epoch_lines, channel_line, time_lines, near_text, signal_lines, proposal_lines}
 use Rattle.rtk_survey.specs.Contents.{equipment_at, epochs_held, codes_held, messages_held, system_epochs_held}
 use Rattle.rtk_survey.specs.Tracing.{times_of_week}
 use Rattle.rtk_survey.specs.declared.clock_chains.ClockSurvey.{ClockSurvey}
@@ -42,7 +42,7 @@ returns c = λ ms date told stands.
     and-then l0 l8 l9 _ (proposal_lines name (near_text (proposed_date d)) number (epochs_held s.msm) (codes_held s.msm))
     (and-then l0 l7 l8 _ (clock_lines (clocks_at s.clocks).offsets)
     (and-then l0 l6 l7 _ (channel_line (place_is_counted s.channels.items))
-    (and-then l0 l5 l6 _ (epoch_lines (system_epochs_held s))
+    (and-then l0 l5 l6 _ (system_epoch_lines (system_epochs_held s))
     (and-then l0 l4 l5 _ signals
     (and-then l0 l3 l4 _ (told_lines d e)
     (and-then l0 l2 l3 _ (time_lines times)

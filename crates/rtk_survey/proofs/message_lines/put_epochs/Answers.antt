@@ -1,7 +1,7 @@
 use Rattle.std.proofs.Common.{◌≡◌, ◌++◌, ℕ, List, take, sym, ap, ◌∙◌, arith}
 use Rattle.std.specs.Prelude.{flat_map, codes}
 use Rattle.rtk_survey.specs.Contents.{system_epochs_held}
-use Rattle.rtk_survey.specs.SummaryText.{numbered_line, beside_numbers, epoch_lines}
+use Rattle.rtk_survey.specs.SummaryText.{numbered_line, beside_numbers, system_epoch_lines}
 use Rattle.rtk_survey.proofs.ListLemmas.{put-taken}
 use Rattle.rtk_survey.proofs.message_lines.put_epochs.Goals as goal
 
@@ -17,7 +17,7 @@ loop-number-preserved c =
     ∙ ap (λ (n : ℕ). lines ++ numbered_line words n (held n)) c.from.ensures)
 
 pub returns : goal.returns
-unfolding epoch_lines
+unfolding system_epoch_lines
 returns c =
     let end : c.loop-number.number-index ≡ 24 = omega (arith, c.loop-number.auto.number-index-end, c.loop-number-test.false) in
     c.loop-number.invariant
