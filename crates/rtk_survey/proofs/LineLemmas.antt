@@ -4,7 +4,6 @@ use Rattle.std.specs.Prelude.{flat_map, filter, codes}
 use Rattle.std.specs.List.{AllByRecursion}
 use Rattle.rtk_obs.specs.declared.any_code.AnyCode.{AnyCode}
 use Rattle.rtk_obs.specs.declared.code.Code.{Code}
-use Rattle.rtk_obs.specs.declared.signal_cells.SignalEntry.{SignalEntry}
 use Rattle.rtk_obs.specs.AnyCode.{text_of, number_of, all_any_codes}
 use Rattle.rtk_obs.specs.Code.{name_of, place_of, all_codes}
 use Rattle.rtk_obs.specs.SatelliteIndex.{index_name}
@@ -23,7 +22,7 @@ use Rattle.rtk_survey.specs.FrameDates.{proposed_date}
 use Rattle.rtk_survey.specs.FrameEquipment.{told_lines}
 use Rattle.rtk_survey.specs.Proposal.{epochs_with_value, entries_with}
 use Rattle.rtk_survey.specs.Summary.{all_numbers, epochs_beside, station_lines}
-use Rattle.rtk_survey.specs.SummaryText.{look_line, number_line, numbered_line, message_numbers, message_lines, system_epoch_lines, channel_line, list_line, time_lines, near_text, untaken_numbers, listed_satellite, satellites_text, listed_index, indices_text, joined_names, joined_texts, codes_text, all_codes_text, words_text, auto_line, next_lines, signal_lines, proposal_lines}
+use Rattle.rtk_survey.specs.SummaryText.{look_line, number_line, numbered_line, message_numbers, message_lines, system_epoch_lines, channel_line, list_line, time_lines, near_text, untaken_numbers, listed_satellite, satellites_text, listed_index, indices_text, joined_names, joined_texts, all_codes_text, words_text, auto_line, next_lines, signal_lines, proposal_lines}
 use Rattle.std.specs.BTreeMap.{BTreeMap}
 use Rattle.rtk_survey.specs.Contents.{count_at, HasCodes, HasSignals, HasSystemSignals, IsStationOf, HasMsms, equipment_at, epochs_held, codes_held, any_codes_held, messages_held, system_epochs_held}
 use Rattle.rtk_survey.specs.Steps.Tables.{counts_text, untaken_text, look_lines}
