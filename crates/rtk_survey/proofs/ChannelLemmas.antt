@@ -6,7 +6,8 @@ use Rattle.rtk_message.specs.declared.any_message.AnyMessage.{AnyMessage}
 use Rattle.rtk_message.specs.declared.any_message.AnyMessage.TheVariants.{Message, Msm}
 use Rattle.rtk_message.specs.declared.message.Message as four
 use Rattle.rtk_message.specs.declared.msm.Msm as msm
-use Rattle.rtk_survey.specs.Channels.{tells_field_of, is_glonass, tells_field, place_of_field, IsChannelTold, CountsFields, TakesFields, CountsTold, IsTableMade, CountsChannels, tells_slot_channel, slot_channel_in, tells_slot_if, tells_slot_of_1020, CountsSlots}
+use Rattle.rtk_survey.specs.Channels.{tells_field_of, is_glonass, tells_field, place_of_field, IsChannelTold, CountsFields, CountsTold, CountsChannels, tells_slot_channel, slot_channel_in, tells_slot_if, tells_slot_of_1020, CountsSlots}
+use Rattle.rtk_survey.specs.Steps.Fields.{TakesFields, IsTableMade}
 use Rattle.rtk_survey.specs.Counting.{count_of}
 use Rattle.rtk_survey.specs.declared.system_message.SlotChannel.{SlotChannel}
 use Rattle.rtk_survey.specs.declared.system_message.SystemMessage.{SystemMessage}
