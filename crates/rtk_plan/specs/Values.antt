@@ -5,7 +5,7 @@ use Rattle.std.specs.List.{list_any, sum_by}
 use Rattle.rtk_message.specs.declared.msm_kind.MsmKind.{MsmKind}
 use Rattle.rtk_obs.specs.declared.code.Code.{Code}
 use Rattle.rtk_obs.specs.Code.{all_codes}
-use Rattle.rtk_survey.specs.Contents.{codes_held, count_at, msm_part}
+use Rattle.rtk_survey.specs.Contents.{codes_held, msm_part, others_held}
 use Rattle.rtk_survey.specs.Counting.{shown_count}
 use Rattle.rtk_survey.specs.declared.epochs.Epochs.{Epochs}
 use Rattle.rtk_survey.specs.declared.station.StationSurvey.{StationSurvey}
@@ -98,7 +98,7 @@ sbas_in_captures ss n = shown_count (sum_by (λ s. sbas_of_station (station_in n
 
 -- how many messages of a number that is not read captures have
 abbrev pub others_in_captures : List CaptureSurvey → ℕ → ℕ
-others_in_captures ss number = shown_count (sum_by (λ s. count_at s.contents.unread.others number) ss)
+others_in_captures ss number = shown_count (sum_by (λ s. others_held s.contents number) ss)
 
 -- table
 -- how many messages of a number that is read a station has

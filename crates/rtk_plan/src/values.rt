@@ -9,7 +9,7 @@ ghost use Rattle.rtk_plan.specs.Values as spec;
 
 use rtk_message::MsmKind;
 use rtk_obs::{ALL_CODES, Code};
-use rtk_survey::{CaptureSurvey, Epochs, StationSurvey, count_of_number};
+use rtk_survey::{CaptureSurvey, Epochs, StationSurvey, others_numbered};
 use std::alloc::{AllocError, Global};
 
 // ---- epochs
@@ -208,7 +208,7 @@ pub(crate) fn others_in_captures(surveys: &[CaptureSurvey], number: u16) -> u64
 {
     let mut count = 0u64;
     for survey in surveys {
-        count = count.saturating_add(count_of_number(&survey.contents.unread.others, number));
+        count = count.saturating_add(others_numbered(&survey.contents, number));
     }
     count
 }
