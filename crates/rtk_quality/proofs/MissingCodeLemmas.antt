@@ -113,9 +113,9 @@ code-more n codes y count interval s before within are stands = record {
 -- ---- a row more
 
 -- before the rows of an epoch nothing has changed
-pub no-row-yet : (xs : List MissingCodes) (count : ℕ) (interval : Option ℕ) (time : ℕ) (es : List EpochTableView) → StandForMissing xs count interval es
-    → StandForMissing xs count interval (without_rows time ∷ es)
-no-row-yet xs count interval time es are = record {
+pub no-row-yet : (xs : List MissingCodes) (count most : ℕ) (interval : Option ℕ) (time : ℕ) (es : List EpochTableView) → StandForMissing xs count most interval es
+    → StandForMissing xs count most interval (without_rows time ∷ es)
+no-row-yet xs count most interval time es are = record {
   size = are.size;
   each = λ place d within. codes-same interval count (sightings_of (place + 1) es) (absent_at time) (get_or xs place d).codes.items refl (are.each place d within);
 }
@@ -127,10 +127,10 @@ missing-due interval place before time m was = record {
 }
 
 -- the satellite of the row has none in the epoch so far
-pub codes-due : (e : EpochTableView) (i place : ℕ) (r : SatelliteRow) (xs : List MissingCodes) (d : MissingCodes) (count : ℕ) (interval : Option ℕ) (es : List EpochTableView)
-    → IsRowAt e i r → place + 1 ≡ r.satellite → place < 32 → StandForMissing xs count interval (first_rows e i ∷ es)
+pub codes-due : (e : EpochTableView) (i place most : ℕ) (r : SatelliteRow) (xs : List MissingCodes) (d : MissingCodes) (count : ℕ) (interval : Option ℕ) (es : List EpochTableView)
+    → IsRowAt e i r → place + 1 ≡ r.satellite → place < most → StandForMissing xs count most interval (first_rows e i ∷ es)
     → StandForCodes (get_or xs place d).codes.items count interval (sightings_of r.satellite es)
-codes-due e i place r xs d count interval es at number few are =
+codes-due e i place most r xs d count interval es at number few are =
     let own : List MissingRuns = (get_or xs place d).codes.items in
     let before : List Sighting = sightings_of r.satellite es in
     let was : StandForCodes own count interval (absent_at e.time ∷ before) =
@@ -141,13 +141,13 @@ codes-due e i place r xs d count interval es at number few are =
       each = λ k m within. missing-due interval k before e.time (get_or own k m) (was.each k m within);
     }
 
-pub codes-noted : (e : EpochTableView) (i place : ℕ) (r : SatelliteRow) (xs : List MissingCodes) (y : MissingCodes) (count : ℕ) (interval : Option ℕ) (es : List EpochTableView)
-    → IsRowAt e i r → place + 1 ≡ r.satellite → place < 32 → StandForMissing xs count interval (first_rows e i ∷ es)
+pub codes-noted : (e : EpochTableView) (i place most : ℕ) (r : SatelliteRow) (xs : List MissingCodes) (y : MissingCodes) (count : ℕ) (interval : Option ℕ) (es : List EpochTableView)
+    → IsRowAt e i r → place + 1 ≡ r.satellite → place < most → StandForMissing xs count most interval (first_rows e i ∷ es)
     → StandForCodes y.codes.items count interval (record { time = e.time; observed = r.observed.items } ∷ sightings_of r.satellite es)
-    → StandForMissing (set xs place y) count interval (first_rows e (i + 1) ∷ es)
-codes-noted e i place r xs y count interval es at number few are stands = record {
+    → StandForMissing (set xs place y) count most interval (first_rows e (i + 1) ∷ es)
+codes-noted e i place most r xs y count interval es at number few are stands = record {
   size = length-set xs place y ∙ are.size;
-  each = row-set (λ (m : MissingCodes) (ss : List Sighting). StandForCodes m.codes.items count interval ss) e i place r xs y es at number few are.size are.each stands;
+  each = row-set (λ (m : MissingCodes) (ss : List Sighting). StandForCodes m.codes.items count interval ss) e i place most r xs y es at number few are.size are.each stands;
 }
 
 -- ---- one after another

@@ -34,12 +34,12 @@ part-some interval es code at place count satellite t0 t1 t2 t3 some are number 
     ∙ sym (ap (λ (b : Bool). t0 ++ cond b (start ++ 32 ∷ mark) []) some)
 
 -- the rows of one code more
-pub rows-more : (interval : Option ℕ) (es : List EpochTableView) (i : ℕ) (codes : List Code) (d : Code) (all mid after : List ℕ) → i < length codes
-    → all ≡ mid ++ rows_from interval es i (drop i codes) → after ≡ mid ++ never_row interval es i (get_or codes i d)
-    → all ≡ after ++ rows_from interval es (i + 1) (drop (i + 1) codes)
-rows-more interval es i codes d all mid after within so_far more =
+pub rows-more : (most : ℕ) (interval : Option ℕ) (es : List EpochTableView) (i : ℕ) (codes : List Code) (d : Code) (all mid after : List ℕ) → i < length codes
+    → all ≡ mid ++ rows_from most interval es i (drop i codes) → after ≡ mid ++ never_row most interval es i (get_or codes i d)
+    → all ≡ after ++ rows_from most interval es (i + 1) (drop (i + 1) codes)
+rows-more most interval es i codes d all mid after within so_far more =
     let c : Code = get_or codes i d in
     let rest : List Code = drop (i + 1) codes in
-    so_far ∙ ap (λ (cs : List Code). mid ++ rows_from interval es i cs) (drop_more codes i d within)
-    ∙ sym (append_assoc mid (never_row interval es i c) (rows_from interval es (i + 1) rest))
-    ∙ ap (λ (t : List ℕ). t ++ rows_from interval es (i + 1) rest) (sym more)
+    so_far ∙ ap (λ (cs : List Code). mid ++ rows_from most interval es i cs) (drop_more codes i d within)
+    ∙ sym (append_assoc mid (never_row most interval es i c) (rows_from most interval es (i + 1) rest))
+    ∙ ap (λ (t : List ℕ). t ++ rows_from most interval es (i + 1) rest) (sym more)

@@ -80,15 +80,15 @@ abbrev pub number_if_seen : (CodeNumbers → ℕ) → CodeNumbers → ℕ
 number_if_seen number own = if own.counts.seen then number own else 0
 
 -- a number of the code at a place, of all satellites together
-abbrev pub sum_of_satellites : (CodeNumbers → ℕ) → Option ℕ → ℕ → List EpochTableView → ℕ
-sum_of_satellites number interval place es =
-    sum_by (λ satellite. number_if_seen number (numbers_of interval (sightings_of satellite es) place)) (range_with_len 1 32)
+abbrev pub sum_of_satellites : (CodeNumbers → ℕ) → ℕ → Option ℕ → ℕ → List EpochTableView → ℕ
+sum_of_satellites number most interval place es =
+    sum_by (λ satellite. number_if_seen number (numbers_of interval (sightings_of satellite es) place)) (range_with_len 1 most)
 
 -- the totals of a code have this sum
 abbrev pub IsTotal : (CodeNumbers → ℕ) → Type 0
 IsTotal number =
-    (interval : Option ℕ) (place : ℕ) (es : List EpochTableView) → sum_of_satellites number interval place es < 2 ^ 64
-    → number (totals_of interval es place) ≡ sum_of_satellites number interval place es
+    (most : ℕ) (interval : Option ℕ) (place : ℕ) (es : List EpochTableView) → sum_of_satellites number most interval place es < 2 ^ 64
+    → number (totals_of most interval es place) ≡ sum_of_satellites number most interval place es
 
 pub record TotalsAreSums : Type 0 where
   pub phases : IsTotal (λ n. n.counts.phases)
@@ -241,15 +241,15 @@ RunsHaveAllEpochs =
 -- no burst has more epochs than one before it
 abbrev pub LargestBurstsAreFirst : Type 0
 LargestBurstsAreFirst =
-    (interval : Option ℕ) (es : List EpochTableView) → AllPairs (λ a b. size_of_burst b ≤ size_of_burst a) (largest_first size_of_burst (all_bursts interval es))
+    (most : ℕ) (interval : Option ℕ) (es : List EpochTableView) → AllPairs (λ a b. size_of_burst b ≤ size_of_burst a) (largest_first size_of_burst (all_bursts most interval es))
 
 -- no run is longer than one before it
 abbrev pub LongestRunsAreFirst : Type 0
 LongestRunsAreFirst =
-    (interval : Option ℕ) (es : List EpochTableView) → AllPairs (λ a b. size_of_run b ≤ size_of_run a) (largest_first size_of_run (half_runs interval es))
+    (most : ℕ) (interval : Option ℕ) (es : List EpochTableView) → AllPairs (λ a b. size_of_run b ≤ size_of_run a) (largest_first size_of_run (half_runs most interval es))
 
 -- no time for which a code is missing is longer than one before it
 abbrev pub LongestMissingAreFirst : Type 0
 LongestMissingAreFirst =
-    (interval : Option ℕ) (listed : List Code) (es : List EpochTableView)
-    → AllPairs (λ a b. size_of_missing b ≤ size_of_missing a) (largest_first size_of_missing (all_missing interval listed es))
+    (most : ℕ) (interval : Option ℕ) (listed : List Code) (es : List EpochTableView)
+    → AllPairs (λ a b. size_of_missing b ≤ size_of_missing a) (largest_first size_of_missing (all_missing most interval listed es))

@@ -67,8 +67,8 @@ missing_from interval before satellite place (c ∷ cs) = missing_of interval be
 
 -- formula
 -- all of them, by satellite, then by code, and then by time
-unfoldable pub all_missing : Option ℕ → List Code → List EpochTableView → List MissingCode
-all_missing interval listed es = flat_map (λ satellite. missing_from interval (sightings_of satellite es) satellite 0 listed) (range_with_len 1 32)
+unfoldable pub all_missing : ℕ → Option ℕ → List Code → List EpochTableView → List MissingCode
+all_missing most interval listed es = flat_map (λ satellite. missing_from interval (sightings_of satellite es) satellite 0 listed) (range_with_len 1 most)
 
 -- the size of a run is the number of its epochs with a phase of the satellite
 abbrev pub size_of_missing : MissingCode → ℕ
@@ -76,10 +76,10 @@ size_of_missing m = m.run.epochs
 
 -- formula
 -- how many there are
-abbrev pub missing_codes_in : Option ℕ → List Code → List EpochTableView → ℕ
-missing_codes_in interval listed es = count_of (all_missing interval listed es)
+abbrev pub missing_codes_in : ℕ → Option ℕ → List Code → List EpochTableView → ℕ
+missing_codes_in most interval listed es = count_of (all_missing most interval listed es)
 
 -- formula
 -- the ten longest, the longest first, and of two alike the earlier one
-abbrev pub longest_missing : Option ℕ → List Code → List EpochTableView → List MissingCode
-longest_missing interval listed es = ten_largest size_of_missing (all_missing interval listed es)
+abbrev pub longest_missing : ℕ → Option ℕ → List Code → List EpochTableView → List MissingCode
+longest_missing most interval listed es = ten_largest size_of_missing (all_missing most interval listed es)

@@ -38,13 +38,13 @@ row_part interval es code at place =
 
 -- formula
 -- the satellites that have no phase of a code
-unfoldable pub never_row : Option ℕ → List EpochTableView → ℕ → Code → List ℕ
-never_row interval es at code = flat_map (row_part interval es code at) (range_with_len 0 32) ++ row_end (without_before interval es at 32)
+unfoldable pub never_row : ℕ → Option ℕ → List EpochTableView → ℕ → Code → List ℕ
+never_row most interval es at code = flat_map (row_part interval es code at) (range_with_len 0 most) ++ row_end (without_before interval es at most)
 
 -- the codes from a place on
-abbrev pub rows_from : Option ℕ → List EpochTableView → ℕ → List Code → List ℕ
-rows_from interval es at [] = []
-rows_from interval es at (c ∷ cs) = never_row interval es at c ++ rows_from interval es (at + 1) cs
+abbrev pub rows_from : ℕ → Option ℕ → List EpochTableView → ℕ → List Code → List ℕ
+rows_from most interval es at [] = []
+rows_from most interval es at (c ∷ cs) = never_row most interval es at c ++ rows_from most interval es (at + 1) cs
 
-unfoldable pub never_rows : Option ℕ → List EpochTableView → List Code → List ℕ
-never_rows interval es listed = rows_from interval es 0 listed
+unfoldable pub never_rows : ℕ → Option ℕ → List EpochTableView → List Code → List ℕ
+never_rows most interval es listed = rows_from most interval es 0 listed

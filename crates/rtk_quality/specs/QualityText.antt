@@ -73,18 +73,18 @@ part_of form Never listed interval before satellite =
 part_of form Passes listed interval before satellite = flat_map (pass_entry form satellite) (reverse (passes_of interval before))
 
 -- what a section has of each satellite
-unfoldable pub parts_of : Form → Section → List Code → Option ℕ → List EpochTableView → List ℕ
-parts_of form section listed interval es =
-    flat_map (λ satellite. part_of form section listed interval (sightings_of satellite es) satellite) (range_with_len 1 32)
+unfoldable pub parts_of : Form → Section → List Code → ℕ → Option ℕ → List EpochTableView → List ℕ
+parts_of form section listed most interval es =
+    flat_map (λ satellite. part_of form section listed interval (sightings_of satellite es) satellite) (range_with_len 1 most)
 
 -- formula
 -- the entries of a section: those of each satellite. In a table the codes of which satellites have no phase have
 -- rows by code.
-abbrev pub section_entries : Form → Section → List Code → Option ℕ → List EpochTableView → List ℕ
-section_entries form Codes listed interval es = parts_of form Codes listed interval es
-section_entries form Tracked listed interval es = parts_of form Tracked listed interval es
-section_entries form Never listed interval es = in_table form (never_rows interval es listed) (parts_of form Never listed interval es)
-section_entries form Passes listed interval es = parts_of form Passes listed interval es
+abbrev pub section_entries : Form → Section → List Code → ℕ → Option ℕ → List EpochTableView → List ℕ
+section_entries form Codes listed most interval es = parts_of form Codes listed most interval es
+section_entries form Tracked listed most interval es = parts_of form Tracked listed most interval es
+section_entries form Never listed most interval es = in_table form (never_rows most interval es listed) (parts_of form Never listed most interval es)
+section_entries form Passes listed most interval es = parts_of form Passes listed most interval es
 
 -- table
 -- the headings of the sections in a table; the codes of satellites follow those of the station
@@ -103,9 +103,9 @@ section_key Never = codes ",\n\"never\":["
 section_key Passes = codes ",\n\"passes\":["
 
 -- a section of the text
-unfoldable pub section_text : Form → Section → List Code → Option ℕ → List EpochTableView → List ℕ
-section_text form section listed interval es =
-    list_text form (section_heading section) (section_key section) (section_entries form section listed interval es)
+unfoldable pub section_text : Form → Section → List Code → ℕ → Option ℕ → List EpochTableView → List ℕ
+section_text form section listed most interval es =
+    list_text form (section_heading section) (section_key section) (section_entries form section listed most interval es)
 
 -- table
 -- the heading of the columns of codes
@@ -113,10 +113,10 @@ abbrev pub codes_heading : List ℕ
 codes_heading = codes "\n                            ranges                             strength in dB-Hz\nsignal phases     of      %   only slips returns rises half     min  mean    max\n"
 
 -- the codes of the station
-unfoldable pub codes_text : Form → List Code → Option ℕ → List EpochTableView → List ℕ
-codes_text form listed interval es =
+unfoldable pub codes_text : Form → List Code → ℕ → Option ℕ → List EpochTableView → List ℕ
+codes_text form listed most interval es =
     list_text form codes_heading (codes ",\n\"codes\":[")
-    (each_code (λ place code. code_entry form code (satellites_in interval es) (code_of_station interval es place)) 0 listed)
+    (each_code (λ place code. code_entry form code (satellites_in most interval es) (code_of_station most interval es place)) 0 listed)
 
 -- ---- the hours, gaps and falls, and what else happened
 
@@ -217,14 +217,14 @@ station_text form s =
 
 -- formula
 -- how many there are of what has a list of the ten largest
-abbrev pub listed_counts : Option ℕ → ℕ → List Code → List EpochTableView → ListedCounts
-listed_counts interval unit listed es =
+abbrev pub listed_counts : ℕ → Option ℕ → ℕ → List Code → List EpochTableView → ListedCounts
+listed_counts most interval unit listed es =
     record {
       gaps = gaps_in unit es;
       moments = moments_in interval es;
-      bursts = all_bursts_in interval es;
-      runs = half_runs_in interval es;
-      missing = missing_codes_in interval listed es;
+      bursts = all_bursts_in most interval es;
+      runs = half_runs_in most interval es;
+      missing = missing_codes_in most interval listed es;
     }
 
 -- formula
@@ -251,36 +251,36 @@ close_text form = in_form form [] (codes "}\n")
 -- the hours, and the ten longest gaps; the largest falls; the ten longest outages; the ten epochs at which most
 -- satellites slip; the ten hours in which a satellite slips at most epochs; the ten longest runs of half cycles; the ten
 -- longest runs of epochs at which a code is missing
-unfoldable pub station_part : Form → List Code → Option ℕ → ℕ → List EpochTableView → List ℕ
-station_part form listed interval unit es =
+unfoldable pub station_part : Form → List Code → ℕ → Option ℕ → ℕ → List EpochTableView → List ℕ
+station_part form listed most interval unit es =
     hours_text form listed (reverse (hours_of interval unit listed es)) ++ gaps_text form (gaps_in unit es) (longest_gaps unit es)
     ++ falls_text form (reverse (hours_of interval unit listed es)) ++ outages_text form (count_of (all_outages interval es)) (longest_outages interval es)
-    ++ moments_text form (moments_in interval es) (largest_moments interval es) ++ bursts_text form (all_bursts_in interval es) (largest_bursts interval es)
-    ++ runs_text form (half_runs_in interval es) (longest_half_runs interval es)
-    ++ missing_text form (missing_codes_in interval listed es) (longest_missing interval listed es)
+    ++ moments_text form (moments_in interval es) (largest_moments interval es) ++ bursts_text form (all_bursts_in most interval es) (largest_bursts most interval es)
+    ++ runs_text form (half_runs_in most interval es) (longest_half_runs most interval es)
+    ++ missing_text form (missing_codes_in most interval listed es) (longest_missing most interval listed es)
 
 -- formula
 -- the codes of the station and of satellites, the sums of satellites, and their passes
-unfoldable pub signals_part : Form → List Code → Option ℕ → List EpochTableView → List ℕ
-signals_part form listed interval es =
-    codes_text form listed interval es ++ section_text form Codes listed interval es ++ section_text form Tracked listed interval es
-    ++ section_text form Never listed interval es ++ section_text form Passes listed interval es
+unfoldable pub signals_part : Form → List Code → ℕ → Option ℕ → List EpochTableView → List ℕ
+signals_part form listed most interval es =
+    codes_text form listed most interval es ++ section_text form Codes listed most interval es ++ section_text form Tracked listed most interval es
+    ++ section_text form Never listed most interval es ++ section_text form Passes listed most interval es
 
 -- formula
 -- what follows the heading: a table begins with the hours, gaps and falls, since they say when something
 -- happened; lines and JSON end with them
-unfoldable pub body_text : Form → List Code → Option ℕ → ℕ → List EpochTableView → List ℕ
-body_text Table listed interval unit es = station_part Table listed interval unit es ++ signals_part Table listed interval es
-body_text Lines listed interval unit es = signals_part Lines listed interval es ++ station_part Lines listed interval unit es
-body_text Json listed interval unit es = signals_part Json listed interval es ++ station_part Json listed interval unit es
+unfoldable pub body_text : Form → List Code → ℕ → Option ℕ → ℕ → List EpochTableView → List ℕ
+body_text Table listed most interval unit es = station_part Table listed most interval unit es ++ signals_part Table listed most interval es
+body_text Lines listed most interval unit es = signals_part Lines listed most interval es ++ station_part Lines listed most interval unit es
+body_text Json listed most interval unit es = signals_part Json listed most interval es ++ station_part Json listed most interval unit es
 
 -- formula
 -- the numbers of a file of this marker, these codes, and these moments of its first and its last record
-unfoldable pub quality_text : Form → List ℕ → List Code → ℕ → ℕ → Option ℕ → List EpochTableView → List ℕ
-quality_text form marker listed first last interval es =
-    heading_text form marker (reading_of first) (reading_of last) interval (satellites_in interval es)
-    (record_counts_of (unit_of interval) es) (listed_counts interval (unit_of interval) listed es) (station_sums interval es)
-    ++ body_text form listed interval (unit_of interval) es ++ close_text form
+unfoldable pub quality_text : Form → List ℕ → List Code → ℕ → ℕ → ℕ → Option ℕ → List EpochTableView → List ℕ
+quality_text form marker listed first last most interval es =
+    heading_text form marker (reading_of first) (reading_of last) interval (satellites_in most interval es)
+    (record_counts_of (unit_of interval) es) (listed_counts most interval (unit_of interval) listed es) (station_sums most interval es)
+    ++ body_text form listed most interval (unit_of interval) es ++ close_text form
 
 -- table
 -- the lists of a file without records, which are empty in JSON and absent elsewhere
@@ -296,10 +296,10 @@ text_of_none form marker =
 
 -- formula
 -- the numbers of a file with this interval
-abbrev pub text_of_epochs : Form → List ℕ → List Code → ℕ → Option ℕ → List EpochTableView → List ℕ
-text_of_epochs form marker listed first interval [] = text_of_none form marker
-text_of_epochs form marker listed first interval (e ∷ before) =
-    quality_text form marker listed first e.time interval (e ∷ before)
+abbrev pub text_of_epochs : Form → List ℕ → List Code → ℕ → ℕ → Option ℕ → List EpochTableView → List ℕ
+text_of_epochs form marker listed first most interval [] = text_of_none form marker
+text_of_epochs form marker listed first most interval (e ∷ before) =
+    quality_text form marker listed first e.time most interval (e ∷ before)
 
 -- formula
 -- the numbers of a table

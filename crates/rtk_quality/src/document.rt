@@ -63,8 +63,8 @@ fn put_station_lines(
     codes: &[Code],
     counts: &FileCounts,
 ) -> Result<(), AllocError>
-    ensures { OnOk result ((interval : Option ℕ) (unit : ℕ) (es : List EpochTableView) → HasCounted counts.now interval unit codes.now es
-        → text.new.items ≡ text.old.items ++ station_part form codes.now interval unit es) }
+    ensures { OnOk result ((most : ℕ) (interval : Option ℕ) (unit : ℕ) (es : List EpochTableView) → HasCounted counts.now most interval unit codes.now es
+        → text.new.items ≡ text.old.items ++ station_part form codes.now most interval unit es) }
 {
     let hours = counts.hours.all(alloc)?;
     put_hours(text, form, codes, hours.as_slice())?;
@@ -89,8 +89,8 @@ fn put_signals(
 ) -> Result<(), AllocError>
     requires few { length codes.now ≤ 16 }
     requires size { length satellites.now ≡ 32 }
-    ensures { OnOk result ((interval : Option ℕ) (es : List EpochTableView) → StandForSatellites satellites.now interval es → StandForEnded ended.now interval es
-        → text.new.items ≡ text.old.items ++ signals_part form codes.now interval es) }
+    ensures { OnOk result ((most : ℕ) (interval : Option ℕ) (es : List EpochTableView) → StandForSatellites satellites.now most interval es → StandForEnded ended.now most interval es
+        → text.new.items ≡ text.old.items ++ signals_part form codes.now most interval es) }
 {
     put_codes(text, form, codes, satellites)?;
     put_section(text, form, Section::Codes, codes, satellites, ended)?;
@@ -111,8 +111,8 @@ fn put_body(
 ) -> Result<(), AllocError>
     requires few { length codes.now ≤ 16 }
     requires size { length counts.now.satellites.items ≡ 32 }
-    ensures { OnOk result ((interval : Option ℕ) (unit : ℕ) (es : List EpochTableView) → HasCounted counts.now interval unit codes.now es
-        → text.new.items ≡ text.old.items ++ body_text form codes.now interval unit es) }
+    ensures { OnOk result ((most : ℕ) (interval : Option ℕ) (unit : ℕ) (es : List EpochTableView) → HasCounted counts.now most interval unit codes.now es
+        → text.new.items ≡ text.old.items ++ body_text form codes.now most interval unit es) }
 {
     let satellites = counts.satellites.as_slice();
     let ended = counts.ended.as_slice();
@@ -143,8 +143,8 @@ fn text_of(
 ) -> Result<Vec<u8>, AllocError>
     requires few { length codes.now ≤ 16 }
     requires size { length counts.now.satellites.items ≡ 32 }
-    ensures { IfOk result (λ text. (es : List EpochTableView) → HasCounted counts.now interval (unit_of interval) codes.now es
-        → text.items ≡ quality_text form marker.now codes.now first last interval es) }
+    ensures { IfOk result (λ text. (most : ℕ) (es : List EpochTableView) → HasCounted counts.now most interval (unit_of interval) codes.now es
+        → text.items ≡ quality_text form marker.now codes.now first last most interval es) }
 {
     let satellites = counts.satellites.as_slice();
     let seen = satellites_in(satellites) as u64;

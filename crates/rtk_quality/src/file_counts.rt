@@ -97,8 +97,8 @@ fn ms_of(moment: Option<GpsMs>) -> Option<u64>
 fn note_satellites(satellites: &mut Vec<SatelliteCounts>)
     requires { length satellites.old.items ≡ 32 }
     ensures size { length satellites.new.items ≡ 32 }
-    ensures satellites { (interval : Option ℕ) (time : ℕ) (es : List EpochTableView) → StandForSatellites satellites.old.items interval es
-        → StandForSatellites satellites.new.items interval (without_rows time ∷ es) }
+    ensures satellites { (most : ℕ) (interval : Option ℕ) (time : ℕ) (es : List EpochTableView) → StandForSatellites satellites.old.items most interval es
+        → StandForSatellites satellites.new.items most interval (without_rows time ∷ es) }
 {
     for place in 0..32 {
         satellites[place].note_epoch();
@@ -119,29 +119,29 @@ fn note_rows(
     requires codes { length codes.old.items ≡ 32 }
     ensures size { OnOk result (length satellites.new.items ≡ 32) }
     ensures codes_size { OnOk result (length codes.new.items ≡ 32) }
-    ensures satellites { OnOk result ((es : List EpochTableView) → record_ms ≡ newest_moment es
-        → StandForSatellites satellites.old.items interval (without_rows epoch.now.time ∷ es)
-        → StandForSatellites satellites.new.items interval (epoch.now ∷ es)) }
-    ensures codes { OnOk result ((es : List EpochTableView) (count : ℕ) → record_ms ≡ newest_moment es
-        → StandForSatellites satellites.old.items interval (without_rows epoch.now.time ∷ es)
-        → StandForMissing codes.old.items count interval es → StandForMissing codes.new.items count interval (epoch.now ∷ es)) }
-    ensures ended { OnOk result ((es : List EpochTableView) → record_ms ≡ newest_moment es
-        → StandForSatellites satellites.old.items interval (without_rows epoch.now.time ∷ es)
-        → StandForEnded ended.old.items interval es → StandForEnded ended.new.items interval (epoch.now ∷ es)) }
-    ensures outages { OnOk result ((es : List EpochTableView) (all : List Outage) → record_ms ≡ newest_moment es
-        → StandForSatellites satellites.old.items interval (without_rows epoch.now.time ∷ es)
+    ensures satellites { OnOk result ((most : ℕ) (es : List EpochTableView) → record_ms ≡ newest_moment es
+        → StandForSatellites satellites.old.items most interval (without_rows epoch.now.time ∷ es)
+        → StandForSatellites satellites.new.items most interval (epoch.now ∷ es)) }
+    ensures codes { OnOk result ((most : ℕ) (es : List EpochTableView) (count : ℕ) → record_ms ≡ newest_moment es
+        → StandForSatellites satellites.old.items most interval (without_rows epoch.now.time ∷ es)
+        → StandForMissing codes.old.items count most interval es → StandForMissing codes.new.items count most interval (epoch.now ∷ es)) }
+    ensures ended { OnOk result ((most : ℕ) (es : List EpochTableView) → record_ms ≡ newest_moment es
+        → StandForSatellites satellites.old.items most interval (without_rows epoch.now.time ∷ es)
+        → StandForEnded ended.old.items most interval es → StandForEnded ended.new.items most interval (epoch.now ∷ es)) }
+    ensures outages { OnOk result ((most : ℕ) (es : List EpochTableView) (all : List Outage) → record_ms ≡ newest_moment es
+        → StandForSatellites satellites.old.items most interval (without_rows epoch.now.time ∷ es)
         → AreLargest size_of_outage events.old.outages all → AreLargest size_of_outage events.new.outages (all ++ outages_in interval es epoch.now.time epoch.now.rows)) }
-    ensures runs { OnOk result ((es : List EpochTableView) (all : List HalfRun) → record_ms ≡ newest_moment es
-        → StandForSatellites satellites.old.items interval (without_rows epoch.now.time ∷ es)
+    ensures runs { OnOk result ((most : ℕ) (es : List EpochTableView) (all : List HalfRun) → record_ms ≡ newest_moment es
+        → StandForSatellites satellites.old.items most interval (without_rows epoch.now.time ∷ es)
         → AreLargest size_of_run events.old.runs all → AreLargest size_of_run events.new.runs (all ++ runs_in interval es epoch.now.time epoch.now.rows)) }
-    ensures bursts { OnOk result ((es : List EpochTableView) (all : List Burst) → record_ms ≡ newest_moment es
-        → StandForSatellites satellites.old.items interval (without_rows epoch.now.time ∷ es)
+    ensures bursts { OnOk result ((most : ℕ) (es : List EpochTableView) (all : List Burst) → record_ms ≡ newest_moment es
+        → StandForSatellites satellites.old.items most interval (without_rows epoch.now.time ∷ es)
         → AreLargest size_of_burst events.old.bursts all → AreLargest size_of_burst events.new.bursts (all ++ bursts_in interval es epoch.now.time epoch.now.rows)) }
-    ensures locks { IfOk result (λ notes. (es : List EpochTableView) → record_ms ≡ newest_moment es
-        → StandForSatellites satellites.old.items interval (without_rows epoch.now.time ∷ es)
+    ensures locks { IfOk result (λ notes. (most : ℕ) (es : List EpochTableView) → record_ms ≡ newest_moment es
+        → StandForSatellites satellites.old.items most interval (without_rows epoch.now.time ∷ es)
         → notes.locks ≡ locks_onto interval es epoch.now.time no_locks epoch.now.rows) }
-    ensures together { IfOk result (λ notes. (es : List EpochTableView) → record_ms ≡ newest_moment es
-        → StandForSatellites satellites.old.items interval (without_rows epoch.now.time ∷ es)
+    ensures together { IfOk result (λ notes. (most : ℕ) (es : List EpochTableView) → record_ms ≡ newest_moment es
+        → StandForSatellites satellites.old.items most interval (without_rows epoch.now.time ∷ es)
         → notes.together ≡ together_in interval es epoch.now.time epoch.now.rows) }
 {
     let time = epoch.time();
@@ -165,10 +165,10 @@ fn note_rows(
 fn note_last(events: &mut Events, satellites: &[SatelliteCounts]) -> Result<(), AllocError>
     requires { length satellites.now ≡ 32 }
     ensures outages { OnOk result (events.new.outages ≡ events.old.outages) }
-    ensures runs { OnOk result ((interval : Option ℕ) (es : List EpochTableView) (all : List HalfRun) → StandForSatellites satellites.now interval es
-        → AreLargest size_of_run events.old.runs all → AreLargest size_of_run events.new.runs (all ++ open_runs interval es)) }
-    ensures bursts { OnOk result ((interval : Option ℕ) (es : List EpochTableView) (all : List Burst) → StandForSatellites satellites.now interval es
-        → AreLargest size_of_burst events.old.bursts all → AreLargest size_of_burst events.new.bursts (all ++ last_bursts interval es)) }
+    ensures runs { OnOk result ((most : ℕ) (interval : Option ℕ) (es : List EpochTableView) (all : List HalfRun) → StandForSatellites satellites.now most interval es
+        → AreLargest size_of_run events.old.runs all → AreLargest size_of_run events.new.runs (all ++ open_runs most interval es)) }
+    ensures bursts { OnOk result ((most : ℕ) (interval : Option ℕ) (es : List EpochTableView) (all : List Burst) → StandForSatellites satellites.now most interval es
+        → AreLargest size_of_burst events.old.bursts all → AreLargest size_of_burst events.new.bursts (all ++ last_bursts most interval es)) }
 {
     for (place, counts) in satellites.iter().enumerate() {
         let satellite = place as u8 + 1;
@@ -181,7 +181,7 @@ fn note_last(events: &mut Events, satellites: &[SatelliteCounts]) -> Result<(), 
 /// The numbers of the code at this place over all satellites that have it.
 pub(crate) fn totals_of(satellites: &[SatelliteCounts], place: usize) -> CodeNumbers
     requires { place < 16 }
-    ensures { (interval : Option ℕ) (es : List EpochTableView) → StandForSatellites satellites.now interval es → result ≡ totals_of interval es place }
+    ensures { (most : ℕ) (interval : Option ℕ) (es : List EpochTableView) → StandForSatellites satellites.now most interval es → result ≡ totals_of most interval es place }
 {
     let mut totals = CodeNumbers::none();
     for satellite in satellites {
@@ -192,7 +192,7 @@ pub(crate) fn totals_of(satellites: &[SatelliteCounts], place: usize) -> CodeNum
 
 /// How many phases could be there of a code that each satellite sends.
 pub(crate) fn possible_in(satellites: &[SatelliteCounts]) -> u64
-    ensures { (interval : Option ℕ) (es : List EpochTableView) → StandForSatellites satellites.now interval es → result ≡ possible_in interval es }
+    ensures { (most : ℕ) (interval : Option ℕ) (es : List EpochTableView) → StandForSatellites satellites.now most interval es → result ≡ possible_in most interval es }
 {
     let mut possible = 0_u64;
     for satellite in satellites {
@@ -203,7 +203,7 @@ pub(crate) fn possible_in(satellites: &[SatelliteCounts]) -> u64
 
 /// The sums of all satellites.
 pub(crate) fn station_sums(satellites: &[SatelliteCounts]) -> PassSums
-    ensures { (interval : Option ℕ) (es : List EpochTableView) → StandForSatellites satellites.now interval es → result ≡ station_sums interval es }
+    ensures { (most : ℕ) (interval : Option ℕ) (es : List EpochTableView) → StandForSatellites satellites.now most interval es → result ≡ station_sums most interval es }
 {
     let mut sums = PassSums::none();
     for satellite in satellites {
@@ -214,7 +214,7 @@ pub(crate) fn station_sums(satellites: &[SatelliteCounts]) -> PassSums
 
 /// How many satellites the file has.
 pub(crate) fn satellites_in(satellites: &[SatelliteCounts]) -> usize
-    ensures { (interval : Option ℕ) (es : List EpochTableView) → StandForSatellites satellites.now interval es → result ≡ satellites_in interval es }
+    ensures { (most : ℕ) (interval : Option ℕ) (es : List EpochTableView) → StandForSatellites satellites.now most interval es → result ≡ satellites_in most interval es }
 {
     let mut seen = 0;
     for satellite in satellites {
@@ -227,7 +227,7 @@ pub(crate) fn satellites_in(satellites: &[SatelliteCounts]) -> usize
 
 // So many codes of each of the satellites 1 to 32, without an epoch.
 fn missing_codes(alloc: Global, count: usize) -> Result<Vec<MissingCodes>, AllocError>
-    ensures { IfOk result (λ missing. (interval : Option ℕ) → StandForMissing missing.items count interval []) }
+    ensures { IfOk result (λ missing. (most : ℕ) (interval : Option ℕ) → StandForMissing missing.items count most interval []) }
 {
     let mut missing = Vec::new(alloc);
     for _satellite in 0..32_usize {
@@ -241,7 +241,7 @@ impl FileCounts {
     pub(crate) fn new(alloc: Global, codes: &[Code]) -> Result<FileCounts, AllocError>
         ensures size { IfOk result (λ counts. length counts.satellites.items ≡ 32) }
         ensures codes { IfOk result (λ counts. length counts.codes.items ≡ 32) }
-        ensures counts { IfOk result (λ counts. (interval : Option ℕ) (unit : ℕ) → IsCounting counts interval unit codes.now []) }
+        ensures counts { IfOk result (λ counts. (most : ℕ) (interval : Option ℕ) (unit : ℕ) → IsCounting counts most interval unit codes.now []) }
     {
         Ok(FileCounts {
             records: RecordCounts::new(),
@@ -269,8 +269,8 @@ impl FileCounts {
         requires codes { length self.old.codes.items ≡ 32 }
         ensures size { OnOk result (length self.new.satellites.items ≡ 32) }
         ensures codes { OnOk result (length self.new.codes.items ≡ 32) }
-        ensures counts { OnOk result ((es : List EpochTableView)
-            → IsCounting self.old interval unit_ms codes.now es → IsCounting self.new interval unit_ms codes.now (epoch.now ∷ es)) }
+        ensures counts { OnOk result ((most : ℕ) (es : List EpochTableView)
+            → IsCounting self.old most interval unit_ms codes.now es → IsCounting self.new most interval unit_ms codes.now (epoch.now ∷ es)) }
     {
         let record_ms = ms_of(self.records.last);
         note_satellites(&mut self.satellites);
@@ -310,7 +310,7 @@ pub(crate) fn count_file(
     requires { length codes.now ≤ 16 }
     ensures size { IfOk result (λ counts. length counts.satellites.items ≡ 32) }
     ensures counts { IfOk result (λ counts. HoldsOfEpochs table.now.text
-        (λ es. HasCounted counts interval (unit_of interval) codes.now es)) }
+        (λ es. HasCounted counts most interval (unit_of interval) codes.now es)) }
 {
     let unit_ms = unit_ms(interval);
     let mut counts = FileCounts::new(alloc, codes)?;

@@ -252,8 +252,8 @@ pub(crate) fn note_missing(
     requires few { length codes.now ≤ 16 }
     requires satellites { length satellites.now ≡ 32 }
     requires runs { length runs.now ≡ 32 }
-    ensures { OnOk result ((es : List EpochTableView) (all : List MissingCode) → StandForSatellites satellites.now interval es → StandForMissing runs.now (length codes.now) interval es
-        → AreLargest size_of_missing missing.old all → AreLargest size_of_missing missing.new (all ++ all_missing interval codes.now es)) }
+    ensures { OnOk result ((most : ℕ) (es : List EpochTableView) (all : List MissingCode) → StandForSatellites satellites.now most interval es → StandForMissing runs.now (length codes.now) most interval es
+        → AreLargest size_of_missing missing.old all → AreLargest size_of_missing missing.new (all ++ all_missing most interval codes.now es)) }
 {
     for (place, counts) in satellites.iter().enumerate() {
         let satellite = place as u8 + 1;

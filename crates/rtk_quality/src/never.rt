@@ -27,7 +27,7 @@ fn without_before(satellites: &[SatelliteCounts], at: usize, place: usize) -> u6
     requires at { at < 16 }
     requires place { place ≤ 32 }
     requires size { length satellites.now ≡ 32 }
-    ensures { (interval : Option ℕ) (es : List EpochTableView) → StandForSatellites satellites.now interval es → result ≡ without_before interval es at place }
+    ensures { (most : ℕ) (interval : Option ℕ) (es : List EpochTableView) → StandForSatellites satellites.now most interval es → result ≡ without_before interval es at place }
 {
     let mut count = 0;
     for before in 0..place {
@@ -70,7 +70,7 @@ fn put_part(
     requires at { at < 16 }
     requires place { place < 32 }
     requires size { length satellites.now ≡ 32 }
-    ensures { OnOk result ((interval : Option ℕ) (es : List EpochTableView) → StandForSatellites satellites.now interval es
+    ensures { OnOk result ((most : ℕ) (interval : Option ℕ) (es : List EpochTableView) → StandForSatellites satellites.now most interval es
         → text.new.items ≡ text.old.items ++ row_part interval es code at place) }
 {
     if !is_without(&satellites[place], at) {
@@ -91,8 +91,8 @@ fn put_never_row(
 ) -> Result<(), AllocError>
     requires at { at < 16 }
     requires size { length satellites.now ≡ 32 }
-    ensures { OnOk result ((interval : Option ℕ) (es : List EpochTableView) → StandForSatellites satellites.now interval es
-        → text.new.items ≡ text.old.items ++ never_row interval es at code) }
+    ensures { OnOk result ((most : ℕ) (interval : Option ℕ) (es : List EpochTableView) → StandForSatellites satellites.now most interval es
+        → text.new.items ≡ text.old.items ++ never_row most interval es at code) }
 {
     for place in 0..32 {
         put_part(text, satellites, code, at, place)?;
@@ -109,8 +109,8 @@ pub(crate) fn put_never_rows(
 ) -> Result<(), AllocError>
     requires few { length codes.now ≤ 16 }
     requires size { length satellites.now ≡ 32 }
-    ensures { OnOk result ((interval : Option ℕ) (es : List EpochTableView) → StandForSatellites satellites.now interval es
-        → text.new.items ≡ text.old.items ++ never_rows interval es codes.now) }
+    ensures { OnOk result ((most : ℕ) (interval : Option ℕ) (es : List EpochTableView) → StandForSatellites satellites.now most interval es
+        → text.new.items ≡ text.old.items ++ never_rows most interval es codes.now) }
 {
     for (at, code) in codes.iter().enumerate() {
         put_never_row(text, satellites, at, *code)?;

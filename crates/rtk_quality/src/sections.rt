@@ -68,8 +68,8 @@ fn put_each_code(
     satellites: &[SatelliteCounts],
 ) -> Result<(), AllocError>
     requires { length codes.now ≤ 16 }
-    ensures { OnOk result ((interval : Option ℕ) (es : List EpochTableView) → StandForSatellites satellites.now interval es
-        → text.new.items ≡ text.old.items ++ each_code (λ place code. code_entry form code (satellites_in interval es) (code_of_station interval es place)) 0 codes.now) }
+    ensures { OnOk result ((most : ℕ) (interval : Option ℕ) (es : List EpochTableView) → StandForSatellites satellites.now most interval es
+        → text.new.items ≡ text.old.items ++ each_code (λ place code. code_entry form code (satellites_in most interval es) (code_of_station most interval es place)) 0 codes.now) }
 {
     let tracked = satellites_in(satellites) as u64;
     let possible = possible_in(satellites);
@@ -88,8 +88,8 @@ pub(crate) fn put_codes(
     satellites: &[SatelliteCounts],
 ) -> Result<(), AllocError>
     requires { length codes.now ≤ 16 }
-    ensures { OnOk result ((interval : Option ℕ) (es : List EpochTableView) → StandForSatellites satellites.now interval es
-        → text.new.items ≡ text.old.items ++ codes_text form codes.now interval es) }
+    ensures { OnOk result ((most : ℕ) (interval : Option ℕ) (es : List EpochTableView) → StandForSatellites satellites.now most interval es
+        → text.new.items ≡ text.old.items ++ codes_text form codes.now most interval es) }
 {
     let start = begin_list(
         text,
@@ -215,8 +215,8 @@ fn put_parts(
 ) -> Result<(), AllocError>
     requires few { length codes.now ≤ 16 }
     requires size { length satellites.now ≡ 32 }
-    ensures { OnOk result ((interval : Option ℕ) (es : List EpochTableView) → StandForSatellites satellites.now interval es → StandForEnded ended.now interval es
-        → text.new.items ≡ text.old.items ++ parts_of form section codes.now interval es) }
+    ensures { OnOk result ((most : ℕ) (interval : Option ℕ) (es : List EpochTableView) → StandForSatellites satellites.now most interval es → StandForEnded ended.now most interval es
+        → text.new.items ≡ text.old.items ++ parts_of form section codes.now most interval es) }
 {
     for (place, counts) in satellites.iter().enumerate() {
         let satellite = place as u8 + 1;
@@ -235,8 +235,8 @@ fn put_never(
 ) -> Result<(), AllocError>
     requires few { length codes.now ≤ 16 }
     requires size { length satellites.now ≡ 32 }
-    ensures { OnOk result ((interval : Option ℕ) (es : List EpochTableView) → StandForSatellites satellites.now interval es → StandForEnded ended.now interval es
-        → text.new.items ≡ text.old.items ++ section_entries form Never codes.now interval es) }
+    ensures { OnOk result ((most : ℕ) (interval : Option ℕ) (es : List EpochTableView) → StandForSatellites satellites.now most interval es → StandForEnded ended.now most interval es
+        → text.new.items ≡ text.old.items ++ section_entries form Never codes.now most interval es) }
 {
     match form {
         Form::Table => put_never_rows(text, codes, satellites),
@@ -257,8 +257,8 @@ fn put_entries(
 ) -> Result<(), AllocError>
     requires few { length codes.now ≤ 16 }
     requires size { length satellites.now ≡ 32 }
-    ensures { OnOk result ((interval : Option ℕ) (es : List EpochTableView) → StandForSatellites satellites.now interval es → StandForEnded ended.now interval es
-        → text.new.items ≡ text.old.items ++ section_entries form section codes.now interval es) }
+    ensures { OnOk result ((most : ℕ) (interval : Option ℕ) (es : List EpochTableView) → StandForSatellites satellites.now most interval es → StandForEnded ended.now most interval es
+        → text.new.items ≡ text.old.items ++ section_entries form section codes.now most interval es) }
 {
     match section {
         Section::Never => put_never(text, form, codes, satellites, ended),
@@ -279,8 +279,8 @@ pub(crate) fn put_section(
 ) -> Result<(), AllocError>
     requires few { length codes.now ≤ 16 }
     requires size { length satellites.now ≡ 32 }
-    ensures { OnOk result ((interval : Option ℕ) (es : List EpochTableView) → StandForSatellites satellites.now interval es → StandForEnded ended.now interval es
-        → text.new.items ≡ text.old.items ++ section_text form section codes.now interval es) }
+    ensures { OnOk result ((most : ℕ) (interval : Option ℕ) (es : List EpochTableView) → StandForSatellites satellites.now most interval es → StandForEnded ended.now most interval es
+        → text.new.items ≡ text.old.items ++ section_text form section codes.now most interval es) }
 {
     let heading = section_heading(section);
     let key = section_key(section);

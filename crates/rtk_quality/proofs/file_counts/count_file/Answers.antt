@@ -30,7 +30,7 @@ loop-record-preserved c = record {
   size = c.in_ok-note_epoch.ensures.size;
   codes = c.in_ok-note_epoch.ensures.codes;
   counts = λ t is text.
-      come-more (λ counts es. IsCounting counts c.args.interval c.unit_ms-unit_ms.result c.args.codes.now es) c.loop-record.records c.next.new.self c.loop-record.counts c.note_epoch.new.self t.epochs c.in-Some._record.now c.next.new.epoch
+      come-more (λ counts es. IsCounting counts most c.args.interval c.unit_ms-unit_ms.result c.args.codes.now es) c.loop-record.records c.next.new.self c.loop-record.counts c.note_epoch.new.self t.epochs c.in-Some._record.now c.next.new.epoch
       (c.loop-record.invariant.counts t is text) c.in-Some.ensures.next c.in_ok-note_epoch.ensures.counts;
 }
 
@@ -38,12 +38,12 @@ pub returns-clause-counts : goal.returns-clause-counts
 returns-clause-counts c = λ t is text.
     let interval : Option ℕ = c.args.interval in
     let es : List EpochTableView = newest_first t.epochs in
-    let before = subst (λ (hours : List HourCounts). StandsForFile c.loop-record.counts interval (unit_of interval) c.args.codes.now es hours (ended_runs interval es) (ended_bursts interval es) [])
+    let before = subst (λ (hours : List HourCounts). StandsForFile c.loop-record.counts most interval (unit_of interval) c.args.codes.now es hours (ended_runs interval es) (ended_bursts interval es) [])
     (noted-are interval (unit_of interval) c.args.codes.now es (some-unit interval) (newest-first-fall t.epochs is.rise))
-    (subst (λ (unit : ℕ). IsCounting c.loop-record.counts interval unit c.args.codes.now es) c.unit_ms-unit_ms.ensures.value
-    (come-all (λ counts es. IsCounting counts c.args.interval c.unit_ms-unit_ms.result c.args.codes.now es) c.loop-record.records c.loop-record.counts t.epochs
+    (subst (λ (unit : ℕ). IsCounting c.loop-record.counts most interval unit c.args.codes.now es) c.unit_ms-unit_ms.ensures.value
+    (come-all (λ counts es. IsCounting counts most c.args.interval c.unit_ms-unit_ms.result c.args.codes.now es) c.loop-record.records c.loop-record.counts t.epochs
     (c.loop-record.invariant.counts t is text) c.in_default.ensures.next)) in
-    let satellites = subst (λ (xs : List SatelliteCounts). StandForSatellites xs interval es) (sym c.as_slice.ensures.value) before.satellites in
+    let satellites = subst (λ (xs : List SatelliteCounts). StandForSatellites xs most interval es) (sym c.as_slice.ensures.value) before.satellites in
     record {
       records = before.records;
       satellites = before.satellites;
@@ -55,6 +55,6 @@ returns-clause-counts c = λ t is text.
       runs = c.in_ok-note_last.ensures.runs interval es (ended_runs interval es) satellites before.runs;
       bursts = c.in_ok-note_last.ensures.bursts interval es (ended_bursts interval es) satellites before.bursts;
       codes = before.codes;
-      missing = c.in_ok-note_missing.ensures es [] (subst (λ (xs : List SatelliteCounts). StandForSatellites xs interval es) (sym c.as_slice-2.ensures.value) before.satellites)
-          (subst (λ (xs : List MissingCodes). StandForMissing xs (length c.args.codes.now) interval es) (sym c.as_slice-3.ensures.value) before.codes) before.missing;
+      missing = c.in_ok-note_missing.ensures es [] (subst (λ (xs : List SatelliteCounts). StandForSatellites xs most interval es) (sym c.as_slice-2.ensures.value) before.satellites)
+          (subst (λ (xs : List MissingCodes). StandForMissing xs (length c.args.codes.now) most interval es) (sym c.as_slice-3.ensures.value) before.codes) before.missing;
     }

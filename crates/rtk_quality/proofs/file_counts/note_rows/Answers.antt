@@ -66,7 +66,7 @@ loop-row-preserved c =
     let tracked = rw c.as_slice-observed.ensures.value at c.note_row-notes.ensures.tracked in
     let starts = rw (c.time-time.ensures, c.as_slice-observed.ensures.value) at c.note_row-notes.ensures.begins in
     let reads : c.civil-reading.result ≡ reading_of e.time = reading_is c.time-time.result c.civil-reading.result c.civil-reading.ensures.reading ∙ ap reading_of c.time-time.ensures in
-    let was : (es : List EpochTableView) → c.args.record_ms ≡ newest_moment es → StandForSatellites c.args.satellites.now.items interval (without_rows e.time ∷ es)
+    let was : (es : List EpochTableView) → c.args.record_ms ≡ newest_moment es → StandForSatellites c.args.satellites.now.items most interval (without_rows e.time ∷ es)
     → StandsForSatellite (get_or items place _) interval (absent_at e.time ∷ sightings_of r.satellite es) =
     λ es last stand. row-due e i place r items _ interval es at number few (c.loop-row.invariant.satellites es last stand) in
     record {
@@ -116,21 +116,21 @@ pub returns-clause-satellites : goal.returns-clause-satellites
 returns-clause-satellites c = λ es last stand.
     let e : EpochTableView = c.args.epoch.now in
     let long : length e.rows ≤ c.loop-row.row-index = rw c.rows-row-items.ensures.value at c.loop-row-test.false in
-    subst (λ (x : EpochTableView). StandForSatellites c.loop-row.satellites.items c.args.interval (x ∷ es)) (all-rows e c.loop-row.row-index (take_all c.loop-row.row-index e.rows long))
+    subst (λ (x : EpochTableView). StandForSatellites c.loop-row.satellites.items most c.args.interval (x ∷ es)) (all-rows e c.loop-row.row-index (take_all c.loop-row.row-index e.rows long))
     (c.loop-row.invariant.satellites es last stand)
 
 pub returns-clause-codes : goal.returns-clause-codes
 returns-clause-codes c = λ es count last stand are.
     let e : EpochTableView = c.args.epoch.now in
     let long : length e.rows ≤ c.loop-row.row-index = rw c.rows-row-items.ensures.value at c.loop-row-test.false in
-    subst (λ (x : EpochTableView). StandForMissing c.loop-row.codes.items count c.args.interval (x ∷ es)) (all-rows e c.loop-row.row-index (take_all c.loop-row.row-index e.rows long))
+    subst (λ (x : EpochTableView). StandForMissing c.loop-row.codes.items count most c.args.interval (x ∷ es)) (all-rows e c.loop-row.row-index (take_all c.loop-row.row-index e.rows long))
     (c.loop-row.invariant.codes es count last stand are)
 
 pub returns-clause-ended : goal.returns-clause-ended
 returns-clause-ended c = λ es last stand ended.
     let e : EpochTableView = c.args.epoch.now in
     let long : length e.rows ≤ c.loop-row.row-index = rw c.rows-row-items.ensures.value at c.loop-row-test.false in
-    subst (λ (x : EpochTableView). StandForEnded c.loop-row.ended.items c.args.interval (x ∷ es)) (all-rows e c.loop-row.row-index (take_all c.loop-row.row-index e.rows long))
+    subst (λ (x : EpochTableView). StandForEnded c.loop-row.ended.items most c.args.interval (x ∷ es)) (all-rows e c.loop-row.row-index (take_all c.loop-row.row-index e.rows long))
     (c.loop-row.invariant.ended es last stand ended)
 
 pub returns-clause-locks : goal.returns-clause-locks

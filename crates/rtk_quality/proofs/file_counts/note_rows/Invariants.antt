@@ -18,20 +18,20 @@ abbrev pub invariant-loop-row : goal.invariant-loop-row
 invariant-loop-row l = record {
   size : length l.satellites.items ≡ 32;
   codes_size : length l.codes.items ≡ 32;
-  satellites : (es : List EpochTableView) → l.record_ms ≡ newest_moment es → StandForSatellites l.fn.satellites.items l.interval (without_rows l.epoch.time ∷ es)
-      → StandForSatellites l.satellites.items l.interval (first_rows l.epoch l.row-index ∷ es);
-  codes : (es : List EpochTableView) (count : ℕ) → l.record_ms ≡ newest_moment es → StandForSatellites l.fn.satellites.items l.interval (without_rows l.epoch.time ∷ es)
-      → StandForMissing l.fn.codes.items count l.interval es → StandForMissing l.codes.items count l.interval (first_rows l.epoch l.row-index ∷ es);
-  ended : (es : List EpochTableView) → l.record_ms ≡ newest_moment es → StandForSatellites l.fn.satellites.items l.interval (without_rows l.epoch.time ∷ es) → StandForEnded l.fn.ended.items l.interval es
-      → StandForEnded l.ended.items l.interval (first_rows l.epoch l.row-index ∷ es);
-  locks : (es : List EpochTableView) → l.record_ms ≡ newest_moment es → StandForSatellites l.fn.satellites.items l.interval (without_rows l.epoch.time ∷ es)
+  satellites : (most : ℕ) (es : List EpochTableView) → l.record_ms ≡ newest_moment es → StandForSatellites l.fn.satellites.items most l.interval (without_rows l.epoch.time ∷ es)
+      → StandForSatellites l.satellites.items most l.interval (first_rows l.epoch l.row-index ∷ es);
+  codes : (most : ℕ) (es : List EpochTableView) (count : ℕ) → l.record_ms ≡ newest_moment es → StandForSatellites l.fn.satellites.items most l.interval (without_rows l.epoch.time ∷ es)
+      → StandForMissing l.fn.codes.items count most l.interval es → StandForMissing l.codes.items count most l.interval (first_rows l.epoch l.row-index ∷ es);
+  ended : (most : ℕ) (es : List EpochTableView) → l.record_ms ≡ newest_moment es → StandForSatellites l.fn.satellites.items most l.interval (without_rows l.epoch.time ∷ es) → StandForEnded l.fn.ended.items most l.interval es
+      → StandForEnded l.ended.items most l.interval (first_rows l.epoch l.row-index ∷ es);
+  locks : (most : ℕ) (es : List EpochTableView) → l.record_ms ≡ newest_moment es → StandForSatellites l.fn.satellites.items most l.interval (without_rows l.epoch.time ∷ es)
       → locks_onto l.interval es l.epoch.time no_locks l.epoch.rows ≡ locks_onto l.interval es l.epoch.time l.locks (drop l.row-index l.epoch.rows);
-  outages : (es : List EpochTableView) (all : List Outage) → l.record_ms ≡ newest_moment es → StandForSatellites l.fn.satellites.items l.interval (without_rows l.epoch.time ∷ es)
+  outages : (most : ℕ) (es : List EpochTableView) (all : List Outage) → l.record_ms ≡ newest_moment es → StandForSatellites l.fn.satellites.items most l.interval (without_rows l.epoch.time ∷ es)
       → AreLargest size_of_outage l.fn.events.outages all → AreLargest size_of_outage l.events.outages (all ++ outages_in l.interval es l.epoch.time (take l.row-index l.epoch.rows));
-  runs : (es : List EpochTableView) (all : List HalfRun) → l.record_ms ≡ newest_moment es → StandForSatellites l.fn.satellites.items l.interval (without_rows l.epoch.time ∷ es)
+  runs : (most : ℕ) (es : List EpochTableView) (all : List HalfRun) → l.record_ms ≡ newest_moment es → StandForSatellites l.fn.satellites.items most l.interval (without_rows l.epoch.time ∷ es)
       → AreLargest size_of_run l.fn.events.runs all → AreLargest size_of_run l.events.runs (all ++ runs_in l.interval es l.epoch.time (take l.row-index l.epoch.rows));
-  bursts : (es : List EpochTableView) (all : List Burst) → l.record_ms ≡ newest_moment es → StandForSatellites l.fn.satellites.items l.interval (without_rows l.epoch.time ∷ es)
+  bursts : (most : ℕ) (es : List EpochTableView) (all : List Burst) → l.record_ms ≡ newest_moment es → StandForSatellites l.fn.satellites.items most l.interval (without_rows l.epoch.time ∷ es)
       → AreLargest size_of_burst l.fn.events.bursts all → AreLargest size_of_burst l.events.bursts (all ++ bursts_in l.interval es l.epoch.time (take l.row-index l.epoch.rows));
-  together : (es : List EpochTableView) → l.record_ms ≡ newest_moment es → StandForSatellites l.fn.satellites.items l.interval (without_rows l.epoch.time ∷ es)
+  together : (most : ℕ) (es : List EpochTableView) → l.record_ms ≡ newest_moment es → StandForSatellites l.fn.satellites.items most l.interval (without_rows l.epoch.time ∷ es)
       → l.together ≡ together_in l.interval es l.epoch.time (take l.row-index l.epoch.rows);
 }

@@ -7,17 +7,17 @@ use Rattle.rtk_quality.proofs.ListLemmas.{put-more}
 use Rattle.rtk_quality.proofs.sections.put_parts.Goals as goal
 
 pub loop-place-preserved : goal.loop-place-preserved
-loop-place-preserved c = λ interval es stand ended.
+loop-place-preserved c = λ most interval es stand ended.
     let part : ℕ → List ℕ = λ satellite. part_of c.args.form c.args.section c.args.codes.now interval (sightings_of satellite es) satellite in
     let i : ℕ = c.loop-place.place in
-    let within : i < 32 = omega (arith, c.loop-place-test.true, stand.size) in
+    let within : i < most = omega (arith, c.loop-place-test.true, stand.size) in
     let next : i + 1 ≡ 1 + i = omega arith in
-    put-more part 1 i (i + 1) c.args.text.now.items c.loop-place.text.items c.put_part.new.text.items next (c.loop-place.invariant interval es stand ended)
+    put-more part 1 i (i + 1) c.args.text.now.items c.loop-place.text.items c.put_part.new.text.items next (c.loop-place.invariant most interval es stand ended)
     (c.in_ok-put_part.ensures interval (sightings_of (i + 1) es) (stand.each i _ within) (ended i within))
 
 pub returns : goal.returns
 unfolding parts_of
-returns c = λ interval es stand ended.
-    let end : c.loop-place.place ≡ 32 = omega (arith, c.loop-place.auto.place-end, c.loop-place-test.false, stand.size) in
-    c.loop-place.invariant interval es stand ended
+returns c = λ most interval es stand ended.
+    let end : c.loop-place.place ≡ most = omega (arith, c.loop-place.auto.place-end, c.loop-place-test.false, stand.size) in
+    c.loop-place.invariant most interval es stand ended
     ∙ ap (λ (k : ℕ). c.args.text.now.items ++ flat_map (λ satellite. part_of c.args.form c.args.section c.args.codes.now interval (sightings_of satellite es) satellite) (range_with_len 1 k)) end
