@@ -5,7 +5,7 @@ use Rattle.std.specs.List.{range_with_len}
 use Rattle.std.proofs.lemmas.Bool.{cases_eq}
 use Rattle.std.proofs.lemmas.List.{append-nil, take_more, map_push, map-append, length-take-le}
 use Rattle.std.proofs.lemmas.Grind.{flat_map-append}
-use Rattle.rtk_obs.specs.declared.code.Code.{Code}
+use Rattle.rtk_obs.specs.declared.any_code.AnyCode.{AnyCode}
 use Rattle.rtk_obs.specs.declared.time.Civil.{Civil}
 use Rattle.rtk_obs.specs.Reading.{reading_of}
 use Rattle.rtk_rinex.specs.Record.{EpochTableView}
@@ -169,7 +169,7 @@ pub last-run : {X T : Type 0} (size : T → ℕ) (f : X → T) (xs : List X) (ys
 last-run size f xs ys new all are =
     subst (λ (zs : List _). AreLargest size new zs) (append_assoc all (map f xs) (map f ys) ∙ ap (λ (zs : List _). all ++ zs) (sym (map-append f xs ys))) are
 
-from-append : (interval : Option ℕ) (before : List Sighting) (satellite at : ℕ) (codes : List Code) (c : Code)
+from-append : (interval : Option ℕ) (before : List Sighting) (satellite at : ℕ) (codes : List AnyCode) (c : AnyCode)
     → missing_from interval before satellite at (codes ++ c ∷ []) ≡ missing_from interval before satellite at codes ++ missing_of interval before satellite (at + length codes) c
 from-append interval before satellite at [] c =
     let here : at ≡ at + 0 = omega arith in
@@ -183,17 +183,17 @@ from-append interval before satellite at (x ∷ codes) c =
     ∙ ap (λ (k : ℕ). (own ++ rest) ++ missing_of interval before satellite k c) here
 
 -- a code more
-pub codes-more : (interval : Option ℕ) (before : List Sighting) (satellite i : ℕ) (codes : List Code) (d : Code) (size : MissingCode → ℕ) (old new : Largest MissingCode) (all : List MissingCode)
+pub codes-more : (interval : Option ℕ) (before : List Sighting) (satellite i : ℕ) (codes : List AnyCode) (d : AnyCode) (size : MissingCode → ℕ) (old new : Largest MissingCode) (all : List MissingCode)
     → i < length codes → AreLargest size old (all ++ missing_from interval before satellite 0 (take i codes))
     → ((ms : List MissingCode) → AreLargest size old ms → AreLargest size new (ms ++ missing_of interval before satellite i (get_or codes i d)))
     → AreLargest size new (all ++ missing_from interval before satellite 0 (take (i + 1) codes))
 codes-more interval before satellite i codes d size old new all within was took =
-    let c : Code = get_or codes i d in
+    let c : AnyCode = get_or codes i d in
     let had : List MissingCode = missing_from interval before satellite 0 (take i codes) in
     let few : i ≤ length codes = omega (arith, within) in
     let here : 0 + length (take i codes) ≡ i = let long = length-take-le i codes few in omega (arith, long) in
     let longer : missing_from interval before satellite 0 (take (i + 1) codes) ≡ had ++ missing_of interval before satellite i c =
-    ap (λ (cs : List Code). missing_from interval before satellite 0 cs) (take_more codes i d within)
+    ap (λ (cs : List AnyCode). missing_from interval before satellite 0 cs) (take_more codes i d within)
     ∙ from-append interval before satellite 0 (take i codes) c ∙ ap (λ (k : ℕ). had ++ missing_of interval before satellite k c) here in
     subst (λ (ms : List MissingCode). AreLargest size new ms)
     (append_assoc all had (missing_of interval before satellite i c) ∙ ap (λ (ms : List MissingCode). all ++ ms) (sym longer)) (took (all ++ had) was)

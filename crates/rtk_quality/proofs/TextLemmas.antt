@@ -1,7 +1,7 @@
 -- The text of the numbers, part by part.
 use Rattle.std.proofs.Common.{◌≡◌, ℕ, List, ◌++◌, reverse, Option, ap, ◌∙◌}
 use Rattle.std.specs.Prelude.{codes}
-use Rattle.rtk_obs.specs.declared.code.Code.{Code}
+use Rattle.rtk_obs.specs.declared.any_code.AnyCode.{AnyCode}
 use Rattle.rtk_obs.specs.declared.time.Civil.{Civil}
 use Rattle.rtk_obs.specs.Reading.{reading_of}
 use Rattle.rtk_rinex.specs.Record.{EpochTableView}
@@ -40,7 +40,7 @@ unfolding marker_text
 json-marker marker t0 t1 t2 t3 e1 e2 e3 = three t0 t1 t2 t3 (codes "{\"file\":{\"marker\":\"") (json_text marker) (codes "\"") e1 e2 e3
 
 -- how many there are of what has a list
-pub listed-are : (most : ℕ) (interval : Option ℕ) (unit : ℕ) (listed : List Code) (es : List EpochTableView) (f : FileCounts) → HasCounted f most interval unit listed es
+pub listed-are : (most : ℕ) (interval : Option ℕ) (unit : ℕ) (listed : List AnyCode) (es : List EpochTableView) (f : FileCounts) → HasCounted f most interval unit listed es
     → record { gaps = f.gaps.count; moments = f.moments.count; bursts = f.events.bursts.count; runs = f.events.runs.count; missing = f.missing.count } ≡ listed_counts most interval unit listed es
 listed-are most interval unit listed es f stands =
     ap (λ (n : ℕ). made n f.moments.count f.events.bursts.count f.events.runs.count f.missing.count) stands.gaps.count
@@ -53,7 +53,7 @@ listed-are most interval unit listed es f stands =
     made a b c d e = record { gaps = a; moments = b; bursts = c; runs = d; missing = e }
 
 -- the text of a file with records
-pub text-is : (form : Form) (marker : List ℕ) (listed : List Code) (first last most : ℕ) (interval : Option ℕ) (es : List EpochTableView)
+pub text-is : (form : Form) (marker : List ℕ) (listed : List AnyCode) (first last most : ℕ) (interval : Option ℕ) (es : List EpochTableView)
     (from until : Civil) (seen : ℕ) (r : RecordCounts) (n : ListedCounts) (sums : PassSums) (t1 t2 t3 : List ℕ)
     → from ≡ reading_of first → until ≡ reading_of last → seen ≡ satellites_in most interval es → r ≡ record_counts_of (unit_of interval) es
     → n ≡ listed_counts most interval (unit_of interval) listed es → sums ≡ station_sums most interval es
@@ -76,7 +76,7 @@ text-is form marker listed first last most interval es from until seen r n sums 
     e3 ∙ ap (λ (t : List ℕ). t ++ end) (e2 ∙ ap (λ (t : List ℕ). t ++ body) h)
 
 -- the codes, satellites and passes of a file
-pub signals-are : (form : Form) (listed : List Code) (most : ℕ) (interval : Option ℕ) (es : List EpochTableView) (t0 t1 t2 t3 t4 t5 : List ℕ)
+pub signals-are : (form : Form) (listed : List AnyCode) (most : ℕ) (interval : Option ℕ) (es : List EpochTableView) (t0 t1 t2 t3 t4 t5 : List ℕ)
     → t1 ≡ t0 ++ codes_text form listed most interval es
     → t2 ≡ t1 ++ section_text form Codes listed most interval es → t3 ≡ t2 ++ section_text form Tracked listed most interval es
     → t4 ≡ t3 ++ section_text form Never listed most interval es → t5 ≡ t4 ++ section_text form Passes listed most interval es
@@ -87,7 +87,7 @@ signals-are form listed most interval es t0 t1 t2 t3 t4 t5 e1 e2 e3 e4 e5 =
     (section_text form Never listed most interval es) (section_text form Passes listed most interval es) e1 e2 e3 e4 e5
 
 -- the hours, gaps and falls of a file, and what else happened
-pub station-part-is : (form : Form) (listed : List Code) (most : ℕ) (interval : Option ℕ) (unit : ℕ) (es : List EpochTableView) (hours : List HourCounts) (f : FileCounts)
+pub station-part-is : (form : Form) (listed : List AnyCode) (most : ℕ) (interval : Option ℕ) (unit : ℕ) (es : List EpochTableView) (hours : List HourCounts) (f : FileCounts)
     (t0 t1 t2 t3 t4 t5 t6 t7 t8 : List ℕ)
     → hours ≡ reverse (hours_of interval unit listed es) → HasCounted f most interval unit listed es
     → t1 ≡ t0 ++ hours_text form listed hours → t2 ≡ t1 ++ gaps_text form f.gaps.count f.gaps.things.items → t3 ≡ t2 ++ falls_text form hours

@@ -1,7 +1,7 @@
 -- What the counts hold, tied to what came.
 use Rattle.std.specs.Prelude.{◌≡◌, ◌<◌, ℕ, ◌+◌, ◌==◌, Bool, true, false, List, [], ◌∷◌, ◌++◌, length, reverse, get_or, All, AllPairs, Option, None, Some, if◌then◌else◌}
 use Rattle.std.specs.Int.{IsInRange}
-use Rattle.rtk_obs.specs.declared.code.Code.{Code}
+use Rattle.rtk_obs.specs.declared.any_code.AnyCode.{AnyCode}
 use Rattle.rtk_obs.specs.declared.time.Civil.{Civil}
 use Rattle.rtk_rinex.specs.Record.{EpochTableView}
 use Rattle.rtk_rinex.specs.declared.epoch_table.SatelliteRow.{SatelliteRow}
@@ -85,6 +85,10 @@ pub record AreRowsUpTo (most : ℕ) (rows : List SatelliteRow) : Type 0 where
   pub satellites : All (λ r. IsInRange 1 most r.satellite) rows
   pub rise : AllPairs (λ a b. a.satellite < b.satellite) rows
 
+-- epochs whose moments rise
+abbrev pub EpochsRise : List EpochTableView → Type 0
+EpochsRise epochs = AllPairs (λ a b. a.time < b.time) epochs
+
 -- an epoch of which no row came so far
 abbrev pub without_rows : ℕ → EpochTableView
 without_rows time = record { time = time; rows = [] }
@@ -118,7 +122,7 @@ abbrev pub StandForEnded : List EndedPass → ℕ → Option ℕ → List EpochT
 StandForEnded ended most interval es = (place : ℕ) → place < most → HasEnded ended interval (sightings_of (place + 1) es) (place + 1)
 
 -- a file of these codes after these epochs, whose hours are given newest first, with these runs, bursts and missing codes
-pub record StandsForFile (f : FileCounts) (most : ℕ) (interval : Option ℕ) (unit : ℕ) (listed : List Code) (es : List EpochTableView) (hs : List HourCounts) (runs_so_far : List HalfRun) (bursts_so_far : List Burst) (missing_so_far : List MissingCode) : Type 0 where
+pub record StandsForFile (f : FileCounts) (most : ℕ) (interval : Option ℕ) (unit : ℕ) (listed : List AnyCode) (es : List EpochTableView) (hs : List HourCounts) (runs_so_far : List HalfRun) (bursts_so_far : List Burst) (missing_so_far : List MissingCode) : Type 0 where
   pub records : f.records ≡ record_counts_of unit es
   pub satellites : StandForSatellites f.satellites.items most interval es
   pub ended : StandForEnded f.ended.items most interval es
@@ -132,9 +136,9 @@ pub record StandsForFile (f : FileCounts) (most : ℕ) (interval : Option ℕ) (
   pub missing : AreLargest size_of_missing f.missing missing_so_far
 
 -- a file after these epochs, with the runs and bursts that ended
-abbrev pub IsCounting : FileCounts → ℕ → Option ℕ → ℕ → List Code → List EpochTableView → Type 0
+abbrev pub IsCounting : FileCounts → ℕ → Option ℕ → ℕ → List AnyCode → List EpochTableView → Type 0
 IsCounting f most interval unit listed es = StandsForFile f most interval unit listed es (noted_hours interval unit listed es) (ended_runs interval es) (ended_bursts interval es) []
 
 -- a file of these epochs, with all of them
-abbrev pub HasCounted : FileCounts → ℕ → Option ℕ → ℕ → List Code → List EpochTableView → Type 0
+abbrev pub HasCounted : FileCounts → ℕ → Option ℕ → ℕ → List AnyCode → List EpochTableView → Type 0
 HasCounted f most interval unit listed es = StandsForFile f most interval unit listed es (hours_of interval unit listed es) (half_runs most interval es) (all_bursts most interval es) (all_missing most interval listed es)

@@ -15,7 +15,7 @@ use crate::sections::{Section, put_codes, put_section};
 use crate::station::{
     put_bursts, put_falls, put_gaps, put_hours, put_missing, put_moments, put_outages, put_runs,
 };
-use rtk_obs::{Code, GpsMs, civil};
+use rtk_obs::{AnyCode, GpsMs, civil};
 use rtk_rinex::TextTable;
 use rtk_tracking::interval;
 use std::alloc::{AllocError, Global};
@@ -60,7 +60,7 @@ fn put_station_lines(
     alloc: Global,
     text: &mut Vec<u8>,
     form: Form,
-    codes: &[Code],
+    codes: &[AnyCode],
     counts: &FileCounts,
 ) -> Result<(), AllocError>
     ensures { OnOk result ((most : ℕ) (interval : Option ℕ) (unit : ℕ) (es : List EpochTableView) → HasCounted counts.now most interval unit codes.now es
@@ -83,12 +83,12 @@ fn put_station_lines(
 fn put_signals(
     text: &mut Vec<u8>,
     form: Form,
-    codes: &[Code],
+    codes: &[AnyCode],
     satellites: &[SatelliteCounts],
     ended: &[EndedPass],
 ) -> Result<(), AllocError>
     requires few { length codes.now ≤ 16 }
-    requires size { length satellites.now ≡ 32 }
+    requires size { length satellites.now ≤ 221 }
     ensures { OnOk result ((most : ℕ) (interval : Option ℕ) (es : List EpochTableView) → StandForSatellites satellites.now most interval es → StandForEnded ended.now most interval es
         → text.new.items ≡ text.old.items ++ signals_part form codes.now most interval es) }
 {
@@ -106,11 +106,11 @@ fn put_body(
     alloc: Global,
     text: &mut Vec<u8>,
     form: Form,
-    codes: &[Code],
+    codes: &[AnyCode],
     counts: &FileCounts,
 ) -> Result<(), AllocError>
     requires few { length codes.now ≤ 16 }
-    requires size { length counts.now.satellites.items ≡ 32 }
+    requires size { length counts.now.satellites.items ≤ 221 }
     ensures { OnOk result ((most : ℕ) (interval : Option ℕ) (unit : ℕ) (es : List EpochTableView) → HasCounted counts.now most interval unit codes.now es
         → text.new.items ≡ text.old.items ++ body_text form codes.now most interval unit es) }
 {
@@ -135,14 +135,14 @@ fn text_of(
     alloc: Global,
     form: Form,
     marker: &[u8],
-    codes: &[Code],
+    codes: &[AnyCode],
     first: GpsMs,
     last: GpsMs,
     interval: Option<u64>,
     counts: &FileCounts,
 ) -> Result<Vec<u8>, AllocError>
     requires few { length codes.now ≤ 16 }
-    requires size { length counts.now.satellites.items ≡ 32 }
+    requires size { length counts.now.satellites.items ≤ 221 }
     ensures { IfOk result (λ text. (most : ℕ) (es : List EpochTableView) → HasCounted counts.now most interval (unit_of interval) codes.now es
         → text.items ≡ quality_text form marker.now codes.now first last most interval es) }
 {

@@ -12,7 +12,7 @@ use crate::form::{
 };
 use crate::pass_sums::PassSums;
 use crate::satellite_counts::PassCounts;
-use rtk_obs::{Code, two_digits};
+use rtk_obs::{AnyCode, SatelliteIndex, satellite_name};
 use std::alloc::AllocError;
 
 /// Appends a whole number that is always there.
@@ -165,7 +165,7 @@ fn put_counts(text: &mut Vec<u8>, form: Form, counts: &CodeCounts) -> Result<(),
 
 /// Appends a code behind the satellite that has it.
 #[tactic(auto, unfolding(crate::specs::LineText::code_name))]
-pub(crate) fn put_code_name(text: &mut Vec<u8>, form: Form, code: Code) -> Result<(), AllocError>
+pub(crate) fn put_code_name(text: &mut Vec<u8>, form: Form, code: AnyCode) -> Result<(), AllocError>
     ensures { OnOk result (text.new.items ≡ text.old.items ++ code_name form code) }
 {
     put_name(text, form, b",\"code\":\"", &code.name())
@@ -176,16 +176,15 @@ pub(crate) fn put_code_name(text: &mut Vec<u8>, form: Form, code: Code) -> Resul
 pub(crate) fn put_satellite_name(
     text: &mut Vec<u8>,
     form: Form,
-    satellite: u8,
+    satellite: SatelliteIndex,
 ) -> Result<(), AllocError>
     ensures { OnOk result (text.new.items ≡ text.old.items ++ satellite_name form satellite) }
 {
-    let digits = two_digits(satellite);
     put_name(
         text,
         form,
         b"\"satellite\":\"",
-        &[b'G', digits[0], digits[1]],
+        &satellite_name(satellite),
     )
 }
 
@@ -194,7 +193,7 @@ pub(crate) fn put_satellite_name(
 pub(crate) fn put_code_line(
     text: &mut Vec<u8>,
     form: Form,
-    code: Code,
+    code: AnyCode,
     tracked: u64,
     numbers: &CodeNumbers,
 ) -> Result<(), AllocError>
@@ -212,8 +211,8 @@ pub(crate) fn put_code_line(
 pub(crate) fn put_satellite_line(
     text: &mut Vec<u8>,
     form: Form,
-    satellite: u8,
-    code: Code,
+    satellite: SatelliteIndex,
+    code: AnyCode,
     numbers: &CodeNumbers,
 ) -> Result<(), AllocError>
     ensures { OnOk result (text.new.items ≡ text.old.items ++ satellite_line form satellite code numbers.now) }
@@ -230,8 +229,8 @@ pub(crate) fn put_satellite_line(
 pub(crate) fn put_never_line(
     text: &mut Vec<u8>,
     form: Form,
-    satellite: u8,
-    code: Code,
+    satellite: SatelliteIndex,
+    code: AnyCode,
 ) -> Result<(), AllocError>
     ensures { OnOk result (text.new.items ≡ text.old.items ++ never_line form satellite code) }
 {
@@ -266,7 +265,7 @@ fn put_sums(text: &mut Vec<u8>, form: Form, sums: &PassSums) -> Result<(), Alloc
 pub(crate) fn put_tracked_line(
     text: &mut Vec<u8>,
     form: Form,
-    satellite: u8,
+    satellite: SatelliteIndex,
     sums: &PassSums,
 ) -> Result<(), AllocError>
     ensures { OnOk result (text.new.items ≡ text.old.items ++ tracked_line form satellite sums.now) }
@@ -282,7 +281,7 @@ pub(crate) fn put_tracked_line(
 pub(crate) fn put_pass_line(
     text: &mut Vec<u8>,
     form: Form,
-    satellite: u8,
+    satellite: SatelliteIndex,
     pass: &PassCounts,
 ) -> Result<(), AllocError>
     ensures { OnOk result (text.new.items ≡ text.old.items ++ pass_line form satellite pass.now) }

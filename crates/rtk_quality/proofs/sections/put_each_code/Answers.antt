@@ -1,6 +1,6 @@
 use Rattle.std.proofs.Common.{◌≡◌, ◌≤◌, ◌++◌, ℕ, List, length, sym, ap, ◌∙◌, arith}
 use Rattle.std.proofs.lemmas.List.{append-nil, drop_all}
-use Rattle.rtk_obs.specs.declared.code.Code.{Code}
+use Rattle.rtk_obs.specs.declared.any_code.AnyCode.{AnyCode}
 use Rattle.rtk_quality.specs.Quality.{possible_in, satellites_in, station_numbers, code_of_station}
 use Rattle.rtk_quality.specs.QualityText.{each_code}
 use Rattle.rtk_quality.specs.Entries.{code_entry}
@@ -22,6 +22,6 @@ loop-at-preserved c = λ most interval es stand.
 pub returns : goal.returns
 returns c = λ most interval es stand.
     let end : length c.args.codes.now ≤ c.loop-at.at = omega (arith, c.loop-at-test.false) in
-    let line : ℕ → Code → List ℕ = λ place code. code_entry c.args.form code (satellites_in most interval es) (code_of_station most interval es place) in
+    let line : ℕ → AnyCode → List ℕ = λ place code. code_entry c.args.form code (satellites_in most interval es) (code_of_station most interval es place) in
     sym (c.loop-at.invariant most interval es stand ∙ ap (λ cs. c.loop-at.text.items ++ each_code line c.loop-at.at cs) (drop_all c.loop-at.at c.args.codes.now end)
     ∙ append-nil c.loop-at.text.items)
