@@ -16,7 +16,7 @@ use Rattle.rtk_quality.specs.Largest.{list_of as list_if_any, AreLargest}
 use Rattle.rtk_quality.specs.Moments.{together_in, together_plus, is_slipping, is_tracked}
 use Rattle.rtk_quality.specs.SatellitePasses.{passes_of, slips_at}
 use Rattle.rtk_quality.specs.Steps.Noted.{no_locks, locks_plus, locks_at, locks_onto}
-use Rattle.rtk_quality.specs.Standing.{AreRowsUpTo, absent_at, older_passes, StandsForSatellite, StandsForEnded, StandForSatellites, ended_of, with_ended, HasEnded, StandForEnded}
+use Rattle.rtk_quality.specs.Standing.{RowsRise, absent_at, older_passes, StandsForSatellite, StandsForEnded, StandForSatellites, ended_of, with_ended, HasEnded, StandForEnded}
 use Rattle.rtk_quality.specs.declared.hours.Locks.{Locks}
 use Rattle.rtk_quality.specs.declared.largest.Largest.{Largest}
 use Rattle.rtk_quality.specs.declared.moments.Together.{Together}
@@ -64,8 +64,7 @@ other-row k (x ∷ rows) r other = ap (λ (os : List Observed). cond (x.satellit
 
 -- a row of an epoch, which stands at this place
 pub record IsRowAt (e : EpochTableView) (i : ℕ) (r : SatelliteRow) : Type 0 where
-  pub most : ℕ
-  pub good : AreRowsUpTo most e.rows
+  pub rise : RowsRise e.rows
   pub within : i < length e.rows
   pub is : r ≡ get_or e.rows i r
 
@@ -73,7 +72,7 @@ others-before : (e : EpochTableView) (i : ℕ) (r : SatelliteRow) → IsRowAt e 
 others-before e i r at = λ j lt same.
     let few : i ≤ length e.rows = let within = at.within in omega (arith, within) in
     let before : j < i = let size = length-take-le i e.rows few in omega (arith, lt, size) in
-    let less = at.good.rise j i r before at.within in
+    let less = at.rise j i r before at.within in
     let here : (get_or e.rows i r).satellite ≡ r.satellite = sym (ap (λ (x : SatelliteRow). x.satellite) at.is) in
     let there : (get_or (take i e.rows) j r).satellite ≡ (get_or e.rows j r).satellite = ap (λ (x : SatelliteRow). x.satellite) (get_or-take i e.rows j r before) in
     omega (arith, less, here, there, same)

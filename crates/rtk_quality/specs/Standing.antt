@@ -80,10 +80,13 @@ pub record StandForCodes (codes : List MissingRuns) (count : ℕ) (interval : Op
 
 -- ---- a file
 
--- rows of satellites from 1 to so many, which rise
-pub record AreRowsUpTo (most : ℕ) (rows : List SatelliteRow) : Type 0 where
-  pub satellites : All (λ r. IsInRange 1 most r.satellite) rows
-  pub rise : AllPairs (λ a b. a.satellite < b.satellite) rows
+-- rows of satellites from 1 to so many
+abbrev pub AreRowsUpTo : ℕ → List SatelliteRow → Type 0
+AreRowsUpTo most rows = All (λ r. IsInRange 1 most r.satellite) rows
+
+-- rows whose satellites rise
+abbrev pub RowsRise : List SatelliteRow → Type 0
+RowsRise rows = AllPairs (λ a b. a.satellite < b.satellite) rows
 
 -- epochs whose moments rise
 abbrev pub EpochsRise : List EpochTableView → Type 0

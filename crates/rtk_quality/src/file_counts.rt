@@ -15,7 +15,7 @@ ghost use Rattle.rtk_quality.specs.declared.runs.HalfRun.{HalfRun};
 ghost use Rattle.rtk_quality.specs.declared.bursts.Burst.{Burst};
 ghost use Rattle.rtk_quality.specs.Quality.{totals_of, station_sums, possible_in, satellites_in};
 ghost use Rattle.rtk_tracking.specs.Epochs.{HoldsOfEpochs, newest_first, newest_moment};
-ghost use Rattle.rtk_quality.specs.Standing.{AreRowsUpTo, EpochsRise, without_rows, with_ended, StandForSatellites, StandForMissing, StandForEnded, IsCounting, HasCounted};
+ghost use Rattle.rtk_quality.specs.Standing.{AreRowsUpTo, RowsRise, EpochsRise, without_rows, with_ended, StandForSatellites, StandForMissing, StandForEnded, IsCounting, HasCounted};
 
 use crate::bursts::burst_of;
 use crate::code_numbers::CodeNumbers;
@@ -123,28 +123,28 @@ fn note_rows(
     requires rows { AreRowsUpTo (length satellites.old.items) rows.now }
     ensures size { OnOk result (length satellites.new.items ≡ length satellites.old.items) }
     ensures codes_size { OnOk result (length codes.new.items ≡ length codes.old.items) }
-    ensures satellites { OnOk result ((most : ℕ) (es : List EpochTableView) → record_ms ≡ newest_moment es
+    ensures satellites { OnOk result ((most : ℕ) (es : List EpochTableView) → RowsRise rows.now → record_ms ≡ newest_moment es
         → StandForSatellites satellites.old.items most interval (without_rows time ∷ es)
         → StandForSatellites satellites.new.items most interval (record { time = time; rows = rows.now } ∷ es)) }
-    ensures codes { OnOk result ((most : ℕ) (es : List EpochTableView) (count : ℕ) → record_ms ≡ newest_moment es
+    ensures codes { OnOk result ((most : ℕ) (es : List EpochTableView) (count : ℕ) → RowsRise rows.now → record_ms ≡ newest_moment es
         → StandForSatellites satellites.old.items most interval (without_rows time ∷ es)
         → StandForMissing codes.old.items count most interval es → StandForMissing codes.new.items count most interval (record { time = time; rows = rows.now } ∷ es)) }
-    ensures ended { OnOk result ((most : ℕ) (es : List EpochTableView) → record_ms ≡ newest_moment es
+    ensures ended { OnOk result ((most : ℕ) (es : List EpochTableView) → RowsRise rows.now → record_ms ≡ newest_moment es
         → StandForSatellites satellites.old.items most interval (without_rows time ∷ es)
         → StandForEnded ended.old.items most interval es → StandForEnded ended.new.items most interval (record { time = time; rows = rows.now } ∷ es)) }
-    ensures outages { OnOk result ((most : ℕ) (es : List EpochTableView) (all : List Outage) → record_ms ≡ newest_moment es
+    ensures outages { OnOk result ((most : ℕ) (es : List EpochTableView) (all : List Outage) → RowsRise rows.now → record_ms ≡ newest_moment es
         → StandForSatellites satellites.old.items most interval (without_rows time ∷ es)
         → AreLargest size_of_outage events.old.outages all → AreLargest size_of_outage events.new.outages (all ++ outages_in interval es time rows.now)) }
-    ensures runs { OnOk result ((most : ℕ) (es : List EpochTableView) (all : List HalfRun) → record_ms ≡ newest_moment es
+    ensures runs { OnOk result ((most : ℕ) (es : List EpochTableView) (all : List HalfRun) → RowsRise rows.now → record_ms ≡ newest_moment es
         → StandForSatellites satellites.old.items most interval (without_rows time ∷ es)
         → AreLargest size_of_run events.old.runs all → AreLargest size_of_run events.new.runs (all ++ runs_in interval es time rows.now)) }
-    ensures bursts { OnOk result ((most : ℕ) (es : List EpochTableView) (all : List Burst) → record_ms ≡ newest_moment es
+    ensures bursts { OnOk result ((most : ℕ) (es : List EpochTableView) (all : List Burst) → RowsRise rows.now → record_ms ≡ newest_moment es
         → StandForSatellites satellites.old.items most interval (without_rows time ∷ es)
         → AreLargest size_of_burst events.old.bursts all → AreLargest size_of_burst events.new.bursts (all ++ bursts_in interval es time rows.now)) }
-    ensures locks { IfOk result (λ notes. (most : ℕ) (es : List EpochTableView) → record_ms ≡ newest_moment es
+    ensures locks { IfOk result (λ notes. (most : ℕ) (es : List EpochTableView) → RowsRise rows.now → record_ms ≡ newest_moment es
         → StandForSatellites satellites.old.items most interval (without_rows time ∷ es)
         → notes.locks ≡ locks_onto interval es time no_locks rows.now) }
-    ensures together { IfOk result (λ notes. (most : ℕ) (es : List EpochTableView) → record_ms ≡ newest_moment es
+    ensures together { IfOk result (λ notes. (most : ℕ) (es : List EpochTableView) → RowsRise rows.now → record_ms ≡ newest_moment es
         → StandForSatellites satellites.old.items most interval (without_rows time ∷ es)
         → notes.together ≡ together_in interval es time rows.now) }
 {
@@ -284,7 +284,7 @@ impl FileCounts {
         requires few { length rows.now ≤ 221 }
         ensures size { OnOk result (length self.new.satellites.items ≡ length self.old.satellites.items) }
         ensures codes { OnOk result (length self.new.codes.items ≡ length self.old.codes.items) }
-        ensures counts { OnOk result ((most : ℕ) (es : List EpochTableView)
+        ensures counts { OnOk result ((most : ℕ) (es : List EpochTableView) → RowsRise rows.now
             → IsCounting self.old most interval unit_ms codes.now es → IsCounting self.new most interval unit_ms codes.now (record { time = time; rows = rows.now } ∷ es)) }
     {
         let record_ms = ms_of(self.records.last);

@@ -11,7 +11,7 @@ loop-before-preserved c = elim c.if-is_without.branch [
   | then-is_without w ↦ record {
     few = let was = c.loop-before.invariant.few in let now = w.count-is in omega (arith, was, now);
     many = λ most interval es stand.
-        let within : c.loop-before.before < most = omega (arith, c.loop-before-test.true, c.requires.place) in
+        let within : c.loop-before.before < most = omega (arith, c.loop-before-test.true, c.requires.place, stand.size) in
         counted (is_without_at interval es c.args.at) c.loop-before.before c.loop-before.count _ c.is_without.result
         (c.is_without.ensures interval (sightings_of (c.loop-before.before + 1) es) (stand.each c.loop-before.before _ within))
         (c.loop-before.invariant.many most interval es stand) (w.count-is ∙ sym (ap (λ (b : Bool). c.loop-before.count + cond b 1 0) w.if-is_without.true));
@@ -19,7 +19,7 @@ loop-before-preserved c = elim c.if-is_without.branch [
   | else-is_without w ↦ record {
     few = let was = c.loop-before.invariant.few in let now = w.count-is in omega (arith, was, now);
     many = λ most interval es stand.
-        let within : c.loop-before.before < most = omega (arith, c.loop-before-test.true, c.requires.place) in
+        let within : c.loop-before.before < most = omega (arith, c.loop-before-test.true, c.requires.place, stand.size) in
         counted (is_without_at interval es c.args.at) c.loop-before.before c.loop-before.count _ c.is_without.result
         (c.is_without.ensures interval (sightings_of (c.loop-before.before + 1) es) (stand.each c.loop-before.before _ within))
         (c.loop-before.invariant.many most interval es stand) (let none : c.loop-before.count ≡ c.loop-before.count + 0 = omega arith in w.count-is ∙ none ∙ sym (ap (λ (b : Bool). c.loop-before.count + cond b 1 0) w.if-is_without.false));
