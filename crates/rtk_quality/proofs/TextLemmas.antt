@@ -1,5 +1,5 @@
 -- The text of the numbers, part by part.
-use Rattle.std.proofs.Common.{◌≡◌, ℕ, List, ◌++◌, reverse, Option, ap, ◌∙◌}
+use Rattle.std.proofs.Common.{◌≡◌, ℕ, Bool, true, List, ◌++◌, reverse, Option, ap, ◌∙◌}
 use Rattle.std.specs.Prelude.{codes}
 use Rattle.rtk_obs.specs.declared.any_code.AnyCode.{AnyCode}
 use Rattle.rtk_obs.specs.declared.time.Civil.{Civil}
@@ -25,7 +25,7 @@ use Rattle.rtk_quality.specs.declared.missing.MissingCode.{MissingCode}
 use Rattle.rtk_quality.specs.declared.runs.HalfRun.{HalfRun}
 use Rattle.rtk_quality.specs.declared.bursts.Burst.{Burst}
 use Rattle.rtk_quality.specs.Quality.{station_sums, satellites_in}
-use Rattle.rtk_quality.specs.QualityText.{marker_text, codes_text, section_text, listed_counts, heading_text, hours_text, gaps_text, outages_text, moments_text, bursts_text, runs_text, missing_text, falls_text, station_part, signals_part, body_text, close_text, quality_text}
+use Rattle.rtk_quality.specs.QualityText.{marker_text, codes_text, section_text, listed_counts, heading_text, hours_text, gaps_part, outages_text, moments_text, bursts_text, runs_text, missing_text, falls_text, station_part, signals_part, body_text, close_text, quality_text}
 use Rattle.rtk_quality.specs.Forms.{json_text}
 use Rattle.rtk_quality.specs.declared.form.Form.{Form}
 use Rattle.rtk_quality.specs.declared.form.Form.TheVariants.{Json}
@@ -58,11 +58,11 @@ pub text-is : (form : Form) (marker : List ℕ) (listed : List AnyCode) (first l
     → from ≡ reading_of first → until ≡ reading_of last → seen ≡ satellites_in most interval es → r ≡ record_counts_of (unit_of interval) es
     → n ≡ listed_counts most interval (unit_of interval) listed es → sums ≡ station_sums most interval es
     → t1 ≡ heading_text form marker from until interval seen r n sums
-    → t2 ≡ t1 ++ body_text form listed most interval (unit_of interval) es → t3 ≡ t2 ++ close_text form
+    → t2 ≡ t1 ++ body_text true form listed most interval (unit_of interval) es → t3 ≡ t2 ++ close_text form
     → t3 ≡ quality_text form marker listed first last most interval es
 unfolding quality_text
 text-is form marker listed first last most interval es from until seen r n sums t1 t2 t3 begins ends count records listed_are adds e1 e2 e3 =
-    let body : List ℕ = body_text form listed most interval (unit_of interval) es in
+    let body : List ℕ = body_text true form listed most interval (unit_of interval) es in
     let end : List ℕ = close_text form in
     let counts : RecordCounts = record_counts_of (unit_of interval) es in
     let all : ListedCounts = listed_counts most interval (unit_of interval) listed es in
@@ -87,18 +87,18 @@ signals-are form listed most interval es t0 t1 t2 t3 t4 t5 e1 e2 e3 e4 e5 =
     (section_text form Never listed most interval es) (section_text form Passes listed most interval es) e1 e2 e3 e4 e5
 
 -- the hours, gaps and falls of a file, and what else happened
-pub station-part-is : (form : Form) (listed : List AnyCode) (most : ℕ) (interval : Option ℕ) (unit : ℕ) (es : List EpochTableView) (hours : List HourCounts) (f : FileCounts)
+pub station-part-is : (whole : Bool) (form : Form) (listed : List AnyCode) (most : ℕ) (interval : Option ℕ) (unit : ℕ) (es : List EpochTableView) (hours : List HourCounts) (f : FileCounts)
     (t0 t1 t2 t3 t4 t5 t6 t7 t8 : List ℕ)
     → hours ≡ reverse (hours_of interval unit listed es) → HasCounted f most interval unit listed es
-    → t1 ≡ t0 ++ hours_text form listed hours → t2 ≡ t1 ++ gaps_text form f.gaps.count f.gaps.things.items → t3 ≡ t2 ++ falls_text form hours
+    → t1 ≡ t0 ++ hours_text form listed hours → t2 ≡ t1 ++ gaps_part whole form f.gaps.count f.gaps.things.items → t3 ≡ t2 ++ falls_text form hours
     → t4 ≡ t3 ++ outages_text form f.events.outages.count f.events.outages.things.items → t5 ≡ t4 ++ moments_text form f.moments.count f.moments.things.items
     → t6 ≡ t5 ++ bursts_text form f.events.bursts.count f.events.bursts.things.items → t7 ≡ t6 ++ runs_text form f.events.runs.count f.events.runs.things.items
     → t8 ≡ t7 ++ missing_text form f.missing.count f.missing.things.items
-    → t8 ≡ t0 ++ station_part form listed most interval unit es
+    → t8 ≡ t0 ++ station_part whole form listed most interval unit es
 unfolding station_part
-station-part-is form listed most interval unit es hours f t0 t1 t2 t3 t4 t5 t6 t7 t8 are_hours stands e1 e2 e3 e4 e5 e6 e7 e8 =
+station-part-is whole form listed most interval unit es hours f t0 t1 t2 t3 t4 t5 t6 t7 t8 are_hours stands e1 e2 e3 e4 e5 e6 e7 e8 =
     let hs : List ℕ = hours_text form listed (reverse (hours_of interval unit listed es)) in
-    let gs : List ℕ = gaps_text form (gaps_in unit es) (longest_gaps unit es) in
+    let gs : List ℕ = gaps_part whole form (gaps_in unit es) (longest_gaps unit es) in
     let fs : List ℕ = falls_text form (reverse (hours_of interval unit listed es)) in
     let os : List ℕ = outages_text form (count_of (all_outages interval es)) (longest_outages interval es) in
     let ms : List ℕ = moments_text form (moments_in interval es) (largest_moments interval es) in
@@ -109,7 +109,7 @@ station-part-is form listed most interval unit es hours f t0 t1 t2 t3 t4 t5 t6 t
     (and-then t0 t6 t7 (((((hs ++ gs) ++ fs) ++ os) ++ ms) ++ bs) rs
     (six t0 t1 t2 t3 t4 t5 t6 hs gs fs os ms bs
     (e1 ∙ ap (λ (xs : List HourCounts). t0 ++ hours_text form listed xs) are_hours)
-    (e2 ∙ ap (λ (n : ℕ). t1 ++ gaps_text form n f.gaps.things.items) stands.gaps.count ∙ ap (λ (xs : List Gap). t1 ++ gaps_text form (gaps_in unit es) xs) stands.gaps.largest)
+    (e2 ∙ ap (λ (n : ℕ). t1 ++ gaps_part whole form n f.gaps.things.items) stands.gaps.count ∙ ap (λ (xs : List Gap). t1 ++ gaps_part whole form (gaps_in unit es) xs) stands.gaps.largest)
     (e3 ∙ ap (λ (xs : List HourCounts). t2 ++ falls_text form xs) are_hours)
     (e4 ∙ ap (λ (n : ℕ). t3 ++ outages_text form n f.events.outages.things.items) stands.outages.count
     ∙ ap (λ (xs : List Outage). t3 ++ outages_text form (count_of (all_outages interval es)) xs) stands.outages.largest)

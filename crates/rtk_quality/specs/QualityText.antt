@@ -1,10 +1,11 @@
 -- The text of the numbers of a file, in its three forms (this project's rule).
-use Rattle.std.specs.Prelude.{◌≡◌, ◌==◌, ℕ, ◌+◌, List, [], ◌∷◌, ◌++◌, reverse, flat_map, codes, Option, Some, if◌then◌else◌}
+use Rattle.std.specs.Prelude.{◌≡◌, ◌==◌, ℕ, ◌+◌, Bool, true, List, [], ◌∷◌, ◌++◌, reverse, map, flat_map, codes, Option, Some, if◌then◌else◌}
 use Rattle.std.specs.List.{range_with_len}
 use Rattle.rtk_quality.specs.declared.strengths.CodeBand.TheVariants.{B1, B2, B5, B6, B7, B8}
 use Rattle.rtk_message.specs.declared.system.System.{System}
 use Rattle.rtk_message.specs.declared.system.System.TheVariants.{Gps, Glonass, Galileo, Beidou, Qzss, Sbas, Navic}
 use Rattle.rtk_obs.specs.declared.any_code.AnyCode.{AnyCode}
+use Rattle.rtk_obs.specs.AnyCode.{code_of_gps}
 use Rattle.rtk_obs.specs.declared.time.Civil.{Civil}
 use Rattle.rtk_obs.specs.Reading.{reading_of}
 use Rattle.rtk_rinex.specs.Record.{EpochTableView}
@@ -258,13 +259,17 @@ heading_text form marker from until interval satellites r n s =
 abbrev pub close_text : Form → List ℕ
 close_text form = in_form form [] (codes "}\n")
 
+-- the gaps, which stand once in a file: in the part of a whole file, and not in the part of one of its systems
+abbrev pub gaps_part : Bool → Form → ℕ → List Gap → List ℕ
+gaps_part whole form n gaps = if whole then gaps_text form n gaps else []
+
 -- formula
 -- the hours, and the ten longest gaps; the largest falls; the ten longest outages; the ten epochs at which most
 -- satellites slip; the ten hours in which a satellite slips at most epochs; the ten longest runs of half cycles; the ten
 -- longest runs of epochs at which a code is missing
-unfoldable pub station_part : Form → List AnyCode → ℕ → Option ℕ → ℕ → List EpochTableView → List ℕ
-station_part form listed most interval unit es =
-    hours_text form listed (reverse (hours_of interval unit listed es)) ++ gaps_text form (gaps_in unit es) (longest_gaps unit es)
+unfoldable pub station_part : Bool → Form → List AnyCode → ℕ → Option ℕ → ℕ → List EpochTableView → List ℕ
+station_part whole form listed most interval unit es =
+    hours_text form listed (reverse (hours_of interval unit listed es)) ++ gaps_part whole form (gaps_in unit es) (longest_gaps unit es)
     ++ falls_text form (reverse (hours_of interval unit listed es)) ++ outages_text form (count_of (all_outages interval es)) (longest_outages interval es)
     ++ moments_text form (moments_in interval es) (largest_moments interval es) ++ bursts_text form (all_bursts_in most interval es) (largest_bursts most interval es)
     ++ runs_text form (half_runs_in most interval es) (longest_half_runs most interval es)
@@ -280,10 +285,10 @@ signals_part form listed most interval es =
 -- formula
 -- what follows the heading: a table begins with the hours, gaps and falls, since they say when something
 -- happened; lines and JSON end with them
-unfoldable pub body_text : Form → List AnyCode → ℕ → Option ℕ → ℕ → List EpochTableView → List ℕ
-body_text Table listed most interval unit es = station_part Table listed most interval unit es ++ signals_part Table listed most interval es
-body_text Lines listed most interval unit es = signals_part Lines listed most interval es ++ station_part Lines listed most interval unit es
-body_text Json listed most interval unit es = signals_part Json listed most interval es ++ station_part Json listed most interval unit es
+unfoldable pub body_text : Bool → Form → List AnyCode → ℕ → Option ℕ → ℕ → List EpochTableView → List ℕ
+body_text whole Table listed most interval unit es = station_part whole Table listed most interval unit es ++ signals_part Table listed most interval es
+body_text whole Lines listed most interval unit es = signals_part Lines listed most interval es ++ station_part whole Lines listed most interval unit es
+body_text whole Json listed most interval unit es = signals_part Json listed most interval es ++ station_part whole Json listed most interval unit es
 
 -- formula
 -- the numbers of a file of this marker, these codes, and these moments of its first and its last record
@@ -291,7 +296,7 @@ unfoldable pub quality_text : Form → List ℕ → List AnyCode → ℕ → ℕ
 quality_text form marker listed first last most interval es =
     heading_text form marker (reading_of first) (reading_of last) interval (satellites_in most interval es)
     (record_counts_of (unit_of interval) es) (listed_counts most interval (unit_of interval) listed es) (station_sums most interval es)
-    ++ body_text form listed most interval (unit_of interval) es ++ close_text form
+    ++ body_text true form listed most interval (unit_of interval) es ++ close_text form
 
 -- table
 -- the lists of a file without records, which are empty in JSON and absent elsewhere
@@ -315,7 +320,7 @@ text_of_epochs form marker listed first most interval (e ∷ before) =
 -- formula
 -- the numbers of a table
 abbrev pub quality_of : Form → WellFormedTable → List ℕ
-quality_of form t = text_of_epochs form t.head.marker t.head.listed t.first (interval_of_file t) (newest_first t.epochs)
+quality_of form t = text_of_epochs form t.head.marker (map code_of_gps t.head.listed) t.first 32 (interval_of_file t) (newest_first t.epochs)
 
 -- a text tells the numbers of each table whose text the file is; by one_table there is one
 abbrev pub TellsQuality : Form → List ℕ → List ℕ → Type 0

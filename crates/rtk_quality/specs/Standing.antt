@@ -30,6 +30,8 @@ use Rattle.rtk_quality.specs.declared.satellite_counts.PassCounts.{PassCounts}
 use Rattle.rtk_quality.specs.declared.satellite_counts.SatelliteCounts.{SatelliteCounts}
 use Rattle.rtk_quality.specs.declared.file_counts.EndedPass.{EndedPass}
 use Rattle.rtk_quality.specs.declared.file_counts.FileCounts.{FileCounts}
+use Rattle.rtk_quality.specs.declared.file_times.FileTimes.{FileTimes}
+use Rattle.rtk_quality.specs.declared.heading.ListedCounts.{ListedCounts}
 
 -- ---- a satellite
 
@@ -137,6 +139,16 @@ pub record StandsForFile (f : FileCounts) (most : ℕ) (interval : Option ℕ) (
   pub bursts : AreLargest size_of_burst f.events.bursts bursts_so_far
   pub codes : StandForMissing f.codes.items (length listed) most interval es
   pub missing : AreLargest size_of_missing f.missing missing_so_far
+
+-- what the moments of a file tell after these epochs
+pub record IsTimesOf (f : FileTimes) (unit : ℕ) (es : List EpochTableView) : Type 0 where
+  pub records : f.records ≡ record_counts_of unit es
+  pub gaps : AreLargest size_of_gap f.gaps (gaps_of unit es)
+
+-- how many there are of what has a list of the ten largest
+abbrev pub listed_counts_of : FileCounts → ListedCounts
+listed_counts_of f =
+    record { gaps = f.gaps.count; moments = f.moments.count; bursts = f.events.bursts.count; runs = f.events.runs.count; missing = f.missing.count }
 
 -- a file after these epochs, with the runs and bursts that ended
 abbrev pub IsCounting : FileCounts → ℕ → Option ℕ → ℕ → List AnyCode → List EpochTableView → Type 0
