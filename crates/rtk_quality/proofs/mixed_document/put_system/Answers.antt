@@ -1,0 +1,28 @@
+use Rattle.std.proofs.Common.{◌≡◌, [], ◌∙◌, ℕ, List, length, ap, sym, refl, ◌∷◌, arith}
+use Rattle.rtk_obs.specs.declared.any_code.AnyCode.{AnyCode}
+use Rattle.rtk_tracking.specs.Epochs.{newest_first}
+use Rattle.rtk_quality.specs.MixedQuality.{system_text}
+use Rattle.rtk_quality.specs.Records.{unit_of}
+use Rattle.rtk_quality.specs.Standing.{HasCounted}
+use Rattle.rtk_quality.specs.SystemParts.{codes_of_system, epochs_of_system}
+use Rattle.rtk_quality.proofs.MixedTextLemmas.{no-part, some-part}
+use Rattle.rtk_quality.proofs.mixed_document.put_system.Goals as goal
+
+-- a list of no length
+none-of : (cs : List AnyCode) → length cs ≡ 0 → cs ≡ []
+none-of [] none = refl
+none-of (c ∷ cs) none = absurd (omega arith)
+
+pub returns-then-len-eq0 : goal.returns-then-len-eq0
+returns-then-len-eq0 c = λ t is text.
+    no-part c.args.form c.args.system (codes_of_system c.args.system c.args.listed.now) c.in_ok-codes.field-0.items c.args.interval (newest_first (epochs_of_system c.args.system t.epochs)) c.args.text.now.items
+    c.in_ok-codes.ensures.value (none-of _ (sym c.len.ensures.value ∙ c.if-len-eq0.true))
+
+pub returns : goal.returns
+returns c = λ t is text.
+    let es = newest_first (epochs_of_system c.args.system t.epochs) in
+    let codes : List AnyCode = c.in_ok-codes.field-0.items in
+    some-part c.args.form c.args.system (codes_of_system c.args.system c.args.listed.now) codes c.args.interval es c.args.text.now.items c.put_counted.new.text.items
+    c.in_ok-codes.ensures.value (λ none. c.if-len-eq0.false (c.len.ensures.value ∙ ap length none))
+    (rw c.as_slice-2.ensures.value at (c.in_ok-put_counted.ensures c.args.interval es)
+    (rw c.as_slice.ensures.value at (c.in_ok-counts.ensures.counts t is text)))
