@@ -2,7 +2,7 @@
 
 ghost use Rattle.std.specs.Prelude.{◌≡◌, ◌++◌, Some, OnOk};
 ghost use Rattle.rtk_quality.specs.Forms.{value_text};
-ghost use Rattle.rtk_quality.specs.LineText.{phases_text, having_text, per_slip_text, locks_text, strengths_text, counts_text, code_name, satellite_name, code_line, satellite_line, sums_text, tracked_line, never_line, pass_line};
+ghost use Rattle.rtk_quality.specs.LineText.{phases_text, having_text, per_slip_text, locks_text, strengths_text, counts_text, code_name, title_text, satellite_name, code_line, satellite_line, sums_text, tracked_line, never_line, pass_line};
 ghost use Rattle.rtk_quality.specs.declared.form.Decimals.TheVariants.{Whole};
 
 use crate::code_counts::CodeCounts;
@@ -12,6 +12,7 @@ use crate::form::{
 };
 use crate::pass_sums::PassSums;
 use crate::satellite_counts::PassCounts;
+use rtk_message::System;
 use rtk_obs::{AnyCode, SatelliteIndex, satellite_name};
 use std::alloc::AllocError;
 
@@ -188,6 +189,17 @@ pub(crate) fn put_satellite_name(
     )
 }
 
+// Appends a code without a satellite: two characters are one of GPS, and three begin with the letter of the system.
+#[tactic(auto, unfolding(crate::specs::LineText::title_text))]
+fn put_title(text: &mut Vec<u8>, form: Form, code: AnyCode) -> Result<(), AllocError>
+    ensures { OnOk result (text.new.items ≡ text.old.items ++ title_text form code) }
+{
+    match code.system() {
+        System::Gps => put_name(text, form, b"\"code\":\"", &code.name()),
+        _ => put_name(text, form, b"\"code\":\"", &code.text()),
+    }
+}
+
 /// Appends the line of a code over all satellites that have it, of so many that are tracked.
 #[tactic(auto, unfolding(crate::specs::LineText::code_line))]
 pub(crate) fn put_code_line(
@@ -200,7 +212,7 @@ pub(crate) fn put_code_line(
     ensures { OnOk result (text.new.items ≡ text.old.items ++ code_line form code tracked numbers.now) }
 {
     put_start(text, form, b"code")?;
-    put_name(text, form, b"\"code\":\"", &code.name())?;
+    put_title(text, form, code)?;
     put_phases(text, form, numbers)?;
     put_having(text, form, numbers.satellites, tracked)?;
     put_counts(text, form, &numbers.counts)

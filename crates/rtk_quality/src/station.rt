@@ -17,8 +17,8 @@ use crate::missing::MissingCode;
 use crate::moments::Moment;
 use crate::outages::Outage;
 use crate::runs::HalfRun;
-use rtk_message::put_number;
 use crate::strengths::{CodeBand, system_of_codes};
+use rtk_message::{System, put_number};
 use rtk_obs::AnyCode;
 use std::alloc::AllocError;
 
