@@ -11,7 +11,11 @@ use Rattle.rtk_commands.specs.declared.file_answer.FileAnswer.{FileAnswer}
 use Rattle.rtk_commands.specs.declared.file_answer.FileAnswer.TheVariants.{Written}
 use Rattle.rtk_commands.specs.FileTable.{FileTable, OfGps, OfSystems}
 
--- the numbers of a file of GPS or of any systems, whatever its label and its time lines
+-- these are the numbers of a file of GPS or of any systems
+abbrev pub TellsNumbersOf : Form → FileTable → List ℕ → Type 0
+TellsNumbersOf form (OfGps t) bytes = TellsQuality form (table_text t) bytes
+TellsNumbersOf form (OfSystems t) bytes = TellsMixedQuality form (mixed_table_text t) bytes
+
+-- the numbers of a file, whatever its label and its time lines
 abbrev pub TellsTable : Form → FileTable → TimeLines → LabelView → FileAnswer → List ℕ → Type 0
-TellsTable form (OfGps t) w l answer bytes = (answer ≡ Written) × TellsQuality form (table_text t) bytes
-TellsTable form (OfSystems t) w l answer bytes = (answer ≡ Written) × TellsMixedQuality form (mixed_table_text t) bytes
+TellsTable form f w l answer bytes = (answer ≡ Written) × TellsNumbersOf form f bytes
