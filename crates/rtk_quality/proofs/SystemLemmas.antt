@@ -1,5 +1,5 @@
 -- The codes, the rows and the epochs of one system of a file.
-use Rattle.std.proofs.Common.{◌≡◌, ◌≢◌, ◌<◌, ◌≤◌, ◌+◌, ◌++◌, ◌==◌, cond, ℕ, suc, Bool, true, false, if◌then◌else◌, List, [], ◌∷◌, length, map, get_or, append-nil, append_assoc, length-append, refl, sym, ap, subst, ◌∙◌, arith}
+use Rattle.std.proofs.Common.{◌≡◌, ◌≢◌, ◌<◌, ◌≤◌, ◌+◌, ◌++◌, ◌==◌, cond, ℕ, suc, Bool, true, false, List, [], ◌∷◌, length, map, get_or, append-nil, append_assoc, length-append, refl, sym, ap, subst, ◌∙◌, arith}
 use Rattle.std.specs.Int.{IsInRange}
 use Rattle.std.specs.Prelude.{All, AllPairs}
 use Rattle.std.specs.List.{filter, list_any}

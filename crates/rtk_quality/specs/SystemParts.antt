@@ -1,5 +1,5 @@
 -- A file of any systems, system by system: the codes and the epochs of each (this project's rule).
-use Rattle.std.specs.Prelude.{◌==◌, ℕ, Bool, List, map}
+use Rattle.std.specs.Prelude.{◌==◌, Bool, List, map}
 use Rattle.std.specs.List.{filter}
 use Rattle.rtk_message.specs.declared.system.System.{System}
 use Rattle.rtk_obs.specs.declared.any_code.AnyCode.{AnyCode}

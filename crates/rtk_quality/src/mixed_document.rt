@@ -5,7 +5,7 @@ ghost use Rattle.rtk_rinex.specs.MixedHead.{IsMixedList};
 ghost use Rattle.rtk_rinex.specs.MixedTable.{MixedTable, IsMixedTable, mixed_table_text};
 ghost use Rattle.rtk_rinex.specs.Record.{EpochTableView};
 ghost use Rattle.rtk_tracking.specs.Epochs.{newest_first};
-ghost use Rattle.rtk_quality.specs.MixedQuality.{system_start, totals_text, system_end, system_text, part_of_system, parts_of_systems, systems_text, mixed_heading_text, mixed_quality_text, mixed_text_of_none, TellsMixedQuality};
+ghost use Rattle.rtk_quality.specs.MixedQuality.{system_start, totals_text, system_text, part_of_system, parts_of_systems, systems_text, mixed_heading_text, mixed_quality_text, mixed_text_of_none, TellsMixedQuality};
 ghost use Rattle.rtk_quality.specs.Records.{unit_of};
 ghost use Rattle.rtk_quality.specs.Standing.{HasCounted, IsTimesOf};
 

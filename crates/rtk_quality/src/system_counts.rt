@@ -1,6 +1,6 @@
 //! The counts of one system of a file.
 
-ghost use Rattle.std.specs.Prelude.{◌≡◌, ◌==◌, ◌≤◌, ℕ, List, length, IfOk, OnOk};
+ghost use Rattle.std.specs.Prelude.{◌≡◌, ◌==◌, ◌≤◌, List, length, IfOk, OnOk};
 ghost use Rattle.std.specs.List.{filter};
 ghost use Rattle.rtk_obs.specs.SatelliteIndex.{system_at, letter_of};
 ghost use Rattle.rtk_rinex.specs.MixedHead.{IsMixedList};

@@ -1,10 +1,10 @@
-use Rattle.std.proofs.Common.{◌≡◌, [], ◌∷◌, ℕ, List, length, refl, sym, ap, subst, ◌∙◌, arith}
+use Rattle.std.proofs.Common.{◌≡◌, [], ◌∷◌, ℕ, List, refl, sym, subst, ◌∙◌, arith}
 use Rattle.std.specs.List.{filter}
 use Rattle.rtk_rinex.specs.declared.epoch_table.SatelliteRow.{SatelliteRow}
 use Rattle.rtk_rinex.specs.Record.{EpochTableView}
 use Rattle.rtk_tracking.specs.Epochs.{newest_first}
 use Rattle.rtk_quality.specs.Standing.{AreRowsUpTo, RowsRise, IsCounting}
-use Rattle.rtk_quality.specs.SystemParts.{is_row_of, epoch_of_system, epochs_of_system}
+use Rattle.rtk_quality.specs.SystemParts.{is_row_of, epochs_of_system}
 use Rattle.rtk_quality.proofs.SystemLemmas.{come-record, come-end, newest-of-system, system-epochs-rise, system-rows-rise}
 use Rattle.rtk_quality.proofs.system_counts.count_system.Goals as goal
 
