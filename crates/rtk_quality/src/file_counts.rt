@@ -230,11 +230,7 @@ pub(crate) fn satellites_in(satellites: &[SatelliteCounts]) -> usize
 }
 
 // So many codes of each of so many satellites, without an epoch.
-fn missing_codes(
-    alloc: Global,
-    count: usize,
-    most: usize,
-) -> Result<Vec<MissingCodes>, AllocError>
+fn missing_codes(alloc: Global, count: usize, most: usize) -> Result<Vec<MissingCodes>, AllocError>
     ensures { IfOk result (λ missing. (interval : Option ℕ) → StandForMissing missing.items count most interval []) }
 {
     let mut missing = Vec::new(alloc);

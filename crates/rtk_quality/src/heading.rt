@@ -154,7 +154,11 @@ pub(crate) fn put_station(text: &mut Vec<u8>, form: Form, sums: &PassSums) -> Re
 
 /// Appends the counts that follow the outages.
 #[tactic(auto, unfolding(crate::specs::QualityText::listed_text))]
-pub(crate) fn put_listed(text: &mut Vec<u8>, form: Form, listed: &ListedCounts) -> Result<(), AllocError>
+pub(crate) fn put_listed(
+    text: &mut Vec<u8>,
+    form: Form,
+    listed: &ListedCounts,
+) -> Result<(), AllocError>
     ensures { OnOk result (text.new.items ≡ text.old.items ++ listed_text form listed.now) }
 {
     put_count(

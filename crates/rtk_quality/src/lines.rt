@@ -181,12 +181,7 @@ pub(crate) fn put_satellite_name(
 ) -> Result<(), AllocError>
     ensures { OnOk result (text.new.items ≡ text.old.items ++ satellite_name form satellite) }
 {
-    put_name(
-        text,
-        form,
-        b"\"satellite\":\"",
-        &satellite_name(satellite),
-    )
+    put_name(text, form, b"\"satellite\":\"", &satellite_name(satellite))
 }
 
 // Appends a code without a satellite: two characters are one of GPS, and three begin with the letter of the system.

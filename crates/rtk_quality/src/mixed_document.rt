@@ -13,9 +13,7 @@ use crate::document::{put_body, put_close};
 use crate::file_counts::{FileCounts, satellites_in, station_sums};
 use crate::file_times::{FileTimes, times_of};
 use crate::form::{Form, put_either, put_end};
-use crate::heading::{
-    ListedCounts, put_listed, put_marker, put_satellites, put_span, put_station,
-};
+use crate::heading::{ListedCounts, put_listed, put_marker, put_satellites, put_span, put_station};
 use crate::lines::put_count;
 use crate::lists::{begin_list, end_list};
 use crate::pass_sums::PassSums;
@@ -36,15 +34,15 @@ fn put_system_start(text: &mut Vec<u8>, form: Form, system: System) -> Result<()
     match form {
         Form::Table => {
             text.extend_from_slice(b"\nsystem ")?;
-            text.push(letter_of(system))
+            text.extend_from_slice(&[letter_of(system)])
         }
         Form::Lines => {
             text.extend_from_slice(b"system ")?;
-            text.push(letter_of(system))
+            text.extend_from_slice(&[letter_of(system)])
         }
         Form::Json => {
             text.extend_from_slice(b",\n{\"totals\":{\"system\":\"")?;
-            text.push(letter_of(system))?;
+            text.extend_from_slice(&[letter_of(system)])?;
             text.extend_from_slice(b"\"")
         }
     }

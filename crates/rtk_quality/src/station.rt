@@ -48,7 +48,8 @@ fn hours_heading(system: System) -> &'static [u8]
         System::Beidou => {
             b"\nhour             records    of satellites  slips returns  band 2  band 6  band 7\n"
         }
-        _ => b"\nhour             records    of satellites  slips returns  band 1  band 2  band 5\n",
+        _ =>
+            b"\nhour             records    of satellites  slips returns  band 1  band 2  band 5\n",
     }
 }
 

@@ -28,14 +28,14 @@ loop-record-preserved c = record {
       come-record (λ counts es. IsCounting counts 221 c.args.interval c.unit_ms-unit_ms.result c.args.codes.now (epochs_of_system c.args.system es)) c.loop-record.records c.next.new.self
       c.loop-record.counts c.note_epoch.new.self t.epochs c.in-Some.record (c.loop-record.invariant.counts t is text) c.in-Some.ensures.next
       (λ es e of good stands.
-          let own : c.as_slice.result.now ≡ filter (is_row_of c.args.system) e.rows = c.as_slice.ensures.value ∙ c.in_ok-read_rows.ensures.rows e of in
-          let at : c.time.result ≡ e.time = c.time.ensures ∙ of.time in
-          let rise : RowsRise c.as_slice.result.now = subst (λ (xs : List SatelliteRow). RowsRise xs) (sym own) (system-rows-rise c.args.system _ e good) in
-          subst (λ (n : ℕ). IsCounting c.note_epoch.new.self 221 c.args.interval c.unit_ms-unit_ms.result c.args.codes.now
-          (record { time = n; rows = filter (is_row_of c.args.system) e.rows } ∷ epochs_of_system c.args.system es)) at
-          (subst (λ (xs : List SatelliteRow). IsCounting c.note_epoch.new.self 221 c.args.interval c.unit_ms-unit_ms.result c.args.codes.now
-          (record { time = c.time.result; rows = xs } ∷ epochs_of_system c.args.system es)) own
-          (c.in_ok-note_epoch.ensures.counts 221 (epochs_of_system c.args.system es) rise stands)));
+      let own : c.as_slice.result.now ≡ filter (is_row_of c.args.system) e.rows = c.as_slice.ensures.value ∙ c.in_ok-read_rows.ensures.rows e of in
+      let at : c.time.result ≡ e.time = c.time.ensures ∙ of.time in
+      let rise : RowsRise c.as_slice.result.now = subst (λ (xs : List SatelliteRow). RowsRise xs) (sym own) (system-rows-rise c.args.system _ e good) in
+      subst (λ (n : ℕ). IsCounting c.note_epoch.new.self 221 c.args.interval c.unit_ms-unit_ms.result c.args.codes.now
+      (record { time = n; rows = filter (is_row_of c.args.system) e.rows } ∷ epochs_of_system c.args.system es)) at
+      (subst (λ (xs : List SatelliteRow). IsCounting c.note_epoch.new.self 221 c.args.interval c.unit_ms-unit_ms.result c.args.codes.now
+      (record { time = c.time.result; rows = xs } ∷ epochs_of_system c.args.system es)) own
+      (c.in_ok-note_epoch.ensures.counts 221 (epochs_of_system c.args.system es) rise stands)));
 }
 
 pub returns-clause-counts : goal.returns-clause-counts
