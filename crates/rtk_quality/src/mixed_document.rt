@@ -89,7 +89,8 @@ fn put_counted(
     let listed = ListedCounts::of(counts);
     put_totals(text, form, system, seen, &counts.records, &listed, &sums)?;
     put_body(alloc, text, false, form, codes, counts)?;
-    put_either(text, form, b"", b"}")
+    put_either(text, form, b"", b"}")?;
+    Ok(())
 }
 
 // Appends the part of a system, if it has a code.

@@ -18,7 +18,7 @@ loop-record-preserved c = record {
   counts = λ t is text.
       come-more (λ counts es. IsCounting counts 32 c.args.interval c.unit_ms-unit_ms.result c.args.codes.now es) c.loop-record.records c.next.new.self c.loop-record.counts c.note_epoch.new.self t.epochs c.in-Some._record.now c.next.new.epoch
       (c.loop-record.invariant.counts t is text) c.in-Some.ensures.next
-      (λ es was. rw (c.time.ensures, c.rows-rows.ensures.value) at (c.in_ok-note_epoch.ensures.counts 32 es) (rw c.rows-rows.ensures.value at c.rows-rows.ensures.good.rise) was);
+      (λ es was. rw (c.time.ensures, c.rows-rows.ensures.value) at (c.in_ok-note_epoch.ensures.counts 32 es) c.rows-rows.ensures.good.rise was);
 }
 
 pub returns-clause-counts : goal.returns-clause-counts

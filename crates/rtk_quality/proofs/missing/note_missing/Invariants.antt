@@ -1,4 +1,4 @@
-use Rattle.std.proofs.Common.{◌++◌, List, length}
+use Rattle.std.proofs.Common.{◌++◌, ℕ, List, length}
 use Rattle.std.specs.Prelude.{flat_map}
 use Rattle.std.specs.List.{range_with_len}
 use Rattle.rtk_rinex.specs.Record.{EpochTableView}

@@ -9,15 +9,15 @@ use Rattle.rtk_quality.proofs.mixed_document.mixed_quality.Goals as goal
 
 pub returns-in-Some : goal.returns-in-Some
 returns-in-Some c = λ t is text.
-    let times : IsTimesOf c.in_ok-times.field-0 (unit_of c.in_ok-interval.field-0) (newest_first t.epochs) =
-    subst (λ (n : ℕ). IsTimesOf c.in_ok-times.field-0 n (newest_first t.epochs)) c.unit_ms.ensures.value (c.in_ok-times.ensures t is text) in
+    let times : IsTimesOf c.in_ok-times.times (unit_of c.in_ok-interval.interval) (newest_first t.epochs) =
+    subst (λ (n : ℕ). IsTimesOf c.in_ok-times.times n (newest_first t.epochs)) c.unit_ms.ensures.value (c.in_ok-times.ensures t is text) in
     let last : newest_moment (newest_first t.epochs) ≡ Some c.in-Some.last = sym (ap (λ (r : RecordCounts). r.last) times.records) ∙ c.in-Some.is in
     c.in_ok-text-in-Some.ensures t is text times
     ∙ ap (λ (i : Option ℕ). mixed_quality_text c.args.form t.head.marker t.head.listed t.first c.in-Some.last i t.epochs) (c.in_ok-interval.ensures t is text)
     ∙ ap (λ (o : Option ℕ). mixed_text_until c.args.form t o) (sym last)
 
-pub returns-in-None : goal.returns-in-None
-returns-in-None c = λ t is text.
+pub returns : goal.returns
+returns c = λ t is text.
     let times = c.in_ok-times.ensures t is text in
     let last : newest_moment (newest_first t.epochs) ≡ None = sym (ap (λ (r : RecordCounts). r.last) times.records) ∙ c.in-None.is in
     c.in_ok-text-in-None.ensures

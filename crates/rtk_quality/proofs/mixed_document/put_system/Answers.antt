@@ -12,13 +12,13 @@ none-of (c ∷ cs) none = absurd (omega arith)
 
 pub returns-then-len-eq0 : goal.returns-then-len-eq0
 returns-then-len-eq0 c = λ t is text.
-    no-part c.args.form c.args.system (codes_of_system c.args.system c.args.listed.now) c.in_ok-codes.field-0.items c.args.interval (newest_first (epochs_of_system c.args.system t.epochs)) c.args.text.now.items
+    no-part c.args.form c.args.system (codes_of_system c.args.system c.args.listed.now) c.in_ok-codes.codes.items c.args.interval (newest_first (epochs_of_system c.args.system t.epochs)) c.args.text.now.items
     c.in_ok-codes.ensures.value (none-of _ (sym c.len.ensures.value ∙ c.if-len-eq0.true))
 
 pub returns : goal.returns
 returns c = λ t is text.
     let es = newest_first (epochs_of_system c.args.system t.epochs) in
-    let codes : List AnyCode = c.in_ok-codes.field-0.items in
+    let codes : List AnyCode = c.in_ok-codes.codes.items in
     some-part c.args.form c.args.system (codes_of_system c.args.system c.args.listed.now) codes c.args.interval es c.args.text.now.items c.put_counted.new.text.items
     c.in_ok-codes.ensures.value (λ none. c.if-len-eq0.false (c.len.ensures.value ∙ ap length none))
     (rw c.as_slice-2.ensures.value at (c.in_ok-put_counted.ensures c.args.interval es)

@@ -3,6 +3,7 @@ use Rattle.std.specs.List.{filter}
 use Rattle.rtk_rinex.specs.declared.epoch_table.SatelliteRow.{SatelliteRow}
 use Rattle.rtk_rinex.specs.Record.{EpochTableView}
 use Rattle.rtk_tracking.specs.Epochs.{newest_first}
+use Rattle.rtk_quality.specs.Records.{unit_of}
 use Rattle.rtk_quality.specs.Standing.{AreRowsUpTo, RowsRise, IsCounting}
 use Rattle.rtk_quality.specs.SystemParts.{is_row_of, epochs_of_system}
 use Rattle.rtk_quality.proofs.SystemLemmas.{come-record, come-end, newest-of-system, system-epochs-rise, system-rows-rise}
@@ -41,7 +42,7 @@ loop-record-preserved c = record {
 pub returns-clause-counts : goal.returns-clause-counts
 returns-clause-counts c = λ t is text.
     c.in_ok-finish.ensures.counts 221 (epochs_of_system c.args.system t.epochs) (system-epochs-rise c.args.system t.epochs is.rise)
-    (subst (λ (es : List EpochTableView). IsCounting c.loop-record.counts 221 c.args.interval _ c.args.codes.now es) (sym (newest-of-system c.args.system t.epochs))
+    (subst (λ (es : List EpochTableView). IsCounting c.loop-record.counts 221 c.args.interval (unit_of c.args.interval) c.args.codes.now es) (sym (newest-of-system c.args.system t.epochs))
     (subst (λ (unit : ℕ). IsCounting c.loop-record.counts 221 c.args.interval unit c.args.codes.now (epochs_of_system c.args.system (newest_first t.epochs))) c.unit_ms-unit_ms.ensures.value
     (come-end (λ counts es. IsCounting counts 221 c.args.interval c.unit_ms-unit_ms.result c.args.codes.now (epochs_of_system c.args.system es)) c.loop-record.records c.loop-record.counts t.epochs
     (c.loop-record.invariant.counts t is text) c.in_default.ensures.next)))

@@ -27,7 +27,8 @@ loop-satellite-preserved-in-Continue-1 c =
     λ xs left. subst (λ (k : ℕ). IsNextRowOf xs (record { satellite = k; observed = c.next_row.new.observed }) c.next_row.new.self) (sym c.index.ensures.value) (c.in-Some.ensures.next xs left) in
     let on : is_row_of c.args.system row ≡ true =
     ap (λ (k : ℕ). letter_of (system_at k) == letter_of c.args.system) c.index.ensures.value ∙ sym c.is_of_system.ensures ∙ c.if-is_of_system.true in
-    let pushed : c.push.new.self.items ≡ l.own.items ++ row ∷ [] = cc in
+    let pushed : c.push.new.self.items ≡ l.own.items ++ row ∷ [] =
+    c.in_ok-push.ensures.items ∙ ap (λ (r : SatelliteRow). l.own.items ++ r ∷ []) c.replace.ensures.value in
     own-more c.args.system c.args.read.now l.rows c.next_row.new.self l.own.items c.push.new.self.items row l.invariant next c.in-Some.ensures.end.count c.index.ensures.bound on pushed
 
 pub returns-clause-rows : goal.returns-clause-rows
