@@ -107,12 +107,13 @@ fn put_system(
     ensures { OnOk result ((t : MixedTable) → IsMixedTable t → table.now.text ≡ mixed_table_text t
         → text.new.items ≡ text.old.items ++ part_of_system form listed.now interval t.epochs system) }
 {
-    let codes = codes_of_system(alloc, system, listed)?;
+    let own = codes_of_system(alloc, system, listed)?;
+    let codes = own.as_slice();
     if codes.len() == 0 {
         return Ok(());
     }
-    let counts = count_system(alloc, table, system, codes.as_slice(), interval)?;
-    put_counted(alloc, text, form, system, codes.as_slice(), &counts)?;
+    let counts = count_system(alloc, table, system, codes, interval)?;
+    put_counted(alloc, text, form, system, codes, &counts)?;
     Ok(())
 }
 

@@ -21,5 +21,5 @@ returns c = λ t is text.
     let times = c.in_ok-times.ensures t is text in
     let last : newest_moment (newest_first t.epochs) ≡ None = sym (ap (λ (r : RecordCounts). r.last) times.records) ∙ c.in-None.is in
     c.in_ok-text-in-None.ensures
-    ∙ ap (λ (m : _). mixed_text_of_none c.args.form m) (c.marker-in-None.ensures.value ∙ ap (λ (h : MixedHeadView). h.marker) (c.heading-heading.ensures.parts t is text).0)
+    ∙ ap (λ (m : _). mixed_text_of_none c.args.form m) (c.marker.ensures.value ∙ ap (λ (h : MixedHeadView). h.marker) (c.heading-heading.ensures.parts t is text).0)
     ∙ ap (λ (o : Option ℕ). mixed_text_until c.args.form t o) (sym last)

@@ -10,16 +10,15 @@ none-of : (cs : List AnyCode) → length cs ≡ 0 → cs ≡ []
 none-of [] none = refl
 none-of (c ∷ cs) none = absurd (omega arith)
 
-pub returns-then-len-eq0 : goal.returns-then-len-eq0
-returns-then-len-eq0 c = λ t is text.
-    no-part c.args.form c.args.system (codes_of_system c.args.system c.args.listed.now) c.in_ok-codes.codes.items c.args.interval (newest_first (epochs_of_system c.args.system t.epochs)) c.args.text.now.items
-    c.in_ok-codes.ensures.value (none-of _ (sym c.len.ensures.value ∙ c.if-len-eq0.true))
+pub returns-then-codes-eq0 : goal.returns-then-codes-eq0
+returns-then-codes-eq0 c = λ t is text.
+    no-part c.args.form c.args.system (codes_of_system c.args.system c.args.listed.now) c.as_slice-codes.result.now c.args.interval (newest_first (epochs_of_system c.args.system t.epochs))
+    c.args.text.now.items (c.as_slice-codes.ensures.value ∙ c.in_ok-own.ensures.value) (none-of _ c.if-codes-eq0.true)
 
 pub returns : goal.returns
 returns c = λ t is text.
     let es = newest_first (epochs_of_system c.args.system t.epochs) in
-    let codes : List AnyCode = c.in_ok-codes.codes.items in
+    let codes : List AnyCode = c.as_slice-codes.result.now in
     some-part c.args.form c.args.system (codes_of_system c.args.system c.args.listed.now) codes c.args.interval es c.args.text.now.items c.put_counted.new.text.items
-    c.in_ok-codes.ensures.value (λ none. c.if-len-eq0.false (c.len.ensures.value ∙ ap length none))
-    (rw c.as_slice-2.ensures.value at (c.in_ok-put_counted.ensures c.args.interval es)
-    (rw c.as_slice.ensures.value at (c.in_ok-counts.ensures.counts t is text)))
+    (c.as_slice-codes.ensures.value ∙ c.in_ok-own.ensures.value) (λ none. c.if-codes-eq0.false (ap length none))
+    (c.in_ok-put_counted.ensures c.args.interval es (c.in_ok-counts.ensures.counts t is text))
