@@ -1,5 +1,5 @@
 -- The runs of epochs at which a code is missing, an epoch more, and all of them one after another.
-use Rattle.std.proofs.Common.{◌≡◌, ◌≢◌, ◌<◌, ◌≤◌, ◌+◌, ◌++◌, cond, ℕ, zero, suc, Bool, true, false, not, List, [], ◌∷◌, length, take, set, get_or, map, All, Option, None, Some, refl, sym, ap, subst, inl, inr, ◌∙◌, get_or-set_same, get_or-set_other, length-set, arith, append_assoc}
+use Rattle.std.proofs.Common.{◌≡◌, ◌≢◌, ◌<◌, ◌≤◌, ◌+◌, ◌++◌, ℕ, suc, Bool, true, false, List, [], ◌∷◌, length, take, set, get_or, map, All, Option, None, refl, sym, ap, subst, inl, inr, ◌∙◌, get_or-set_same, get_or-set_other, length-set, arith, append_assoc}
 use Rattle.std.specs.Prelude.{flat_map}
 use Rattle.std.specs.List.{range_with_len}
 use Rattle.std.proofs.lemmas.Bool.{cases_eq}
@@ -12,7 +12,7 @@ use Rattle.rtk_rinex.specs.Record.{EpochTableView}
 use Rattle.rtk_rinex.specs.declared.epoch_table.SatelliteRow.{SatelliteRow}
 use Rattle.rtk_tracking.specs.Passes.{Sighting, sightings_of, has_phase, begins_pass}
 use Rattle.rtk_quality.specs.Largest.{list_of, AreLargest}
-use Rattle.rtk_quality.specs.Missing.{lacks, ended_missings, if_listed, missing_code, missing_of, missing_from}
+use Rattle.rtk_quality.specs.Missing.{lacks, ended_missings, if_listed, missing_of, missing_from}
 use Rattle.rtk_quality.specs.Runs.{run_after, run_ended}
 use Rattle.rtk_quality.specs.Standing.{absent_at, without_rows, StandsForMissing, StandForCodes, StandForMissing}
 use Rattle.rtk_quality.specs.declared.largest.Largest.{Largest}

@@ -1,4 +1,4 @@
-use Rattle.std.proofs.Common.{◌≡◌, [], ◌∙◌, List, length, ap, sym, refl, ◌∷◌, arith}
+use Rattle.std.proofs.Common.{◌≡◌, [], ◌∙◌, List, length, ap, refl, ◌∷◌, arith}
 use Rattle.rtk_obs.specs.declared.any_code.AnyCode.{AnyCode}
 use Rattle.rtk_tracking.specs.Epochs.{newest_first}
 use Rattle.rtk_quality.specs.SystemParts.{codes_of_system, epochs_of_system}
