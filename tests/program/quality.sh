@@ -448,8 +448,8 @@ satellites                                1
 least-satellites                          0
 mean-satellites                         0.8
 greatest-satellites                       1
-slips                                     0
-moments                                   0
+slips                                     1
+moments                                   1
 outages                                   0
 outage-time                           0.000
 slips-together                            0
@@ -458,7 +458,7 @@ half-runs                                 1
 missing-codes                             0
 
 hour             records    of satellites  slips returns  band 2  band 6  band 7
-2024-05-17 12:00       4     5        0.8      0       0   44.00       -       -
+2024-05-17 12:00       4     5        0.8      1       0   44.00       -       -
 
 half from               until                  epochs
 C41 2024-05-17 12:00:01 2024-05-17 12:00:01         1
