@@ -1,5 +1,5 @@
 """The slow model of the numbers of a file of any systems: those of the file, and for each system those of its satellites."""
-# pins: epochs_of_system, codes_of_system, bands_of_system, title_in, parts_of_systems
+# pins: epochs_of_system, bands_of_system, title_in, parts_of_systems
 
 from __future__ import annotations
 

@@ -424,7 +424,7 @@ done
 cp "$mixed" mixed
 of_galileo >galileo
 systems=$root/tests/program/mixed.numbers
-# pins: mixed_quality_of, mixed_quality_text, mixed_heading_text, parts_of_systems, codes_of_system, epochs_of_system, totals_text
+# pins: mixed_quality_of, mixed_quality_text, parts_of_systems, epochs_of_system, totals_text
 lines mixed;        leaves quality_of_mixed 0 "$systems" /dev/null
 lines stdin <mixed; leaves quality_of_mixed_of_standard_input 0 "$systems" /dev/null
 "$program" label --run-by B mixed >labelled_mixed
@@ -485,7 +485,7 @@ S S5I
 I I5A
 totals codes satellites tracked never passes hours falls outages slips_together bursts half_runs missing_codes
 END
-# pins: title_in, systems_text
+# pins: title_in
 same quality_of_mixed_in_json got want
 
 # A file of other systems without a record, and one that `check` refuses.

@@ -1,15 +1,20 @@
 -- The values of the conversion of a station, by the surveys of its captures (this project's rule).
-use Rattle.std.specs.Prelude.{ℕ, ◌+◌, ◌-◌, ◌==◌, Bool, false, List, [], ◌∷◌, filter, slice_get, max, Option, None, Some, if◌then◌else◌}
+use Rattle.std.specs.Prelude.{ℕ, ◌+◌, ◌-◌, ◌==◌, Bool, true, false, List, [], ◌∷◌, filter, slice_get, max, Option, None, Some, if◌then◌else◌}
 use Rattle.std.specs.BTreeMap.{values}
 use Rattle.std.specs.List.{list_any, sum_by}
 use Rattle.rtk_message.specs.declared.msm_kind.MsmKind.{MsmKind}
+use Rattle.rtk_message.specs.declared.msm_type.MsmType.{MsmType}
+use Rattle.rtk_message.specs.declared.system.System.{System}
+use Rattle.rtk_message.specs.declared.system.System.TheVariants.{Gps, Glonass, Galileo, Beidou, Qzss, Sbas, Navic}
+use Rattle.rtk_message.specs.Systems.{type_of_number}
 use Rattle.rtk_obs.specs.declared.code.Code.{Code}
 use Rattle.rtk_obs.specs.Code.{all_codes}
-use Rattle.rtk_survey.specs.Contents.{codes_held, msm_part, others_held}
+use Rattle.rtk_survey.specs.Contents.{codes_held, count_at, msm_part, others_held}
 use Rattle.rtk_survey.specs.Counting.{shown_count}
 use Rattle.rtk_survey.specs.declared.epochs.Epochs.{Epochs}
 use Rattle.rtk_survey.specs.declared.station.StationSurvey.{StationSurvey}
 use Rattle.rtk_survey.specs.declared.survey.CaptureSurvey.{CaptureSurvey}
+use Rattle.rtk_survey.specs.declared.unread.Unread.{Unread}
 use Rattle.rtk_plan.specs.StationCaptures.{station_in}
 
 -- ---- epochs
@@ -96,9 +101,30 @@ sbas_of_station (Some t) = t.counts.sbas_1004
 abbrev pub sbas_in_captures : List CaptureSurvey → ℕ → ℕ
 sbas_in_captures ss n = shown_count (sum_by (λ s. sbas_of_station (station_in n s)) ss)
 
--- how many messages of a number that is not read captures have
+-- how many messages of a number were refused
+abbrev pub refused_of_number : Unread → ℕ → ℕ
+refused_of_number u number = shown_count (shown_count (count_at u.short number + count_at u.outside_week number) + count_at u.too_many_cells number)
+
+abbrev pub is_gps_system : System → Bool
+is_gps_system Gps = true
+is_gps_system Glonass = false
+is_gps_system Galileo = false
+is_gps_system Beidou = false
+is_gps_system Qzss = false
+is_gps_system Sbas = false
+is_gps_system Navic = false
+
+-- how many were, if they are MSM of another system than GPS, which a conversion of GPS does not read
+abbrev pub refused_beside : Option MsmType → Unread → ℕ → ℕ
+refused_beside None u number = 0
+refused_beside (Some m) u number = if is_gps_system m.system then 0 else refused_of_number u number
+
+-- how many messages of a number a capture has that a conversion of GPS does not read
+abbrev pub others_of_capture : ℕ → CaptureSurvey → ℕ
+others_of_capture number s = shown_count (others_held s.contents number + refused_beside (type_of_number number) s.contents.unread number)
+
 abbrev pub others_in_captures : List CaptureSurvey → ℕ → ℕ
-others_in_captures ss number = shown_count (sum_by (λ s. others_held s.contents number) ss)
+others_in_captures ss number = shown_count (sum_by (others_of_capture number) ss)
 
 -- table
 -- how many messages of a number that is read a station has

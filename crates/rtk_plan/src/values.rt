@@ -7,9 +7,9 @@ ghost use Rattle.rtk_survey.specs.Proposal as proposal;
 ghost use Rattle.rtk_plan.specs.Linking.{places_of};
 ghost use Rattle.rtk_plan.specs.Values as spec;
 
-use rtk_message::MsmKind;
+use rtk_message::{MsmKind, MsmType, System};
 use rtk_obs::{ALL_CODES, Code};
-use rtk_survey::{CaptureSurvey, Epochs, StationSurvey, others_numbered};
+use rtk_survey::{CaptureSurvey, Epochs, StationSurvey, Unread, count_of_number, others_numbered};
 use std::alloc::{AllocError, Global};
 
 // ---- epochs
@@ -202,13 +202,55 @@ pub(crate) fn sbas_in_captures(surveys: &[CaptureSurvey], station: u16) -> u64
     count
 }
 
-/// How many messages of a number that is not read captures have.
+// How many messages of a number were refused.
+fn refused_of_number(unread: &Unread, number: u16) -> u64
+    ensures { result ≡ spec.refused_of_number unread.now number }
+{
+    let short = count_of_number(&unread.short, number);
+    let short_or_outside = short.saturating_add(count_of_number(&unread.outside_week, number));
+    short_or_outside.saturating_add(count_of_number(&unread.too_many_cells, number))
+}
+
+fn is_gps_system(system: System) -> bool
+    ensures { result ≡ spec.is_gps_system system }
+{
+    match system {
+        System::Gps => true,
+        System::Glonass
+        | System::Galileo
+        | System::Beidou
+        | System::Qzss
+        | System::Sbas
+        | System::Navic => false,
+    }
+}
+
+// How many were refused, if they are MSM of another system than GPS.
+fn refused_beside(msm: Option<MsmType>, unread: &Unread, number: u16) -> u64
+    ensures { result ≡ spec.refused_beside msm unread.now number }
+{
+    match msm {
+        Some(msm) if !is_gps_system(msm.system) => refused_of_number(unread, number),
+        _ => 0,
+    }
+}
+
+// How many messages of a number a capture has that a conversion of GPS does not read.
+fn others_of_capture(number: u16, survey: &CaptureSurvey) -> u64
+    ensures { result ≡ spec.others_of_capture number survey.now }
+{
+    let msm = MsmType::of_number(number);
+    let refused = refused_beside(msm, &survey.contents.unread, number);
+    others_numbered(&survey.contents, number).saturating_add(refused)
+}
+
+/// How many messages of a number captures have that a conversion of GPS does not read.
 pub(crate) fn others_in_captures(surveys: &[CaptureSurvey], number: u16) -> u64
     ensures { result ≡ spec.others_in_captures surveys.now number }
 {
     let mut count = 0u64;
     for survey in surveys {
-        count = count.saturating_add(others_numbered(&survey.contents, number));
+        count = count.saturating_add(others_of_capture(number, survey));
     }
     count
 }
