@@ -10,8 +10,8 @@ from msm import type_of
 from systems import BEIDOU, GLONASS
 from wire import WEEK_MS, BitReader, Message
 
-MOST_CLOCKS = 64  # so many clocks of a chain are compared
-MOST_OFFSETS = 16  # so many offsets of a system are counted
+MOST_CLOCKS = 32  # so many clocks of a chain are compared
+MOST_OFFSETS = 8  # so many offsets of a system are counted
 
 # The systems whose clocks others are compared with, and those with a line, both in their order.
 TIMING = "GEJSI"
