@@ -61,7 +61,8 @@ def _line_of(letter: str, counted: Counter[int]) -> list[str]:
     told = [ahead for ahead in counted if ahead]
     if not told:
         return []
-    ahead = min(told, key=lambda ahead: (-counted[ahead], min(ahead, WEEK_MS - ahead), ahead))
+    # of two that are as frequent and as near to 0, the one behind
+    ahead = min(told, key=lambda ahead: (-counted[ahead], min(ahead, WEEK_MS - ahead), -ahead))
     sign, ms = ("+", ahead) if ahead <= WEEK_MS // 2 else ("-", WEEK_MS - ahead)
     return [f" clock {letter} {sign}{ms // 1000}.{ms % 1000:03} {counted[ahead]} of {sum(counted.values())}"]
 
