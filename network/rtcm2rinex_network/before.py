@@ -43,7 +43,7 @@ class Before:
         new = list(made)
         for other in self.others:
             names = filter(None, map(read_name, [*self.lists[other].made, *new]))
-            for file in {str(it.with_kind(other.kind)) for it in names}:
+            for file in sorted({str(it.with_kind(other.kind)) for it in names}):
                 for path in [*forms_of(self.folder / file), *(self.folder / f"{file}{end}" for end in BESIDE)]:
                     path.unlink(missing_ok=True)
             remove_left(self.folder, str(other))

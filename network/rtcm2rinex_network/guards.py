@@ -22,7 +22,7 @@ from .systems import kinds_of, systems_of
 MOST_METRES = 1.0  # of a position that comes from the same antenna
 MOST_CONFLICTS = 0.01  # of the messages that were taken
 CONFLICT = re.compile(r"(?m)^link \d+ conflict \d+ (?:-|\S+ \S+)", re.ASCII)
-OF_OTHER_GUARDS = re.compile(r"lost code \S+|(lost|changed) position", re.ASCII)  # lines of `compare`
+OF_OTHERS = re.compile(r"lost code \S+|(lost|changed) (position|channel \d+)|changed leap-seconds", re.ASCII)  # lines of `compare`
 OF_WHOLE_FILE = re.compile(r"lost slip .*", re.ASCII)  # also a line of `compare`
 
 
@@ -169,7 +169,7 @@ def guard_counts(name: str, old: Old, new: New, file: str) -> Iterator[str]:
 
 def guard_records(program: Program, name: str, old: Old, new: New, now: Path) -> Iterator[str]:
     """A loss in one hour of a day may hide behind a gain in another, so `compare` looks at each value and mark. Codes and position have
-    guards of their own. A file that is made once more from the same heals what a disk or a hand changed, so only what is lost counts.
+    guards of their own, and channels and leap seconds that were wrong show in phases and epochs. A file that is made once more from the same heals what a disk or a hand changed, so only what is lost counts.
     A slip of a thinned file is one of the file of the span, which has the phases that explain it. `compare` explains values in other steps
     by messages that came, which have finer ones; but those that went may have had them."""
     path = old.file(name)
@@ -182,7 +182,7 @@ def guard_records(program: Program, name: str, old: Old, new: New, now: Path) ->
             yield f"{name} was changed, and can't be compared: {fault}"
         return
     is_thin = name != old.path.name
-    others = [it for it in found.lines if OF_OTHER_GUARDS.fullmatch(it) or (is_thin and OF_WHOLE_FILE.fullmatch(it))]
+    others = [it for it in found.lines if OF_OTHERS.fullmatch(it) or (is_thin and OF_WHOLE_FILE.fullmatch(it))]
     lines = [it for it in found.lines if it not in others]
     lost, changed = (count - sum(it.startswith(kind) for it in others) for kind, count in found.counts.items())
     if lost or (changed and not new.is_of_list):
