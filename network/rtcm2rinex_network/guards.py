@@ -169,9 +169,10 @@ def guard_counts(name: str, old: Old, new: New, file: str) -> Iterator[str]:
 
 def guard_records(program: Program, name: str, old: Old, new: New, now: Path) -> Iterator[str]:
     """A loss in one hour of a day may hide behind a gain in another, so `compare` looks at each value and mark. Codes and position have
-    guards of their own, and channels and leap seconds that were wrong show in phases and epochs. A file that is made once more from the same heals what a disk or a hand changed, so only what is lost counts.
-    A slip of a thinned file is one of the file of the span, which has the phases that explain it. `compare` explains values in other steps
-    by messages that came, which have finer ones; but those that went may have had them."""
+    guards of their own, and channels and leap seconds that were wrong show in phases and epochs. A file that is made once more from the
+    same heals what a disk or a hand changed, so only what is lost counts. A slip of a thinned file is one of the file of the span, which
+    has the phases that explain it. `compare` explains values in other steps by messages that came, which have finer ones; but those that
+    went may have had them."""
     path = old.file(name)
     if path is None:
         return
