@@ -77,8 +77,8 @@ class Old:
 
 @dataclass(frozen=True)
 class New:
-    """The new files: what they were made by, what was made, where that of the span lies now, the text of the report, whether all is as in the
-    list of before from which they were made, and whether captures lost bytes."""
+    """The new files: what they were made by, what was made, where that of the span lies now, the text of the report, whether all is as in
+    the list of before from which they were made, and whether captures lost bytes."""
 
     by: MadeBy
     made: Dict[str, Made]

@@ -38,8 +38,8 @@ FIELDS = {  # by the options of `label`: the label of the line, and the columns
 class Header:
     """What a header says.
 
-    `codes` has the codes of each system by its letter, as `--codes` of `convert` names them. `fields` has what a label fills, by the names of
-    the options of `label`. An offset counts only with the sign that `label` gives it, since a station tells its height without one.
+    `codes` has the codes of each system by its letter, as `--codes` of `convert` names them. `fields` has what a label fills, by the names
+    of the options of `label`. An offset counts only with the sign that `label` gives it, since a station tells its height without one.
     `position` is in metres, and None if it is zeros. `made` is as `--made` takes it.
     """
 

@@ -21,7 +21,7 @@ from .lists import Record
 from .making import Conversion, Job, check_every, convert, label_files
 from .names import Name
 from .places import adopt, compact_forms, dated, form_of, has_list, is_compact
-from .placing import NOTES, UNREAD, give_to_owner, locked, make_folder, note_end, put, sync, work_folder, write_whole
+from .placing import NOTES, UNREAD, failures, give_to_owner, locked, make_folder, note_end, put, sync, work_folder, write_whole
 from .program import Program, find_program
 from .settings import Settings
 from .table import find_row
@@ -80,19 +80,27 @@ def noted(job: Job) -> Iterator[None]:
     except NoCaptures:
         raise
     except Ended as end:
-        note_end(job.path, end)
+        note_failure(job, end)
         raise
     except OSError as fault:
         again = Again(f"{fault.filename or job.folder}: {fault.strerror}")
-        note_end(job.path, again)
+        note_failure(job, again)
         raise again from None
     drop_notes_of_span(job)
 
 
-def drop_notes_of_span(job: Job) -> None:
-    """Removes the notes of the span, also those under another interval, which stood in the row when the runs failed."""
+def note_failure(job: Job, end: Ended) -> None:
+    """Notes why a run failed, so that the span has notes under one name alone."""
+    note_end(job.path, end)
+    if failures(job.path)[0]:
+        drop_notes_of_span(job, str(job.name))
+
+
+def drop_notes_of_span(job: Job, but: Optional[str] = None) -> None:
+    """Removes the notes of the span, but for those of a name. Other names have the interval or the type of data that the row had when their
+    runs failed."""
     for name in os.listdir(job.folder):
-        if name.startswith(job.name.begin) and name.endswith(NOTES):
+        if name.startswith(job.name.begin) and name.endswith(NOTES) and name.rpartition(".")[0] != but:
             (job.folder / name).unlink(missing_ok=True)
 
 
@@ -344,8 +352,8 @@ class Run:
         self.lists.remove_others(made)
 
     def put_file(self, work: Path, file: str) -> None:
-        """Gives a file its name in the form in which it is there, perhaps under a name of before, but plain in the place of a compact one. One
-        without epochs goes."""
+        """Gives a file its name in the form in which it is there, perhaps under a name of before, but plain in the place of a compact one.
+        One without epochs goes."""
         plain = self.job.folder / file
         form = next((it for it in map(self.form, self.lists.names_of(file)) if it.is_file()), plain)
         place = plain.with_name(f"{file}.gz") if form.name.endswith(".rnx.gz") else plain
