@@ -8,7 +8,7 @@ import time
 from contextlib import contextmanager
 from dataclasses import dataclass
 from pathlib import Path
-from typing import BinaryIO, Dict, Iterator, List, Optional, Sequence
+from typing import Dict, Iterator, List, Optional, Sequence
 
 from .after import call_after, note_after
 from .before import Before
@@ -64,8 +64,7 @@ def convert_span(settings: Settings, words: Sequence[str]) -> str:
     with locked(record), noted(job):
         if not os.access(job.folder, os.W_OK):
             raise Refused(f"can't write to {job.folder}: no permission")
-        held = adopt(job.row.directory / "rinex", job.folder, job.name)
-        run = Run(job, record, Before(job.folder, job.name), held)
+        run = Run(job, record, Before(job.folder, job.name, adopt(job.row.directory / "rinex", job.folder, job.name)))
         told = run.made()
         run.note_unread()
         call_after(settings, [job.folder / name for name in run.now.made or run.before.made])
@@ -127,13 +126,12 @@ class Found:
 class Run:
     """A run over a span, whose lists are locked."""
 
-    def __init__(self, job: Job, record: Path, lists: Before, held: List[BinaryIO]) -> None:
+    def __init__(self, job: Job, record: Path, lists: Before) -> None:
         self.job, self.record, self.lists = job, record, lists
         self.before = lists.record
         self.captures = find_captures(job.row.directory, job.span)  # now, since the lock may have come late
         self.now = Record(head=job.head())
         self.faults: List[str] = []  # of captures that can't be read
-        self.held = held  # the lists that came in the place of the one that was locked
         self.found = self.look()
 
     # ------------------------------------------------------------ what is there
@@ -304,7 +302,7 @@ class Run:
         held = open(path, "ab")
         fcntl.flock(held, fcntl.LOCK_EX | fcntl.LOCK_NB)
         os.replace(path, self.record)
-        self.held.append(held)
+        self.lists.held.append(held)
 
     def seen_now(self, names: Sequence[str]) -> Dict[str, str]:
         """What the list notes of these files."""
