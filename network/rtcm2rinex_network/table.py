@@ -117,10 +117,10 @@ def read_table(path: Path) -> List[Row]:
 def read_row(number: int, line: str, beside: Path) -> Row:
     """A row. A directory that does not begin with / lies beside the table."""
     columns = re.split(r"[ \t]+", line, maxsplit=6) + [""] * 7
-    directory, words = split_words(columns[6], "msm", "channels", "leap_seconds", "from", "until")
+    directory, words, twice = split_words(columns[6], "msm", "channels", "leap_seconds", "from", "until")
     dates, fault = read_dates(words)
     station, marker, name9, interval, codes, window = columns[:6]
-    fault = fault_of(columns[:6], directory) or fault or fault_of_words(words, codes)
+    fault = fault_of(columns[:6], directory) or (f"{twice}= is there twice" if twice else "") or fault or fault_of_words(words, codes)
     glonass = {name: words[name] for name in ("channels", "leap_seconds") if name in words}
     if "channels" in glonass and not fault:
         glonass["channels"] = by_slots(glonass["channels"])
@@ -128,14 +128,16 @@ def read_row(number: int, line: str, beside: Path) -> Row:
         words.get("msm"), glonass, dates, fault)
 
 
-def split_words(text: str, *names: str) -> Tuple[str, Dict[str, str]]:
-    """A text that may have blanks, and the words NAME=VALUE with these names at its end."""
+def split_words(text: str, *names: str) -> Tuple[str, Dict[str, str], str]:
+    """A text that may have blanks, the words NAME=VALUE with these names at its end, and a name that is there twice, if one is."""
     words: Dict[str, str] = {}
+    twice = ""
     form = re.compile(rf"(?s)(?:(.*?)[ \t]+|)({'|'.join(names)})=([^ \t]*)")
     while match := form.fullmatch(text):
         text = match[1] or ""
-        words.setdefault(match[2], match[3])
-    return text, words
+        twice = match[2] if match[2] in words else twice
+        words[match[2]] = match[3]
+    return text, words, twice
 
 
 def read_dates(words: Dict[str, str]) -> Tuple[Dates, str]:
