@@ -31,7 +31,7 @@ SIZES = {
     ".reserve(": set(),
     ".reserve_exact(": set(),
     ".resize(": set(),
-    "vec![in alloc; ": {"0u8; PIECE", "PhaseCount::nothing(); PLACES"},
+    "vec![in alloc; ": {"0u8; PIECE", "0u64; PLACES", "PhaseCount::nothing(); PLACES"},
 }
 
 # Code that may not stand in a body.
