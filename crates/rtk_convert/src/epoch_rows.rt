@@ -404,7 +404,7 @@ pub(crate) fn push_rows<E: FileEntry>(
         renew_form::<E>(&mut form, listed, satellite);
         lines.open_line(form.codes.len())?;
         at = fill_line(phases, &form, satellite, msm, legacy, at, lines);
-        lines.close_line(satellite)?;
+        lines.close_line(satellite);
     }
     Ok(())
 }
