@@ -20,12 +20,18 @@ use std::alloc::AllocError;
 fn keys_rise<E: Entry>(cells: &[E]) -> bool
     ensures { IsTrue result → KeysRise E.entries cells.now }
 {
-    let mut at = cells.len();
-    while at > 1 {
+    if cells.is_empty() {
+        return true;
+    }
+    let mut at = cells.len() - 1;
+    let mut above = key_of(&cells[at]);
+    while at > 0 {
         at -= 1;
-        if key_of(&cells[at - 1]) >= key_of(&cells[at]) {
+        let key = key_of(&cells[at]);
+        if key >= above {
             return false;
         }
+        above = key;
     }
     true
 }
