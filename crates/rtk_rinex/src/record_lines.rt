@@ -15,7 +15,9 @@ ghost use Rattle.rtk_rinex.specs.Steps.WrittenLines.{AddsLine, PutsEpochLine};
 use crate::columns::{CODE_COLUMNS, EPOCH_LINE, GPS_SATELLITES};
 use crate::epoch_table::{EpochTable, Observed};
 use crate::head::Head;
-use crate::record_text::{end_line, gps_name, has_line, has_observation, put_columns, put_epoch_line};
+use crate::record_text::{
+    end_line, gps_name, has_line, has_observation, put_columns, put_epoch_line,
+};
 use rtk_obs::{GpsMs, civil};
 use std::alloc::{AllocError, Global};
 use std::marker::Model;
