@@ -20,10 +20,10 @@ returns g c = λ t k s.
     let es = g.E.Entry.entries in
     let kept = c.args.kept.now in
     let cells = c.args.cells.now in
-    let x = c.index-kept-len.result in
+    let x = c.index-kept-kept.result in
     let y = c.index-cells-0.result in
     let some : 0 < length kept = some-cells kept _ c.is_empty.ensures c.if-is_empty.false in
     let more : 0 < length cells = some-cells cells _ c.is_empty-2.ensures c.if-is_empty-2.false in
-    let last = c.key_of.ensures ∙ ap (key es) c.index-kept-len.is in
+    let last = c.key_of.ensures ∙ ap (key es) c.index-kept-kept.is in
     let first = c.key_of-2.ensures ∙ ap (key es) (c.index-cells-0.is ∙ get_or_default cells 0 y x more) in
     rises-after es kept cells x k s some more (omega (arith, last, first, ltb-true c.key_of.result c.key_of-2.result t))
