@@ -86,11 +86,20 @@ fn make_room(text: &mut Vec<u8>, at: usize, room: usize) -> Result<(), AllocErro
     lengthen(text, at + GPS_SATELLITES * room)
 }
 
+// How many bytes are blanked at once. The C library stores so few by vectors, and from 2 KB on one byte after
+// another.
+const PIECE: usize = 2000;
+
 // Blanks a part of a text.
 fn clear(part: &mut [u8])
     ensures { part.new ≡ replicate (length part.old) 32 }
 {
-    part.fill(b' ');
+    let mut at = 0;
+    while at + PIECE < part.len() {
+        part[at..at + PIECE].fill(b' ');
+        at += PIECE;
+    }
+    part[at..].fill(b' ');
 }
 
 // Blanks a text from a place on. From `end` on it is blank already.
