@@ -151,10 +151,9 @@ impl<'a> SignalsOfMsm for OnChannels<'a> {
 }
 
 impl SignalsOfMsm for Msm1074 {
-    ghost use Rattle.rtk_message.specs.Msm1074.{IsValid};
     ghost use Rattle.rtk_obs.specs.Steps.SignalRows.{IsRowOf1074, entry_of_1074};
 
-    ghost IsValid = { IsValid };
+    ghost IsValid = { IsValid1074 };
 
     ghost header = { λ m. m.header };
 
