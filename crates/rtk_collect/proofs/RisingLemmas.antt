@@ -6,7 +6,7 @@ use Rattle.std.proofs.lemmas.Bool.{cases_order, ne_eqb, both_ways}
 use Rattle.std.proofs.lemmas.List.{append-nil}
 use Rattle.rtk_obs.specs.Cell.{IsBefore, AreRising}
 use Rattle.rtk_obs.specs.declared.cell.CellEntry.{CellEntry}
-use Rattle.rtk_collect.specs.Key.{key, key_at, Above, KeysRise}
+use Rattle.rtk_collect.specs.Key.{key, key_at, rank_of, Above, KeysRise}
 use Rattle.rtk_collect.specs.EpochSet.{with_cell, with_cells, cell_under, one_more, fresh, conflict, conflicts}
 use Rattle.rtk_collect.specs.Steps.OrderedPlaces.{lower}
 use Rattle.rtk_collect.proofs.CellsLemmas.{with_cell-new, with_cell-past, with_cell-same, with_cell-rises, with_cell-sets, with_cell-absent, lower-length, length-insert, fresh-length, drop-at}
@@ -161,6 +161,11 @@ after-all es cells kept r k all =
       fresh = omega (arith, ap length h.0, length-append kept cells, length-with es cells kept r k);
       conflicts = sym h.1;
     }
+
+-- of two cells of one kind the one with the lesser place has the lesser key
+pub place-key : {E S : Type 0} (es : Entries E S) (c d : E) → (es.cell c).source ≡ (es.cell d).source → es.place c < es.place d → key es c < key es d
+unfolding key key_at
+place-key es c d same less = omega (arith, less, ap rank_of same)
 
 -- ---- cells of which the first has a greater key than the last one of others
 
