@@ -1,4 +1,4 @@
-mod HeadLemmas
+mod CodeLemmas
 mod LinkLemmas
 mod OnePlanLemmas
 mod PutLemmas

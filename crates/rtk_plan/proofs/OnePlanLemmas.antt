@@ -1,18 +1,18 @@
 -- Surveys and words have one plan.
 use Rattle.std.proofs.Common.{◌≡◌, ◌-◌, ◌%◌, ℕ, Bool, true, false, List, map, Option, None, Some, sym, ap, subst, ◌∙◌, arith}
-use Rattle.rtk_obs.specs.AnyCode.{code_of_gps}
 use Rattle.rtk_obs.specs.declared.any_code.AnyCode.{AnyCode}
 use Rattle.rtk_rinex.specs.MixedHead.{GlonassView}
-use Rattle.rtk_setup.specs.Setup.{SetupView, all_of}
+use Rattle.rtk_setup.specs.Setup.{SetupView}
 use Rattle.rtk_setup.specs.declared.system_kinds.SystemKinds.{SystemKinds}
 use Rattle.rtk_survey.specs.declared.placing.Placed.{Placed}
 use Rattle.rtk_survey.specs.declared.survey.CaptureSurvey.{CaptureSurvey}
 use Rattle.rtk_plan.specs.Kept.{empty_captures}
 use Rattle.rtk_plan.specs.Laws.{OnePlan, NearIsWholeSecond}
 use Rattle.rtk_plan.specs.Linking.{links_found, AreLinksOf}
-use Rattle.rtk_plan.specs.Plan.{IsChosenStation, msm_chosen, codes_chosen, marker_chosen, captures_of, IsBaseOf, IsReachOf, ArePlaced, IsNearOf, AreStrays, IsSetupFor}
+use Rattle.rtk_plan.specs.Plan.{IsChosenStation, kinds_found, codes_chosen, marker_chosen, captures_of, IsBaseOf, IsReachOf, ArePlaced, IsNearOf, AreStrays, IsSetupFor}
 use Rattle.rtk_plan.specs.Reach.{least_told, placed_if_any, reach_after, second_of}
 use Rattle.rtk_plan.specs.Stray.{strays}
+use Rattle.rtk_plan.specs.SystemMsms.{kinds_listed}
 use Rattle.rtk_plan.specs.declared.reach.Base.{Base}
 use Rattle.rtk_plan.specs.declared.reach.Base.TheVariants.{Told}
 use Rattle.rtk_plan.specs.declared.station_capture.StationCapture.{StationCapture}
@@ -68,10 +68,11 @@ setup_with station near marker listed glonass made window kinds leap_seconds =
 one-setup : (ss : List CaptureSurvey) (links : List (List ℕ)) (w : Wanted) (made : ℕ) (s t : SetupView) → IsSetupFor ss links w made s → IsSetupFor ss links w made t → s ≡ t
 one-setup ss links w made s t is also =
     let station : s.station ≡ t.station = one-station ss w.station s.station t.station is.station also.station in
-    let kinds : s.kinds ≡ t.kinds = is.kinds ∙ ap (λ (n : ℕ). all_of (msm_chosen w.msm ss links n)) station ∙ sym also.kinds in
     let listed : s.head.listed ≡ t.head.listed =
-    is.listed ∙ ap (λ (n : ℕ). map code_of_gps (codes_chosen w.codes ss n s.kinds.gps)) station
-    ∙ ap (λ (ks : SystemKinds). map code_of_gps (codes_chosen w.codes ss t.station ks.gps)) kinds ∙ sym also.listed in
+    is.listed ∙ ap (λ (n : ℕ). codes_chosen w.codes ss n (kinds_found w.msm ss links n)) station ∙ sym also.listed in
+    let kinds : s.kinds ≡ t.kinds =
+    is.kinds ∙ ap (λ (n : ℕ). kinds_listed (kinds_found w.msm ss links n) s.head.listed) station
+    ∙ ap (λ (cs : List AnyCode). kinds_listed (kinds_found w.msm ss links t.station) cs) listed ∙ sym also.kinds in
     let marker : s.head.marker ≡ t.head.marker = is.marker ∙ ap (λ (n : ℕ). marker_chosen w.marker n) station ∙ sym also.marker in
     let glonass : s.head.glonass ≡ t.head.glonass = is.glonass ∙ sym also.glonass in
     let made_at : s.head.made ≡ t.head.made = is.made_at ∙ sym also.made_at in

@@ -21,6 +21,7 @@ pub mod SpanLine
 pub mod StationCaptures
 pub mod Steps
 pub mod Stray
+pub mod SystemMsms
 pub mod TextsLeftOut
 pub mod ToldLabel
 pub mod Values
