@@ -3,6 +3,7 @@ use Rattle.std.specs.Prelude.{ℕ, ◌+◌, ◌==◌, Bool, not, ◌&&◌, List,
 use Rattle.std.specs.Borrow.{Bor}
 use Rattle.std.specs.List.{list_any, sum_by}
 use Rattle.std.specs.Option.{is_none}
+use Rattle.rtk_message.specs.declared.accepted.Accepted.{Accepted}
 use Rattle.rtk_message.specs.declared.msm_kind.MsmKind.{MsmKind}
 use Rattle.rtk_message.specs.declared.system.System.{System}
 use Rattle.rtk_message.specs.declared.system.System.TheVariants.{Gps, Glonass, Galileo, Beidou, Qzss, Sbas, Navic}
@@ -10,6 +11,7 @@ use Rattle.rtk_obs.specs.AnyCode.{system_of, place_of}
 use Rattle.rtk_obs.specs.Code.{name_of, all_codes}
 use Rattle.rtk_obs.specs.declared.any_code.AnyCode.{AnyCode}
 use Rattle.rtk_obs.specs.declared.code.Code.{Code}
+use Rattle.rtk_setup.specs.Setup.{taken_by}
 use Rattle.rtk_survey.specs.Counting.{shown_count}
 use Rattle.rtk_survey.specs.Placing.{placed}
 use Rattle.rtk_survey.specs.declared.equipment.Equipment.{Equipment}
@@ -158,15 +160,16 @@ epochs_lines_of names cs link = flat_map (epochs_line_at names cs) link
 abbrev pub epochs_lines : List (Bor (List ℕ)) → List StationCapture → List (List ℕ) → List ℕ
 epochs_lines names cs links = flat_map (epochs_lines_of names cs) links
 
--- the observations that are not taken
-unfoldable pub not_taken : List CaptureSurvey → ℕ → MsmKind → List ℕ
-not_taken ss station kind = msm_lines kind ss station ++ doppler_line kind ss station ++ sbas_line ss station ++ all_unread ss
+-- the observations that are not taken, if these messages are and this is the MSM of GPS
+unfoldable pub not_taken : List CaptureSurvey → ℕ → MsmKind → Accepted → List ℕ
+not_taken ss station kind taken =
+    msm_lines taken ss station ++ doppler_line kind ss station ++ sbas_line ss station ++ all_unread taken ss
 
 unfoldable pub lines_behind_late : List (Bor (List ℕ)) → List CaptureSurvey → Plan → List ℕ
 lines_behind_late names ss plan =
     skipped_lines names plan.captures.items plan.skipped.items
     ++ epochs_lines names plan.captures.items (places_of plan.links.items)
-    ++ not_taken ss plan.setup.station plan.setup.kinds.gps
+    ++ not_taken ss plan.setup.station plan.setup.kinds.gps (taken_by plan.setup)
 
 -- ---- the links with a stray epoch
 

@@ -3,6 +3,7 @@
 //! If memory is refused, a first part of what is put may stand there.
 
 ghost use Rattle.std.specs.Prelude.{◌≡◌, ◌++◌, IfOk, OnOk};
+ghost use Rattle.rtk_setup.specs.Setup.{taken_by};
 ghost use Rattle.rtk_plan.specs.KnownLines as spec;
 ghost use Rattle.rtk_plan.specs.Linking.{places_of};
 
@@ -16,7 +17,7 @@ use crate::reported::Reported;
 use crate::span_line::{DateSource, DatedSpan, put_span};
 use crate::texts_left_out::put_texts_left_out;
 use crate::written_file::{Step, WrittenFile};
-use rtk_message::{MsmKind, put_named};
+use rtk_message::{Accepted, MsmKind, put_named};
 use rtk_setup::{Counts, Setup};
 use rtk_survey::{CaptureSurvey, Equipment};
 use std::alloc::{AllocError, Global};
@@ -138,13 +139,14 @@ fn put_not_taken(
     surveys: &[CaptureSurvey],
     station: u16,
     msm: MsmKind,
+    taken: Accepted,
 ) -> Result<(), AllocError>
-    ensures { OnOk result (lines.new.items ≡ lines.old.items ++ spec.not_taken surveys.now station msm) }
+    ensures { OnOk result (lines.new.items ≡ lines.old.items ++ spec.not_taken surveys.now station msm taken) }
 {
-    put_msms(lines, surveys, station, msm)?;
+    put_msms(lines, surveys, station, taken)?;
     put_doppler(lines, surveys, station, msm)?;
     put_sbas(lines, surveys, station)?;
-    put_unread(lines, surveys)?;
+    put_unread(lines, surveys, taken)?;
     Ok(())
 }
 
@@ -155,9 +157,10 @@ fn put_not_taken_in(
     setup: &Setup,
 ) -> Result<(), AllocError>
     ensures { OnOk result (lines.new.items ≡ lines.old.items
-        ++ spec.not_taken surveys.now setup.now.station setup.now.kinds.gps) }
+        ++ spec.not_taken surveys.now setup.now.station setup.now.kinds.gps (taken_by setup.now)) }
 {
-    put_not_taken(lines, surveys, setup.station(), setup.kinds().gps)?;
+    let taken = setup.accepted();
+    put_not_taken(lines, surveys, setup.station(), setup.kinds().gps, taken)?;
     Ok(())
 }
 
