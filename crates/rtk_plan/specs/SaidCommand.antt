@@ -10,7 +10,7 @@ use Rattle.rtk_obs.specs.AnyCode.{system_of, name_of, text_of}
 use Rattle.rtk_rinex.specs.MixedHead.{MixedHeadView}
 use Rattle.rtk_obs.specs.Reading.{reading_of}
 use Rattle.rtk_setup.specs.Setup.{SetupView}
-use Rattle.rtk_plan.specs.SystemMsms.{msm_words}
+use Rattle.rtk_plan.specs.SystemMsms.{kinds_words}
 use Rattle.rtk_plan.specs.Values.{is_gps_system}
 
 -- formula
@@ -48,7 +48,7 @@ code_names separator (c ∷ cs) = separator ∷ said_code c ++ code_names 44 cs
 -- formula
 -- the codes, the MSM and the window
 unfoldable pub value_words : SetupView → List ℕ
-value_words s = codes " --codes" ++ code_names 32 s.head.listed ++ msm_words s.kinds s.head.listed ++ codes " --window " ++ decimal s.window
+value_words s = codes " --codes" ++ code_names 32 s.head.listed ++ kinds_words s.kinds s.head.listed ++ codes " --window " ++ decimal s.window
 
 -- formula
 -- the command with its options

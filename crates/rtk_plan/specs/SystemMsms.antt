@@ -87,5 +87,5 @@ abbrev pub msm_option_text : MsmKind → SystemKinds → List ℕ
 msm_option_text first ks = if has_exception first ks then first_and_exceptions first ks else msm_option first
 
 -- the option of the kinds of a conversion with these codes
-unfoldable pub msm_words : SystemKinds → List AnyCode → List ℕ
-msm_words ks listed = msm_option_text (first_kind ks listed) ks
+unfoldable pub kinds_words : SystemKinds → List AnyCode → List ℕ
+kinds_words ks listed = msm_option_text (first_kind ks listed) ks

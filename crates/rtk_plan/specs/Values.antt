@@ -118,14 +118,14 @@ has_code_in c None = false
 has_code_in c (Some p) = get_or p.signals.codes (number_of c) false
 
 -- a code of a system has a value in a message of a station that a conversion takes with the MSM of these kinds
-abbrev pub has_code_of : System → SystemKinds → AnyCode → StationSurvey → Bool
-has_code_of system ks c t =
+abbrev pub has_code_by : System → SystemKinds → AnyCode → StationSurvey → Bool
+has_code_by system ks c t =
     if is_gps_system system then get_or (msm_part t.msm ks.gps).codes.marks (place_of c) false
     else has_code_in c (get nat_cmp t.system_msm (number_of_type (record { system = system; kind = kind_of ks system })))
 
 abbrev pub has_code_with : SystemKinds → AnyCode → Option StationSurvey → Bool
 has_code_with ks c None = false
-has_code_with ks c (Some t) = has_code_of (system_of c) ks c t
+has_code_with ks c (Some t) = has_code_by (system_of c) ks c t
 
 -- the same of a capture
 abbrev pub gives_code : ℕ → SystemKinds → AnyCode → CaptureSurvey → Bool

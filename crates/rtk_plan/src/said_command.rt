@@ -7,7 +7,7 @@ ghost use Rattle.rtk_obs.specs.declared.time.TheConstants.{LAST_MS};
 ghost use Rattle.rtk_obs.specs.Reading.{reading_of};
 ghost use Rattle.rtk_plan.specs.SaidCommand as spec;
 
-use crate::system_msms::put_msm_words;
+use crate::system_msms::put_kinds_words;
 use crate::values::is_gps_system;
 use rtk_message::{put_named, put_sh_quoted};
 use rtk_obs::{AnyCode, Civil, GpsMs, civil, put_clock, put_date};
@@ -114,7 +114,7 @@ fn put_value_words(line: &mut Vec<u8>, setup: &Setup) -> Result<(), AllocError>
 {
     line.extend_from_slice(b" --codes")?;
     put_codes(line, setup.head().codes())?;
-    put_msm_words(line, setup.kinds(), setup.head().codes())?;
+    put_kinds_words(line, setup.kinds(), setup.head().codes())?;
     put_named(line, b" --window ", setup.window() as u64)?;
     Ok(())
 }

@@ -192,12 +192,12 @@ fn put_msm_option(
 }
 
 /// Appends the option that names the kinds of a conversion with these codes.
-pub(crate) fn put_msm_words(
+pub(crate) fn put_kinds_words(
     line: &mut Vec<u8>,
     kinds: SystemKinds,
     listed: &[AnyCode],
 ) -> Result<(), AllocError>
-    ensures { OnOk result (line.new.items ≡ line.old.items ++ spec.msm_words kinds listed.now) }
+    ensures { OnOk result (line.new.items ≡ line.old.items ++ spec.kinds_words kinds listed.now) }
 {
     put_msm_option(line, first_kind(kinds, listed), kinds)
 }

@@ -205,8 +205,8 @@ fn has_code_in(code: AnyCode, part: Option<&SystemMsm>) -> bool
 }
 
 // Has a code of a system a value in a message of a station that a conversion takes with the MSM of these kinds?
-fn has_code_of(system: System, kinds: SystemKinds, code: AnyCode, station: &StationSurvey) -> bool
-    ensures { result ≡ spec.has_code_of system kinds code station.now }
+fn has_code_by(system: System, kinds: SystemKinds, code: AnyCode, station: &StationSurvey) -> bool
+    ensures { result ≡ spec.has_code_by system kinds code station.now }
 {
     if is_gps_system(system) {
         station.msm.part(kinds.gps).codes.marks[code.place()]
@@ -221,7 +221,7 @@ fn has_code_with(kinds: SystemKinds, code: AnyCode, station: Option<&StationSurv
     ensures { result ≡ spec.has_code_with kinds code (option_copied station.entry) }
 {
     match station {
-        Some(station) => has_code_of(code.system(), kinds, code, station),
+        Some(station) => has_code_by(code.system(), kinds, code, station),
         None => false,
     }
 }
