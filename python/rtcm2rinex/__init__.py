@@ -10,7 +10,7 @@ Each call runs the program as a process. Options have the names of the options o
 observations are GPS times, as a `datetime` without a time zone. docs/PYTHON.md shows how to use the package.
 """
 
-from .captures import Date, StationSummary, Summary, summary
+from .captures import ClockOffset, Date, StationSummary, Summary, summary
 from .converting import AutoConversion, Conversion, Found, auto, convert
 from .faults import CapturesError, Error, FileError, FormError, NoRecordError, ProgramError, ProgramNotFound, WordsError, WorkError
 from .files import Check, Part, check, cut, label
@@ -24,7 +24,7 @@ from .tables import arrays, frame
 from .writing import Written
 
 __all__ = [
-    "AutoConversion", "Burst", "CapturesError", "Check", "CodeQuality", "Conflict", "Conversion", "Converter", "Counts", "Date", "Epoch",
+    "AutoConversion", "Burst", "CapturesError", "Check", "ClockOffset", "CodeQuality", "Conflict", "Conversion", "Converter", "Counts", "Date", "Epoch",
     "Error", "Fall", "FileError", "FormError", "Found", "Gap", "HalfRun", "Header", "Hour", "LateMessage", "MissingCode", "NoRecordError", "Observation", "Outage",
     "Part", "Pass", "ProgramError", "ProgramNotFound", "Quality", "RefusedMessage", "Report", "SlipsTogether", "StationSummary",
     "Summary", "Tracked", "WordsError", "WorkError", "Written", "arrays", "auto", "check", "convert", "cut", "epochs", "find_program", "frame", "header",

@@ -22,17 +22,28 @@ class Date:
     count: int
 
 
+@dataclass(frozen=True)
+class ClockOffset:
+    """By how many milliseconds (ms) the clock of a system is ahead, in so many (`count`) of the clocks that were compared (`compared`)."""
+
+    ahead_ms: int
+    count: int
+    compared: int
+
+
 @dataclass
 class StationSummary:
     """What a capture holds of one station.
 
     `messages` says how many messages of each number came. `first_tow` and `last_tow` are the times of week of the first and the last
-    observation message in milliseconds (ms), or None. `changes_of_time` says how often the time of week changes from one observation
+    observation message of GPS in milliseconds (ms), or None. `changes_of_time` says how often the time of week changes from one such
     message to the next. `equipment` has what messages told last, by the names `antenna-type`, `antenna-serial`, `antenna-setup`,
     `receiver-type`, `receiver-version` and `receiver-serial`. `changes` says how often such a value changed. A byte that cannot be
     printed is written as in `\\x0A`.
 
-    `satellites` and `codes` have a range, a phase or a strength. `second_frequency` is 2P if the capture has 2P and not 2W, or else
+    `satellites` and `codes` have a range, a phase or a strength. `epochs` says at how many epochs the MSM of each number of another system
+    than GPS have values, and `channels` which frequency channels messages tell for each slot of GLONASS. `clocks` has the systems whose
+    clocks are apart, by their letters. `second_frequency` is 2P if the capture has 2P and not 2W, or else
     None. `other_msm` says at how many epochs other MSM have values. `next` and `auto` are the commands of the shell that convert the
     capture, or None.
     """
@@ -47,6 +58,9 @@ class StationSummary:
     changes: Dict[str, int] = field(default_factory=dict)
     satellites: Tuple[str, ...] = ()
     codes: Tuple[str, ...] = ()
+    epochs: Dict[int, int] = field(default_factory=dict)
+    channels: Dict[int, Tuple[int, ...]] = field(default_factory=dict)
+    clocks: Dict[str, ClockOffset] = field(default_factory=dict)
     second_frequency: Optional[str] = None
     other_msm: Dict[int, int] = field(default_factory=dict)
     next: Optional[str] = None
@@ -60,9 +74,10 @@ class Summary:
     `bytes` is its length, `outside_frames` the number of its bytes that are in no frame, and `frames` the number of frames. If there is
     no frame, `looks_like` says what the file looks like, such as `gzip`. `stations` has the stations by their numbers.
 
-    `weeks` says how many 1019 name a week, modulo 1,024. `other` says how many messages came of each number that is not converted, and
-    `untaken` how many GPS observation messages of such numbers. `refused` says how many frames with a fault and a number (or None)
-    cannot be read. `has_codes` says whether a station has a code.
+    `weeks` says how many 1019 name a week, modulo 1,024. `system_weeks` says how many 1042, 1045 and 1046 do, by the number of the
+    message: weeks of BeiDou modulo 8,192, and of Galileo modulo 4,096. `other` says how many messages came of each number that is not
+    converted, and `untaken` how many GPS observation messages of such numbers. `refused` says how many frames with a fault and a number
+    (or None) cannot be read. `has_codes` says whether a station has a code.
     """
 
     bytes: int = 0
@@ -71,6 +86,7 @@ class Summary:
     looks_like: Optional[str] = None
     stations: Dict[int, StationSummary] = field(default_factory=dict)
     weeks: Dict[int, int] = field(default_factory=dict)
+    system_weeks: Dict[int, Dict[int, int]] = field(default_factory=dict)
     other: Dict[int, int] = field(default_factory=dict)
     untaken: Dict[int, int] = field(default_factory=dict)
     refused: Dict[Tuple[str, Optional[int]], int] = field(default_factory=dict)
@@ -99,7 +115,7 @@ OF_CAPTURE = {
     "frames": NUMBER,
     "looks-like": r"(\S+)",
     "station": NUMBER,
-    "week": rf"{NUMBER} 1019 {NUMBER}",
+    "week": rf"{NUMBER} (1019|104[256]) {NUMBER}",
     "other": TWO,
     "untaken": rf"\w+ {TWO}",
     "refused": rf"(M\d) (?:(\d+)|-) {NUMBER}",
@@ -112,8 +128,11 @@ OF_STATION = {
     "date": rf"(\S{{19}}) {TWO}",
     **{name: ANY for name in EQUIPMENT},
     **{f"changes-of-{name}": NUMBER for name in EQUIPMENT},
-    "satellites": r"(G\d\d(?: G\d\d)*)|-",
-    "codes": r"(\w\w(?:,\w\w)*)|-",
+    "satellites": r"([A-Z]\d\d(?: [A-Z]\d\d)*)|-",
+    "codes": r"(\w{2,3}(?:,\w{2,3})*)|-",
+    "epochs": TWO,
+    "channels": r"(\d+:-?\d(?:,\d+:-?\d)*)",
+    "clock": r"([A-Z]) ([+-])(\d+)\.(\d{3}) (\d+) of (\d+)",
     "second-frequency": r"(\w\w)",
     "other-msm": TWO,
     "next": ANY,
@@ -149,7 +168,8 @@ def keep(found: Summary, word: str, match: Match[str]) -> None:
     elif word == "looks-like":
         found.looks_like = match[1]
     elif word == "week":
-        found.weeks[int(match[1])] = int(match[2])
+        weeks = found.weeks if match[2] == "1019" else found.system_weeks.setdefault(int(match[2]), {})
+        weeks[int(match[1])] = int(match[3])
     elif word == "other":
         found.other[int(match[1])] = int(match[2])
     elif word == "untaken":
@@ -178,5 +198,13 @@ def keep_of_station(found: StationSummary, word: str, match: Match[str]) -> None
         found.satellites = tuple((match[1] or "").split())
     elif word == "codes":
         found.codes = tuple(match[1].split(",")) if match[1] else ()
+    elif word == "epochs":
+        found.epochs[int(match[1])] = int(match[2])
+    elif word == "channels":
+        for slot, channel in (it.split(":") for it in match[1].split(",")):
+            found.channels[int(slot)] = (*found.channels.get(int(slot), ()), int(channel))
+    elif word == "clock":
+        ms = 1000 * int(match[3]) + int(match[4])
+        found.clocks[match[1]] = ClockOffset(-ms if match[2] == "-" else ms, int(match[5]), int(match[6]))
     else:
         setattr(found, word.replace("-", "_"), match[1])

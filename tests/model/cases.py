@@ -425,8 +425,8 @@ def contents():
     untaken = b"".join(frame_of((number << 4).to_bytes(2, "big")) for number in (1004, 1077, 1001, 1073, 1003, 1084, 1077, 1001))
     # pins: untaken_numbers, messages_read
     yield "untaken_observations", untaken, (
-        "frames 8\nother 1001 2\nother 1003 1\nother 1073 1\nother 1084 1\n"
-        "untaken GPS 1001 2\nuntaken GPS 1003 1\nuntaken GPS 1073 1\nrefused M3 1004 1\nrefused M3 1077 2\nnothing taken\n",)
+        "frames 8\nother 1001 2\nother 1003 1\nother 1073 1\n"
+        "untaken GPS 1001 2\nuntaken GPS 1003 1\nuntaken GPS 1073 1\nrefused M3 1004 1\nrefused M3 1077 2\nrefused M3 1084 1\nnothing taken\n",)
     yield from proposals(empty)
     # the first frame would reach past the end, and the other one stands in it
     yield "frame_in_a_candidate", FALSE_PREAMBLE + at(0), ("outside-frames 3\nframes 1\n",)

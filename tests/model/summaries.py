@@ -8,10 +8,17 @@ from collections import Counter
 from datetime import datetime, timedelta
 from itertools import groupby
 
+from chains import clock_lines, week_lines
 from equipment import Told, equipment_lines, equipment_of
 from finding import date_of
-from messages import CODES, Refusal, cells_of, frames_of, read_message
-from wire import MSMS, Fields, Message
+from messages import CODES, Refusal, cells_of, frames_of, read_message, set_bits
+from mixed_cells import all_cells
+from msm import read_any, type_of
+from systems import GLONASS, GPS, INDEX, SYSTEMS, TYPES
+from wire import MSMS, Fields, Message, paired
+
+# The MSM of other systems than GPS.
+BESIDE_GPS = frozenset(number for number, (system, _) in TYPES.items() if system is not GPS)
 
 UNTAKEN = (1001, 1002, 1003, 1071, 1072, 1073)
 NO_DATE = "GPS-TIME-WITHIN-HALF-A-WEEK"
@@ -23,7 +30,7 @@ MARKS = {b"": "empty", b"\x1f\x8b": "gzip", b"BZh": "bzip2", b"\xfd7zXZ\0": "xz"
 def summary_of(text: bytes, name: str = "file") -> str:
     """The lines of a capture's summary, as one text."""
     frames = frames_of(text)
-    read = [read_message(frame.payload, MSMS) for frame in frames]
+    read = [read_frame(frame.payload) for frame in frames]
     messages = [it for it in read if not isinstance(it, Refusal)]
     dates = [it for it in (date_of(frame.payload) for frame in frames) if it]
     told = [it for it in (equipment_of(frame.payload) for frame in frames) if it]
@@ -39,10 +46,22 @@ def summary_of(text: bytes, name: str = "file") -> str:
         lines += station_lines(name, station, of_station, dates_of_station, [it for of, it in told if of == station])
     weeks = Counter(it["week"] for it in dates if "week" in it)
     lines += [f"week {week} 1019 {weeks[week]}" for week in sorted(weeks)]
+    lines += week_lines([frame.payload for frame in frames])
     lines += unread_lines(Counter(it for it in read if isinstance(it, Refusal)))
-    if not any(line.startswith(" next ") for line in lines):
+    if not any(line.startswith(" codes ") and line != " codes -" for line in lines):
         lines.append("nothing taken")
     return "".join(f"{line}\n" for line in lines)
+
+
+def read_frame(payload: bytes) -> Message | Refusal:
+    """The message that a payload begins with: of GPS or a station, or an MSM of another system."""
+    read = read_message(payload, MSMS)
+    return read_any(payload, BESIDE_GPS) if isinstance(read, Refusal) and read.fault == "M2" else read
+
+
+def is_of_gps(read: Message | Refusal) -> bool:
+    """A message that is no MSM of another system."""
+    return not isinstance(read, Refusal) and read.header["number"] not in BESIDE_GPS
 
 
 def look_of(text: bytes) -> str:
@@ -86,11 +105,15 @@ def unread_lines(faults: Counter[Refusal]) -> list[str]:
 
 def station_lines(name: str, station: int, messages: list[Message], dated: list[Fields], told: list[Told]) -> list[str]:
     counts = Counter(it.header["number"] for it in messages)
-    observations = [it for it in messages if "tow" in it.header]
+    observations = [it for it in messages if is_of_gps(it) and "tow" in it.header]
+    others = [it for it in messages if not is_of_gps(it)]
     times = [it.header["tow"] for it in observations]
     shown = [entry for it in observations for entry in entries_of(it)]
-    satellites = " ".join(f"G{it:02}" for it in sorted({satellite for _, _, satellite, _ in shown}))
+    of_others = {(satellite, code) for it in others for satellite, code in signals_of(it)}
+    found = {f"G{it:02}" for _, _, it, _ in shown} | {satellite for satellite, _ in of_others}
     codes = codes_of(shown, (1004, *MSMS))
+    letters_and_codes = {(satellite[0], code) for satellite, code in of_others}
+    all_codes = [*codes, *(f"{it.letter}{code}" for it in SYSTEMS for code in it.codes if (it.letter, code) in letters_and_codes)]
     by_number = {number: [it for it in dated if it["number"] == number] for number in (1013, 1029)}
     first = (by_number[1013] + by_number[1029])[:1]
     lines = [
@@ -99,11 +122,42 @@ def station_lines(name: str, station: int, messages: list[Message], dated: list[
         f" changes-of-time {sum(before != after for before, after in zip(times, times[1:]))}",
         *(f" date {civil_of(its[0])} {number} {len(its)}" for number, its in by_number.items() if its),
         *equipment_lines(told),
-        f" satellites {satellites or '-'}",
-        f" codes {','.join(codes) or '-'}",
+        f" satellites {' '.join(sorted(found, key=INDEX.__getitem__)) or '-'}",
+        f" codes {','.join(all_codes) or '-'}",
+        *epoch_lines(others),
+        *channel_lines(others),
+        *clock_lines(messages),
     ]
     near = civil_of(first[0]) if first else NO_DATE
     return lines + next_lines(name, near, station, shown) if codes else lines
+
+
+def signals_of(message: Message) -> list[tuple[str, str]]:
+    """The satellites and codes with a value, of an MSM of another system than GPS. GLONASS has no phases, since no channel is given."""
+    return [
+        (satellite, code)
+        for satellite, code, cell in all_cells(message, {})
+        if (cell.range, cell.phase, cell.strength) != (None, None, None)
+    ]
+
+
+def epoch_lines(others: list[Message]) -> list[str]:
+    """How many runs of messages of one clock there are, of those of each number that have a value."""
+    valued = [(it.header["number"], it.header["tow"]) for it in others if signals_of(it)]
+    clocks = {number: [clock for its, clock in valued if its == number] for number in sorted(BESIDE_GPS)}
+    return [f" epochs {number} {len(list(groupby(its)))}" for number, its in clocks.items() if its]
+
+
+def channel_lines(others: list[Message]) -> list[str]:
+    """The channels that messages of GLONASS tell, of each slot from 1 to 27."""
+    told = {
+        (slot, row["extended"] - 7)
+        for it in others
+        if type_of(it)[0] is GLONASS
+        for slot, row in paired(set_bits(it.header["satellite_mask"], 64), it.satellites)
+        if slot <= 27 and row.get("extended", 15) < 14
+    }
+    return [f" channels {','.join(f'{slot}:{channel}' for slot, channel in sorted(told))}"] if told else []
 
 
 Shown = tuple[int, int, int, str]  # number of a message, time, satellite and code

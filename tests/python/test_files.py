@@ -8,7 +8,8 @@ from datetime import datetime
 from pathlib import Path
 
 import rtcm2rinex
-from rtcm2rinex import Date
+from rtcm2rinex import ClockOffset, Date
+from rtcm2rinex.captures import read_summary
 from support import BASE, EXAMPLES, NOON, Case, equipment, frame_of, second
 
 SLIP = EXAMPLES / "slip.rnx"
@@ -28,6 +29,17 @@ class Summaries(Case):
         self.assertEqual(station.dates, [Date(second(1), 1013, 1)])
         self.assertEqual((station.satellites, station.codes), (("G05", "G07", "G13", "G21"), ("1C", "2W", "5X")))
         self.assertEqual(station.auto, f"rtcm2rinex auto --station 2003 -o 2003.rnx {EXAMPLES / 'dated.rtcm'}")
+
+    def test_several_systems(self) -> None:
+        """The lines that a capture of several systems has."""
+        found = read_summary(
+            "bytes 10\nstation 1\n message 1074 2\n message 1087 2\n satellites G03 R09 S33\n codes 1C,R1C,S1C\n epochs 1087 2\n"
+            " channels 1:1,9:-6,9:5\n clock C +14.000 257 of 260\n clock E -0.001 2 of 2\nweek 538 1019 1\nweek 957 1042 2\nweek 1289 1046 1\n")
+        station = found.stations[1]
+        self.assertEqual((station.satellites, station.codes), (("G03", "R09", "S33"), ("1C", "R1C", "S1C")))
+        self.assertEqual((station.epochs, station.channels), ({1087: 2}, {1: (1,), 9: (-6, 5)}))
+        self.assertEqual(station.clocks, {"C": ClockOffset(14_000, 257, 260), "E": ClockOffset(-1, 2, 2)})
+        self.assertEqual((found.weeks, found.system_weeks), ({538: 1}, {1042: {957: 2}, 1046: {1289: 1}}))
 
     def test_antennas_and_receivers(self) -> None:
         changed = equipment(1008, b"A", 1, b"9", station=700) + equipment(1008, b"B", 2, b"8\n", station=700)

@@ -13,13 +13,14 @@ use Rattle.rtk_message.specs.declared.message.Message.TheVariants.{Obs1004, Arp1
 use Rattle.rtk_message.specs.declared.msm_kind.MsmKind.{MsmKind}
 use Rattle.rtk_message.specs.declared.msm_kind.MsmKind.TheVariants.{Msm4, Msm5, Msm6, Msm7}
 use Rattle.rtk_message.specs.declared.system.System.{System}
-use Rattle.rtk_message.specs.declared.system.System.TheVariants.{Gps}
+use Rattle.rtk_message.specs.declared.system.System.TheVariants.{Gps, Glonass, Galileo, Beidou, Qzss, Sbas, Navic}
 use Rattle.rtk_bits.specs.Bits.{bits}
-use Rattle.rtk_message.specs.Accepted.{all_kinds}
 use Rattle.rtk_message.specs.AnyDecoded.{DecodesBy, number_of}
-use Rattle.rtk_message.specs.MsmForm.{type_of}
-use Rattle.rtk_message.specs.Systems.{number_of_type, number_of_kind}
-use Rattle.rtk_message.proofs.PublicLaws.{accepts-type, takes-gps}
+use Rattle.rtk_message.specs.Systems.{number_of_type}
+use Rattle.rtk_survey.specs.BesideGps.{cells_beside, has_index, has_any_code}
+use Rattle.rtk_survey.specs.Chains.{clocks_of}
+use Rattle.rtk_survey.specs.Channels.{place_is_told}
+use Rattle.rtk_survey.specs.ClockLines.{clock_lines}
 use Rattle.rtk_survey.specs.Counting.{count_of}
 use Rattle.rtk_survey.specs.CountingLaws.{IsReadMessage, EachFrameIsCounted, EachMessageIsCounted, StandsIn, PartsStand, StationsStand, ProposalsStand, UntakenStand}
 use Rattle.rtk_survey.specs.EquipmentHistory.{equipment_of}
@@ -29,8 +30,9 @@ use Rattle.rtk_survey.specs.FrameEquipment.{equipment_among, is_mentioned, told_
 use Rattle.rtk_survey.specs.NumberLaws.{IsHeld}
 use Rattle.rtk_survey.specs.Proposal.{epochs_in, times_with_value, epochs_with_value, entries_with}
 use Rattle.rtk_survey.specs.ReadFrames.{messages_read, ReadFrame, ReadsFrames, read_frame, with_message, with_fault, bytes_in, messages_in, faults_in, messages_from}
-use Rattle.rtk_survey.specs.Summary.{all_numbers, size_lines, station_lines, lines_if_any, stations_text, weeks_text, unread_lines, summary_text}
-use Rattle.rtk_survey.specs.SummaryText.{number_line, counted_line, numbered_line, time_lines, look_line, near_text, signal_lines, proposal_lines, codes_text, nothing_line, untaken_numbers}
+use Rattle.rtk_survey.specs.Summary.{all_numbers, size_lines, epochs_beside, station_lines, lines_if_any, stations_text, weeks_text, system_weeks_text, unread_lines, summary_text}
+use Rattle.rtk_survey.specs.SummaryText.{number_line, counted_line, numbered_line, message_numbers, message_lines, system_epoch_lines, channel_line, time_lines, look_line, near_text, signal_lines, proposal_lines, all_codes_text, nothing_line, untaken_numbers}
+use Rattle.rtk_survey.specs.SystemTellings.{system_messages_in}
 use Rattle.rtk_survey.specs.declared.station_dates.StationDates.{StationDates}
 use Rattle.rtk_survey.specs.Tracing.{is_numbered, is_other, is_short, is_outside_week, is_no_number, is_too_many_cells, times_of_week, entries_in, has_satellite, has_code}
 use Rattle.rtk_survey.proofs.SummaryTellingLemmas.{each-weaker, of-all}
@@ -80,43 +82,71 @@ frames-counted bytes fs reads =
     let size = length-map (frames bytes) (λ (f : Frame). f.payload) in
     record { all = omega (arith, all, size); framed = omega (arith, framed); each = each-is fs; read = all-read (payloads (frames bytes)) [] fs reads tt }
 
--- how many of the seven numbers this one is
+-- how many of the numbers that have a line this one is
 hits : ℕ → ℕ
-hits k =
-    cond (k == 1004) 1 0 + cond (k == 1005) 1 0 + cond (k == 1006) 1 0 + cond (k == 1074) 1 0 + cond (k == 1075) 1 0 + cond (k == 1076) 1 0 + cond (k == 1077) 1 0
+hits k = sum_by (λ n. cond (k == n) 1 0) message_numbers
 
-hit-kind : (kind : MsmKind) → hits (number_of_kind kind) ≡ 1
+hit-type : (s : System) (k : MsmKind) → hits (number_of_type (record { system = s; kind = k })) ≡ 1
 unfolding hits
-hit-kind Msm4 = refl
-hit-kind Msm5 = refl
-hit-kind Msm6 = refl
-hit-kind Msm7 = refl
+hit-type Gps Msm4 = refl
+hit-type Gps Msm5 = refl
+hit-type Gps Msm6 = refl
+hit-type Gps Msm7 = refl
+hit-type Glonass Msm4 = refl
+hit-type Glonass Msm5 = refl
+hit-type Glonass Msm6 = refl
+hit-type Glonass Msm7 = refl
+hit-type Galileo Msm4 = refl
+hit-type Galileo Msm5 = refl
+hit-type Galileo Msm6 = refl
+hit-type Galileo Msm7 = refl
+hit-type Beidou Msm4 = refl
+hit-type Beidou Msm5 = refl
+hit-type Beidou Msm6 = refl
+hit-type Beidou Msm7 = refl
+hit-type Qzss Msm4 = refl
+hit-type Qzss Msm5 = refl
+hit-type Qzss Msm6 = refl
+hit-type Qzss Msm7 = refl
+hit-type Sbas Msm4 = refl
+hit-type Sbas Msm5 = refl
+hit-type Sbas Msm6 = refl
+hit-type Sbas Msm7 = refl
+hit-type Navic Msm4 = refl
+hit-type Navic Msm5 = refl
+hit-type Navic Msm6 = refl
+hit-type Navic Msm7 = refl
 
-hit : (m : AnyMessage) → IsReadMessage m → hits (number_of m) ≡ 1
+hit : (m : AnyMessage) → hits (number_of m) ≡ 1
 unfolding hits
-hit (any.Message (Obs1004 m)) read = refl
-hit (any.Message (Arp1005 m)) read = refl
-hit (any.Message (Arp1006 m)) read = refl
-hit (any.Message (Msm1074 m)) read = refl
-hit (any.Msm m) read =
-    let is_gps : m.system ≡ Gps = takes-gps all_kinds (type_of m) (sym (accepts-type messages_read (type_of m)) ∙ read) in
-    subst (λ (s : System). hits (number_of_type (record { system = s; kind = m.kind })) ≡ 1) (sym is_gps) (hit-kind m.kind)
+hit (any.Message (Obs1004 m)) = refl
+hit (any.Message (Arp1005 m)) = refl
+hit (any.Message (Arp1006 m)) = refl
+hit (any.Message (Msm1074 m)) = refl
+hit (any.Msm m) = hit-type m.system m.kind
+
+-- the sum of two counts of each number
+sum-both : (f g : ℕ → ℕ) (ns : List ℕ) → sum_by (λ n. f n + g n) ns ≡ sum_by f ns + sum_by g ns
+sum-both f g [] = refl
+sum-both f g (n ∷ ns) =
+    let both = sum_by-cons (λ k. f k + g k) n ns in
+    let one = sum_by-cons f n ns in
+    let other = sum_by-cons g n ns in
+    let rest = sum-both f g ns in
+    omega (arith, both, one, other, rest)
 
 pub messages-counted : EachMessageIsCounted
 unfolding hits
-messages-counted [] read = refl
-messages-counted (m ∷ ms) read =
-    let count : ℕ → AnyMessage → ℕ = λ n x. cond (is_numbered n x) 1 0 in
-    let rest = messages-counted ms read.1 in
-    let one = hit m read.0 in
-    let a = sum_by-cons (count 1004) m ms in
-    let b = sum_by-cons (count 1005) m ms in
-    let c = sum_by-cons (count 1006) m ms in
-    let d = sum_by-cons (count 1074) m ms in
-    let e = sum_by-cons (count 1075) m ms in
-    let f = sum_by-cons (count 1076) m ms in
-    let g = sum_by-cons (count 1077) m ms in
-    omega (arith, rest, one, a, b, c, d, e, f, g)
+messages-counted [] = refl
+messages-counted (m ∷ ms) =
+    let here : ℕ → ℕ = λ n. cond (is_numbered n m) 1 0 in
+    let there : ℕ → ℕ = λ n. count_by (is_numbered n) ms in
+    let each : ◌≡◌ {A = ℕ → ℕ} (λ n. count_by (is_numbered n) (m ∷ ms)) (λ n. here n + there n) = fun_ext (λ n. sum_by-cons (λ (x : AnyMessage). cond (is_numbered n x) 1 0) m ms) in
+    let split : sum_by (λ n. count_by (is_numbered n) (m ∷ ms)) message_numbers ≡ sum_by here message_numbers + sum_by there message_numbers =
+    ap (λ (f : ℕ → ℕ). sum_by f message_numbers) each ∙ sum-both here there message_numbers in
+    let one : sum_by here message_numbers ≡ 1 = hit m in
+    let rest = messages-counted ms in
+    omega (arith, split, one, rest)
 
 -- ---- what stands in the text
 
@@ -137,17 +167,24 @@ each-stands f [] = tt
 each-stands f (n ∷ ns) =
     (stands-first (f n) (flat_map f ns), each-weaker (λ k. StandsIn (f k) (flat_map f ns)) (λ k. StandsIn (f k) (f n ++ flat_map f ns)) ns (λ k stands. stands-behind (f n) (f k) (flat_map f ns) stands) (each-stands f ns))
 
+three-behind : (a v u n : List ℕ) → a ++ v ++ u ++ n ≡ a ++ (v ++ u ++ n)
+three-behind a v u n = simp append_assoc
+
+four-behind : (a w v u n : List ℕ) → a ++ w ++ v ++ u ++ n ≡ a ++ (w ++ v ++ u ++ n)
+four-behind a w v u n = simp append_assoc
+
 pub parts-stand : PartsStand
 unfolding summary_text
 parts-stand name bytes fs =
     let head : List ℕ = size_lines (length bytes) fs ++ look_line (length fs) (take 512 bytes) in
     let stations : List ℕ = stations_text name (messages_in fs) (dates_in fs) (equipment_among fs) in
     let weeks : List ℕ = weeks_text (dates_in fs) in
+    let systems : List ℕ = system_weeks_text (system_messages_in fs) in
     let unread : List ℕ = unread_lines (faults_in fs) in
-    let last : List ℕ = nothing_line (codes_text (has_code (entries_in (messages_in fs)))) in (
-      (head, weeks ++ unread ++ last, append_assoc (head ++ stations ++ weeks) unread last ∙ append_assoc (head ++ stations) weeks (unread ++ last) ∙ ap (λ (t : List ℕ). (head ++ stations) ++ t) (sym (append_assoc weeks unread last))),
-      (head ++ stations, unread ++ last, append_assoc (head ++ stations ++ weeks) unread last),
-      (head ++ stations ++ weeks, last, refl),
+    let last : List ℕ = nothing_line (all_codes_text (has_code (entries_in (messages_in fs))) (has_any_code (cells_beside (messages_in fs)))) in (
+      (head, weeks ++ systems ++ unread ++ last, four-behind (head ++ stations) weeks systems unread last),
+      (head ++ stations, systems ++ unread ++ last, three-behind (head ++ stations ++ weeks) systems unread last),
+      (head ++ stations ++ weeks ++ systems, last, refl),
     )
 
 lines-if-some : (name : List ℕ) (n : ℕ) (ms : List AnyMessage) (d : StationDates) (e : Equipment) → 0 < length ms → lines_if_any name n ms d e ≡ station_lines name n ms d e
@@ -169,19 +206,15 @@ pub proposals-stand : ProposalsStand
 unfolding station_lines
 proposals-stand name station ms d e held =
     let proposal : (MsmKind → ℕ) → List ℕ = λ epochs. proposal_lines name (near_text (proposed_date d)) station epochs (λ kind. has_code (entries_with kind ms)) in
-    let count : List ℕ → ℕ → List ℕ = λ words n. counted_line words (count_of (is_numbered n) ms) in
     let lines : List ℕ =
     number_line (codes "station ") station
-    ++ count (codes " message 1004 ") 1004
-    ++ count (codes " message 1005 ") 1005
-    ++ count (codes " message 1006 ") 1006
-    ++ count (codes " message 1074 ") 1074
-    ++ count (codes " message 1075 ") 1075
-    ++ count (codes " message 1076 ") 1076
-    ++ count (codes " message 1077 ") 1077
+    ++ message_lines (λ n. count_of (is_numbered n) ms)
     ++ time_lines (times_of_week ms)
     ++ told_lines d e
-    ++ signal_lines (has_satellite (entries_in ms)) (has_code (entries_in ms)) in
+    ++ signal_lines (has_satellite (entries_in ms)) (has_code (entries_in ms)) (has_index (cells_beside ms)) (has_any_code (cells_beside ms))
+    ++ system_epoch_lines (epochs_beside ms)
+    ++ channel_line (place_is_told ms)
+    ++ clock_lines (clocks_of ms).offsets in
     let whole = append-nil (station_lines name station ms d e) in
     subst (λ (epochs : MsmKind → ℕ). StandsIn (proposal epochs) (station_lines name station ms d e)) (epochs-are ms held) (lines, [], sym whole)
 

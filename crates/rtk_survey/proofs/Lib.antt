@@ -1,5 +1,7 @@
 pub mod AlikeLemmas
 pub mod BitLemmas
+pub mod ChannelLemmas
+pub mod ChannelLineLemmas
 pub mod CountingLemmas
 pub mod CutLemmas
 pub mod DateLemmas
@@ -23,5 +25,7 @@ pub mod ResultLemmas
 pub mod SignalLemmas
 pub mod StationLemmas
 pub mod SummaryTellingLemmas
+pub mod SystemLemmas
+pub mod SystemTellingLemmas
 pub mod TallyLemmas
 pub mod TargetLemmas

@@ -1,10 +1,19 @@
 -- The lines of what a summary holds.
 use Rattle.std.proofs.Common.{None, Some, take, ◌≡◌, ◌<◌, ◌+◌, ◌/◌, ◌%◌, ◌==◌, ℕ, suc, Bool, true, false, cond, List, [], ◌∷◌, ◌++◌, length, get_or, drop, decimal, refl, sym, ap, ◌∙◌, append_assoc, drop-cons, arith}
 use Rattle.std.specs.Prelude.{flat_map, filter, codes}
+use Rattle.std.specs.List.{AllByRecursion}
+use Rattle.rtk_obs.specs.declared.any_code.AnyCode.{AnyCode}
 use Rattle.rtk_obs.specs.declared.code.Code.{Code}
+use Rattle.rtk_obs.specs.declared.signal_cells.SignalEntry.{SignalEntry}
+use Rattle.rtk_obs.specs.AnyCode.{text_of, number_of, all_any_codes}
 use Rattle.rtk_obs.specs.Code.{name_of, place_of, all_codes}
+use Rattle.rtk_obs.specs.SatelliteIndex.{index_name}
 use Rattle.rtk_message.specs.declared.msm_kind.MsmKind.{MsmKind}
 use Rattle.rtk_message.specs.declared.any_message.AnyMessage.{AnyMessage}
+use Rattle.rtk_survey.specs.BesideGps.{cells_beside, has_index, has_any_code}
+use Rattle.rtk_survey.specs.Chains.{clocks_of, clocks_at}
+use Rattle.rtk_survey.specs.Channels.{place_is_told, place_is_counted}
+use Rattle.rtk_survey.specs.ClockLines.{clock_lines}
 use Rattle.rtk_survey.specs.Counting.{count_of}
 use Rattle.rtk_survey.specs.Look.{look_of, look_name}
 use Rattle.rtk_survey.specs.Surveys.{look_if_empty}
@@ -13,19 +22,23 @@ use Rattle.rtk_survey.specs.declared.equipment.Equipment.{Equipment}
 use Rattle.rtk_survey.specs.FrameDates.{proposed_date}
 use Rattle.rtk_survey.specs.FrameEquipment.{told_lines}
 use Rattle.rtk_survey.specs.Proposal.{epochs_with_value, entries_with}
-use Rattle.rtk_survey.specs.Summary.{all_numbers, station_lines}
-use Rattle.rtk_survey.specs.SummaryText.{look_line, number_line, counted_line, numbered_line, list_line, time_lines, near_text, untaken_numbers, listed_satellite, satellites_text, joined_names, codes_text, words_text, auto_line, next_lines, signal_lines, proposal_lines}
+use Rattle.rtk_survey.specs.Summary.{all_numbers, epochs_beside, station_lines}
+use Rattle.rtk_survey.specs.SummaryText.{look_line, number_line, numbered_line, message_numbers, message_lines, system_epoch_lines, channel_line, list_line, time_lines, near_text, untaken_numbers, listed_satellite, satellites_text, listed_index, indices_text, joined_names, joined_texts, codes_text, all_codes_text, words_text, auto_line, next_lines, signal_lines, proposal_lines}
 use Rattle.std.specs.BTreeMap.{BTreeMap}
-use Rattle.rtk_survey.specs.Contents.{count_at, HasCodes, HasSignals, IsStationOf, HasMsms, equipment_at, epochs_held, codes_held}
-use Rattle.rtk_survey.specs.Steps.Tables.{counts_text, untaken_text, counts_held, look_lines}
+use Rattle.rtk_survey.specs.Contents.{count_at, HasCodes, HasSignals, HasSystemSignals, IsStationOf, HasMsms, equipment_at, epochs_held, codes_held, any_codes_held, messages_held, system_epochs_held}
+use Rattle.rtk_survey.specs.Steps.Tables.{counts_text, untaken_text, look_lines}
 use Rattle.rtk_survey.specs.Tracing.{is_numbered, entries_in, has_satellite, has_code, times_of_week}
 use Rattle.rtk_survey.specs.declared.station_dates.StationDates.{StationDates}
 use Rattle.rtk_survey.specs.declared.msm_parts.MsmParts.{MsmParts}
 use Rattle.rtk_survey.specs.declared.signals.Codes.{Codes}
 use Rattle.rtk_survey.specs.declared.signals.Signals.{Signals}
+use Rattle.rtk_survey.specs.declared.clock_chains.ClockSurvey.{ClockSurvey}
 use Rattle.rtk_survey.specs.declared.station.StationSurvey.{StationSurvey}
+use Rattle.rtk_survey.specs.declared.system_signals.SystemSignals.{SystemSignals}
+use Rattle.rtk_survey.proofs.ChannelLineLemmas.{channel-line-is}
 use Rattle.rtk_survey.proofs.ListLemmas.{lines-agree}
 use Rattle.rtk_survey.proofs.MsmLemmas.{codes-marked, epochs-are, codes-held-are}
+use Rattle.rtk_survey.proofs.SystemLemmas.{any-codes-marked, epochs-beside-are, counts-held}
 
 -- ---- counts
 
@@ -33,6 +46,16 @@ use Rattle.rtk_survey.proofs.MsmLemmas.{codes-marked, epochs-are, codes-held-are
 lists-agree : (f g : ℕ → List ℕ) (ns : List ℕ) → ((k : ℕ) → f k ≡ g k) → flat_map f ns ≡ flat_map g ns
 lists-agree f g [] agree = refl
 lists-agree f g (n ∷ ns) agree = ap (λ t. t ++ flat_map f ns) (agree n) ∙ ap (λ t. g n ++ t) (lists-agree f g ns agree)
+
+-- so are the lines of some numbers
+lines-agree-on : (f g : ℕ → List ℕ) (ns : List ℕ) → AllByRecursion (λ k. f k ≡ g k) ns → flat_map f ns ≡ flat_map g ns
+lines-agree-on f g [] agree = refl
+lines-agree-on f g (n ∷ ns) agree = ap (λ t. t ++ flat_map f ns) agree.0 ∙ ap (λ t. g n ++ t) (lines-agree-on f g ns agree.1)
+
+counts-agree-on : (words : List ℕ) (a b : ℕ → ℕ) (ns : List ℕ) → AllByRecursion (λ k. a k ≡ b k) ns
+    → AllByRecursion (λ k. numbered_line words k (a k) ≡ numbered_line words k (b k)) ns
+counts-agree-on words a b [] agree = tt
+counts-agree-on words a b (n ∷ ns) agree = (ap (λ k. numbered_line words n k) agree.0, counts-agree-on words a b ns agree.1)
 
 pub counts-are : (words : List ℕ) (counts : BTreeMap ℕ ℕ) (count : ℕ → ℕ) → ((n : ℕ) → count_at counts n ≡ count n)
     → counts_text words counts ≡ flat_map (λ n. numbered_line words n (count n)) all_numbers
@@ -100,24 +123,62 @@ pub next-lines-are : (name near : List ℕ) (station : ℕ) (named : MsmKind) (n
 next-lines-are name near station named [] some = absurd (some refl)
 next-lines-are name near station named (x ∷ xs) some = refl
 
-pub codes-are : (c : Codes) (ms : List AnyMessage) → HasCodes c (entries_in ms) → codes_text (λ code. get_or c.marks (place_of code) false) ≡ codes_text (has_code (entries_in ms))
-codes-are c ms has = ap (λ (t : Code → Bool). codes_text t) (codes-marked c (entries_in ms) has)
+-- a code of another system than GPS that has a value is the next name
+any-code-first : (i : ℕ) (d : AnyCode) → i < 69 → drop i all_any_codes ≡ get_or all_any_codes i d ∷ drop (i + 1) all_any_codes
+any-code-first i d within =
+    let next : suc i ≡ i + 1 = omega arith in
+    drop-cons all_any_codes i d within ∙ ap (λ k. get_or all_any_codes i d ∷ drop k all_any_codes) next
+
+pub any-code-named : (marked : AnyCode → Bool) (text : List ℕ) (separator i : ℕ) (d : AnyCode) (whole : List ℕ) → i < 69 → marked (get_or all_any_codes i d) ≡ true
+    → text ++ joined_texts separator (filter marked (drop i all_any_codes)) ≡ whole
+    → ((text ++ separator ∷ []) ++ text_of (get_or all_any_codes i d)) ++ joined_texts 44 (filter marked (drop (i + 1) all_any_codes)) ≡ whole
+any-code-named marked text separator i d whole within marks so_far =
+    let c = get_or all_any_codes i d in
+    let rest = filter marked (drop (i + 1) all_any_codes) in
+    let first : filter marked (drop i all_any_codes) ≡ c ∷ rest = ap (λ cs. filter marked cs) (any-code-first i d within) ∙ ap (λ b. cond b (c ∷ rest) rest) marks in
+    append_assoc (text ++ separator ∷ []) (text_of c) (joined_texts 44 rest) ∙ append_assoc text (separator ∷ []) (text_of c ++ joined_texts 44 rest)
+    ∙ ap (λ cs. text ++ joined_texts separator cs) (sym first) ∙ so_far
+
+pub any-code-passed : (marked : AnyCode → Bool) (text : List ℕ) (separator i : ℕ) (d : AnyCode) (whole : List ℕ) → i < 69 → marked (get_or all_any_codes i d) ≡ false
+    → text ++ joined_texts separator (filter marked (drop i all_any_codes)) ≡ whole
+    → text ++ joined_texts separator (filter marked (drop (i + 1) all_any_codes)) ≡ whole
+any-code-passed marked text separator i d whole within marks so_far =
+    let c = get_or all_any_codes i d in
+    let rest = filter marked (drop (i + 1) all_any_codes) in
+    let first : filter marked (drop i all_any_codes) ≡ rest = ap (λ cs. filter marked cs) (any-code-first i d within) ∙ ap (λ b. cond b (c ∷ rest) rest) marks in
+    ap (λ cs. text ++ joined_texts separator cs) (sym first) ∙ so_far
+
+pub all-codes-are : (c : Codes) (s : SystemSignals) (ms : List AnyMessage) → HasCodes c (entries_in ms) → HasSystemSignals s (cells_beside ms)
+    → all_codes_text (λ code. get_or c.marks (place_of code) false) (λ code. get_or s.codes (number_of code) false) ≡ all_codes_text (has_code (entries_in ms)) (has_any_code (cells_beside ms))
+all-codes-are c s ms has others =
+    ap (λ (t : Code → Bool). all_codes_text t (any_codes_held s)) (codes-marked c (entries_in ms) has)
+    ∙ ap (λ (t : AnyCode → Bool). all_codes_text (has_code (entries_in ms)) t) (any-codes-marked s (cells_beside ms) others)
 
 satellites-agree : (s t : ℕ → Bool) → ((n : ℕ) → n < 33 → s n ≡ t n) → satellites_text s ≡ satellites_text t
 unfolding satellites_text
 satellites-agree s t agree = lines-agree (listed_satellite s) (listed_satellite t) 1 32 (λ k lt. ap (λ b. cond b (32 ∷ 71 ∷ (48 + k / 10) ∷ (48 + k % 10) ∷ []) []) (agree k lt))
 
-pub signals-are : (s : Signals) (ms : List AnyMessage) → HasSignals s (entries_in ms)
-    → signal_lines (λ n. get_or s.satellites n false) (λ c. get_or s.codes.marks (place_of c) false) ≡ signal_lines (has_satellite (entries_in ms)) (has_code (entries_in ms))
+indices-agree : (s t : ℕ → Bool) → ((n : ℕ) → n < 222 → s n ≡ t n) → indices_text s ≡ indices_text t
+unfolding indices_text
+indices-agree s t agree =
+    lines-agree (listed_index s) (listed_index t) 33 189 (λ k lt. let within : k < 222 = omega (arith, lt) in ap (λ b. cond b (32 ∷ index_name k) []) (agree k within))
+
+pub signals-are : (s : Signals) (o : SystemSignals) (ms : List AnyMessage) → HasSignals s (entries_in ms) → HasSystemSignals o (cells_beside ms)
+    → signal_lines (λ n. get_or s.satellites n false) (λ c. get_or s.codes.marks (place_of c) false) (λ n. get_or o.satellites n false) (λ c. get_or o.codes (number_of c) false)
+    ≡ signal_lines (has_satellite (entries_in ms)) (has_code (entries_in ms)) (has_index (cells_beside ms)) (has_any_code (cells_beside ms))
 unfolding signal_lines
-signals-are s ms stands =
+signals-are s o ms stands others =
     let marked : ℕ → Bool = λ n. get_or s.satellites n false in
-    let coded : Code → Bool = λ c. get_or s.codes.marks (place_of c) false in
+    let indexed : ℕ → Bool = λ n. get_or o.satellites n false in
     let es = entries_in ms in
+    let cs = cells_beside ms in
     let a : satellites_text marked ≡ satellites_text (has_satellite es) = satellites-agree marked (has_satellite es) (λ n lt. stands.satellites n (let size = stands.satellites_size in omega (arith, lt, size))) in
-    let lines : List ℕ → (Code → Bool) → List ℕ = λ sats code. list_line (codes " satellites") sats ++ list_line (codes " codes") (codes_text code) in
-    ap (λ (t : List ℕ). lines t coded) a
-    ∙ ap (λ (t : Code → Bool). lines (satellites_text (has_satellite es)) t) (codes-marked s.codes es stands.codes)
+    let b : indices_text indexed ≡ indices_text (has_index cs) = indices-agree indexed (has_index cs) (λ n lt. others.satellites n (let size = others.satellites_size in omega (arith, lt, size))) in
+    let lines : List ℕ → List ℕ → List ℕ = λ sats codes_of. list_line (codes " satellites") sats ++ list_line (codes " codes") codes_of in
+    let coded : List ℕ = all_codes_text (λ c. get_or s.codes.marks (place_of c) false) (any_codes_held o) in
+    ap (λ (t : List ℕ). lines (t ++ indices_text indexed) coded) a
+    ∙ ap (λ (t : List ℕ). lines (satellites_text (has_satellite es) ++ t) coded) b
+    ∙ ap (λ (t : List ℕ). lines (satellites_text (has_satellite es) ++ indices_text (has_index cs)) t) (all-codes-are s.codes o ms stands.codes others)
 
 -- ---- a station
 
@@ -134,6 +195,10 @@ own-survey ms d e s is = record {
   times = is.times;
   signals = is.signals;
   msm = is.msm;
+  system_signals = is.system_signals;
+  system_msm = is.system_msm;
+  channels = is.channels;
+  clocks = is.clocks;
   point = is.point;
   far = is.far;
   dates = refl;
@@ -144,83 +209,46 @@ own-survey ms d e s is = record {
 abbrev pub lines_held : List ℕ → ℕ → StationSurvey → StationDates → Equipment → List ℕ → List ℕ
 lines_held name number s d e times =
     number_line (codes "station ") number
-    ++ counts_held s
+    ++ message_lines (messages_held s)
     ++ time_lines times
     ++ told_lines d e
-    ++ signal_lines (λ n. get_or s.signals.satellites n false) (λ c. get_or s.signals.codes.marks (place_of c) false)
+    ++ signal_lines (λ n. get_or s.signals.satellites n false) (λ c. get_or s.signals.codes.marks (place_of c) false) (λ n. get_or s.system_signals.satellites n false) (λ c. get_or s.system_signals.codes (number_of c) false)
+    ++ system_epoch_lines (system_epochs_held s)
+    ++ channel_line (place_is_counted s.channels.items)
+    ++ clock_lines (clocks_at s.clocks).offsets
     ++ proposal_lines name (near_text (proposed_date d)) number (epochs_held s.msm) (codes_held s.msm)
 
--- the lines of these counts
-counts_of : ℕ → ℕ → ℕ → ℕ → ℕ → ℕ → ℕ → List ℕ
-counts_of a b c d e f g =
-    counted_line (codes " message 1004 ") a
-    ++ counted_line (codes " message 1005 ") b
-    ++ counted_line (codes " message 1006 ") c
-    ++ counted_line (codes " message 1074 ") d
-    ++ counted_line (codes " message 1075 ") e
-    ++ counted_line (codes " message 1076 ") f
-    ++ counted_line (codes " message 1077 ") g
-
-counts-same : (a b c d e f g a' b' c' d' e' f' g' : ℕ) → a ≡ a' → b ≡ b' → c ≡ c' → d ≡ d' → e ≡ e' → f ≡ f' → g ≡ g'
-    → counts_of a b c d e f g ≡ counts_of a' b' c' d' e' f' g'
-counts-same a b c d e f g a' b' c' d' e' f' g' p q r s t u v = cc
-
-counts-agree : (s : StationSurvey) (ms : List AnyMessage) (d : StationDates) (e : Equipment) → IsStationOf ms d e s
-    → counts_of (count_of (is_numbered 1004) ms) (count_of (is_numbered 1005) ms) (count_of (is_numbered 1006) ms) (count_of (is_numbered 1074) ms) (count_of (is_numbered 1075) ms) (count_of (is_numbered 1076) ms) (count_of (is_numbered 1077) ms) ≡ counts_held s
-unfolding counts_of
-counts-agree s ms d e stands =
-    let k = stands.counts in
-    let m = stands.msm in
-    counts-same
-    (count_of (is_numbered 1004) ms)
-    (count_of (is_numbered 1005) ms)
-    (count_of (is_numbered 1006) ms)
-    (count_of (is_numbered 1074) ms)
-    (count_of (is_numbered 1075) ms)
-    (count_of (is_numbered 1076) ms)
-    (count_of (is_numbered 1077) ms)
-    s.counts.obs_1004 s.counts.arp_1005 s.counts.arp_1006 s.msm.msm4.messages s.msm.msm5.messages s.msm.msm6.messages s.msm.msm7.messages
-    (sym k.obs_1004) (sym k.arp_1005) (sym k.arp_1006) (sym m.msm4.messages) (sym m.msm5.messages) (sym m.msm6.messages) (sym m.msm7.messages)
-
-regroup : (n a b c d e f g t w s p : List ℕ) → n ++ a ++ b ++ c ++ d ++ e ++ f ++ g ++ t ++ w ++ s ++ p ≡ n ++ (a ++ b ++ c ++ d ++ e ++ f ++ g) ++ t ++ w ++ s ++ p
-regroup n a b c d e f g t w s p = simp append_assoc
-
-grouped : (name : List ℕ) (number : ℕ) (ms : List AnyMessage) (d : StationDates) (e : Equipment) → station_lines name number ms d e
-    ≡ number_line (codes "station ") number
-    ++ counts_of (count_of (is_numbered 1004) ms) (count_of (is_numbered 1005) ms) (count_of (is_numbered 1006) ms) (count_of (is_numbered 1074) ms) (count_of (is_numbered 1075) ms) (count_of (is_numbered 1076) ms) (count_of (is_numbered 1077) ms)
-    ++ time_lines (times_of_week ms)
-    ++ told_lines d e
-    ++ signal_lines (has_satellite (entries_in ms)) (has_code (entries_in ms))
-    ++ proposal_lines name (near_text (proposed_date d)) number (λ kind. epochs_with_value kind ms) (λ kind. has_code (entries_with kind ms))
-unfolding station_lines counts_of
-grouped name number ms d e =
-    regroup (number_line (codes "station ") number)
-    (counted_line (codes " message 1004 ") (count_of (is_numbered 1004) ms))
-    (counted_line (codes " message 1005 ") (count_of (is_numbered 1005) ms))
-    (counted_line (codes " message 1006 ") (count_of (is_numbered 1006) ms))
-    (counted_line (codes " message 1074 ") (count_of (is_numbered 1074) ms))
-    (counted_line (codes " message 1075 ") (count_of (is_numbered 1075) ms))
-    (counted_line (codes " message 1076 ") (count_of (is_numbered 1076) ms))
-    (counted_line (codes " message 1077 ") (count_of (is_numbered 1077) ms))
-    (time_lines (times_of_week ms))
-    (told_lines d e)
-    (signal_lines (has_satellite (entries_in ms)) (has_code (entries_in ms)))
-    (proposal_lines name (near_text (proposed_date d)) number (λ kind. epochs_with_value kind ms) (λ kind. has_code (entries_with kind ms)))
+-- the lines of the counts of messages
+messages-agree : (s : StationSurvey) (ms : List AnyMessage) (d : StationDates) (e : Equipment) → IsStationOf ms d e s → message_lines (messages_held s) ≡ message_lines (λ n. count_of (is_numbered n) ms)
+unfolding message_lines
+messages-agree s ms d e stands =
+    let count : ℕ → ℕ = λ n. count_of (is_numbered n) ms in
+    let words : List ℕ = codes " message " in
+    lines-agree-on (λ n. numbered_line words n (messages_held s n)) (λ n. numbered_line words n (count n)) message_numbers
+    (counts-agree-on words (messages_held s) count message_numbers (counts-held s ms stands.counts stands.msm stands.system_msm))
 
 pub station-lines-are : (name : List ℕ) (number : ℕ) (s : StationSurvey) (d : StationDates) (e : Equipment) (ms : List AnyMessage) → IsStationOf ms d e s
     → station_lines name number ms d e ≡ lines_held name number s d e (times_of_week ms)
+unfolding station_lines
 station-lines-are name number s d e ms stands =
     let head : List ℕ = number_line (codes "station ") number in
     let times : List ℕ = time_lines (times_of_week ms) in
     let dates : List ℕ = told_lines d e in
     let near : List ℕ = near_text (proposed_date d) in
-    let signals : List ℕ = signal_lines (has_satellite (entries_in ms)) (has_code (entries_in ms)) in
+    let signals : List ℕ = signal_lines (has_satellite (entries_in ms)) (has_code (entries_in ms)) (has_index (cells_beside ms)) (has_any_code (cells_beside ms)) in
     let proposal : List ℕ = proposal_lines name near number (λ kind. epochs_with_value kind ms) (λ kind. has_code (entries_with kind ms)) in
-    let signals' : List ℕ = signal_lines (λ n. get_or s.signals.satellites n false) (λ c. get_or s.signals.codes.marks (place_of c) false) in
-    grouped name number ms d e
-    ∙ ap (λ (t : List ℕ). head ++ t ++ times ++ dates ++ signals ++ proposal) (counts-agree s ms d e stands)
-    ∙ ap (λ (t : List ℕ). head ++ counts_held s ++ times ++ dates ++ t ++ proposal) (sym (signals-are s.signals ms stands.signals))
-    ∙ ap (λ (t : List ℕ). head ++ counts_held s ++ times ++ dates ++ signals' ++ t) (sym (proposal-is name near number s.msm ms stands.msm))
+    let messages' : List ℕ = message_lines (messages_held s) in
+    let signals' : List ℕ = signal_lines (λ n. get_or s.signals.satellites n false) (λ c. get_or s.signals.codes.marks (place_of c) false) (λ n. get_or s.system_signals.satellites n false) (λ c. get_or s.system_signals.codes (number_of c) false) in
+    let channels : List ℕ = channel_line (place_is_told ms) in
+    let clocks : List ℕ = clock_lines (clocks_of ms).offsets in
+    let channels' : List ℕ = channel_line (place_is_counted s.channels.items) in
+    let epochs' : List ℕ = system_epoch_lines (system_epochs_held s) in
+    ap (λ (t : List ℕ). head ++ t ++ times ++ dates ++ signals ++ system_epoch_lines (epochs_beside ms) ++ channels ++ clocks ++ proposal) (sym (messages-agree s ms d e stands))
+    ∙ ap (λ (t : List ℕ). head ++ messages' ++ times ++ dates ++ t ++ system_epoch_lines (epochs_beside ms) ++ channels ++ clocks ++ proposal) (sym (signals-are s.signals s.system_signals ms stands.signals stands.system_signals))
+    ∙ ap (λ (t : ℕ → ℕ). head ++ messages' ++ times ++ dates ++ signals' ++ system_epoch_lines t ++ channels ++ clocks ++ proposal) (sym (epochs-beside-are s ms stands.system_msm))
+    ∙ ap (λ (t : List ℕ). head ++ messages' ++ times ++ dates ++ signals' ++ epochs' ++ t ++ clocks ++ proposal) (sym (channel-line-is s.channels.items ms stands.channels))
+    ∙ ap (λ (x : ClockSurvey). head ++ messages' ++ times ++ dates ++ signals' ++ epochs' ++ channels' ++ clock_lines x.offsets ++ proposal) (sym stands.clocks)
+    ∙ ap (λ (t : List ℕ). head ++ messages' ++ times ++ dates ++ signals' ++ epochs' ++ channels' ++ clock_lines (clocks_at s.clocks).offsets ++ t) (sym (proposal-is name near number s.msm ms stands.msm))
 
 -- ---- a file without a frame
 

@@ -24,9 +24,9 @@ or-moved false true c = refl
 or-moved false false c = refl
 
 -- the order of entries does not matter to a test of any
-any-more : (test : CellEntry → Bool) (xs es : List CellEntry) (i : ℕ) (d : CellEntry) → i < length xs
+pub any-more : {X : Type 0} (test : X → Bool) (xs es : List X) (i : ℕ) (d : X) → i < length xs
     → list_any test (take (i + 1) xs ++ es) ≡ list_any test (get_or xs i d ∷ (take i xs ++ es))
-any-more test xs es i d within =
+any-more {X} test xs es i d within =
     list_any-append test (take (i + 1) xs) es ∙ ap (λ b. b || list_any test es) (list_any_more test xs i d within)
     ∙ or-moved (list_any test (take i xs)) (test (get_or xs i d)) (list_any test es)
     ∙ ap (λ b. test (get_or xs i d) || b) (sym (list_any-append test (take i xs) es))

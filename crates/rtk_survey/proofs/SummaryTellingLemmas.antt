@@ -7,7 +7,10 @@ use Rattle.std.proofs.lemmas.List.{append-nil}
 use Rattle.std.proofs.lemmas.List.Sums.{count_by-le-length}
 use Rattle.rtk_message.specs.declared.any_message.AnyMessage.{AnyMessage}
 use Rattle.rtk_message.specs.declared.any_fault.AnyFault.{AnyFault}
-use Rattle.rtk_message.specs.AnyDecoded.{tow_of}
+use Rattle.rtk_survey.specs.BesideGps.{cells_beside, has_index, has_any_code}
+use Rattle.rtk_survey.specs.Chains.{clocks_of}
+use Rattle.rtk_survey.specs.Channels.{place_is_told}
+use Rattle.rtk_survey.specs.ClockLines.{clock_lines}
 use Rattle.rtk_survey.specs.Counting.{shown_count, count_of}
 use Rattle.rtk_survey.specs.NumberLaws.{SummaryTellsFrames, StationLinesTell, UnreadLinesTell}
 use Rattle.rtk_survey.specs.Proposal.{epochs_with_value, entries_with}
@@ -15,10 +18,11 @@ use Rattle.rtk_survey.specs.ReadFrames.{ReadFrame, bytes_in, messages_in, faults
 use Rattle.rtk_survey.specs.declared.equipment.Equipment.{Equipment}
 use Rattle.rtk_survey.specs.FrameDates.{dates_in, proposed_date}
 use Rattle.rtk_survey.specs.FrameEquipment.{equipment_among, told_lines}
-use Rattle.rtk_survey.specs.Summary.{all_numbers, station_lines, stations_text, weeks_text, unread_lines, summary_text}
+use Rattle.rtk_survey.specs.Summary.{all_numbers, epochs_beside, station_lines, stations_text, weeks_text, system_weeks_text, unread_lines, summary_text}
+use Rattle.rtk_survey.specs.SystemTellings.{system_messages_in}
 use Rattle.rtk_survey.specs.declared.station_dates.StationDates.{StationDates}
-use Rattle.rtk_survey.specs.SummaryText.{number_line, counted_line, numbered_line, time_lines, look_line, near_text, signal_lines, proposal_lines, codes_text, nothing_line, untaken_numbers}
-use Rattle.rtk_survey.specs.Tracing.{is_numbered, is_other, is_short, is_outside_week, is_no_number, is_too_many_cells, times_of_week, entries_in, has_satellite, has_code}
+use Rattle.rtk_survey.specs.SummaryText.{number_line, counted_line, numbered_line, message_numbers, message_lines, system_epoch_lines, channel_line, time_lines, look_line, near_text, signal_lines, proposal_lines, all_codes_text, nothing_line, untaken_numbers}
+use Rattle.rtk_survey.specs.Tracing.{is_numbered, is_other, is_short, is_outside_week, is_no_number, is_too_many_cells, gps_time_of, times_of_week, entries_in, has_satellite, has_code}
 use Rattle.rtk_survey.proofs.HeadLemmas.{differ, apart, IsNotHeaded, not-headed-line, not-headed-table, line-then, counted-then, lines_by_number, NumbersRise, FirstIsAbove, table-then}
 use Rattle.rtk_survey.proofs.LineTellingLemmas.{times-then, not-headed-times}
 
@@ -44,97 +48,40 @@ times-few : (ms : List AnyMessage) → length (times_of_week ms) ≤ length ms
 times-few [] = omega arith
 times-few (m ∷ ms) =
     let few = times-few ms in
-    let one = one-more (tow_of m) (times_of_week ms) in
+    let one = one-more (gps_time_of m) (times_of_week ms) in
     omega (arith, few, one)
 
 -- the lines of a station in their groups
-grouped : (n a b c d e f g t w s p : List ℕ) → n ++ a ++ b ++ c ++ d ++ e ++ f ++ g ++ t ++ w ++ s ++ p
-    ≡ n ++ ((a ++ (b ++ (c ++ (d ++ (e ++ (f ++ (g ++ []))))))) ++ (t ++ (w ++ s ++ p)))
-grouped n a b c d e f g t w s p = simp append_assoc
+grouped : (n m t w s e c k p : List ℕ) → n ++ m ++ t ++ w ++ s ++ e ++ c ++ k ++ p ≡ n ++ (m ++ (t ++ (w ++ s ++ e ++ c ++ k ++ p)))
+grouped n m t w s e c k p = simp append_assoc
 
-seven-same : (a b c d e f g a' b' c' d' e' f' g' : List ℕ) → a ≡ a' → b ≡ b' → c ≡ c' → d ≡ d' → e ≡ e' → f ≡ f' → g ≡ g'
-    → a ++ (b ++ (c ++ (d ++ (e ++ (f ++ (g ++ [])))))) ≡ a' ++ (b' ++ (c' ++ (d' ++ (e' ++ (f' ++ (g' ++ []))))))
-seven-same a b c d e f g a' b' c' d' e' f' g' p q r s t u v = cc
-
-words-1004 : codes " message 1004 " ≡ codes " message " ++ decimal 1004 ++ codes " "
-unfolding digits
-words-1004 = refl
-
-words-1005 : codes " message 1005 " ≡ codes " message " ++ decimal 1005 ++ codes " "
-unfolding digits
-words-1005 = refl
-
-words-1006 : codes " message 1006 " ≡ codes " message " ++ decimal 1006 ++ codes " "
-unfolding digits
-words-1006 = refl
-
-words-1074 : codes " message 1074 " ≡ codes " message " ++ decimal 1074 ++ codes " "
-unfolding digits
-words-1074 = refl
-
-words-1075 : codes " message 1075 " ≡ codes " message " ++ decimal 1075 ++ codes " "
-unfolding digits
-words-1075 = refl
-
-words-1076 : codes " message 1076 " ≡ codes " message " ++ decimal 1076 ++ codes " "
-unfolding digits
-words-1076 = refl
-
-words-1077 : codes " message 1077 " ≡ codes " message " ++ decimal 1077 ++ codes " "
-unfolding digits
-words-1077 = refl
-
--- the counts of a station's messages are lines by number
-messages-are : (count : ℕ → ℕ)
-    → counted_line (codes " message 1004 ") (count 1004)
-    ++ (counted_line (codes " message 1005 ") (count 1005)
-    ++ (counted_line (codes " message 1006 ") (count 1006)
-    ++ (counted_line (codes " message 1074 ") (count 1074)
-    ++ (counted_line (codes " message 1075 ") (count 1075)
-    ++ (counted_line (codes " message 1076 ") (count 1076)
-    ++ (counted_line (codes " message 1077 ") (count 1077)
-    ++ []))))))
-    ≡ lines_by_number (codes " message ") count (1004 ∷ 1005 ∷ 1006 ∷ 1074 ∷ 1075 ∷ 1076 ∷ 1077 ∷ [])
-messages-are count =
-    let line : List ℕ → ℕ → List ℕ = λ words n. counted_line words (count n) in
-    let number : ℕ → List ℕ = λ n. numbered_line (codes " message ") n (count n) in
-    seven-same (line (codes " message 1004 ") 1004) (line (codes " message 1005 ") 1005) (line (codes " message 1006 ") 1006) (line (codes " message 1074 ") 1074) (line (codes " message 1075 ") 1075) (line (codes " message 1076 ") 1076) (line (codes " message 1077 ") 1077)
-    (number 1004) (number 1005) (number 1006) (number 1074) (number 1075) (number 1076) (number 1077)
-    (ap (λ (words : List ℕ). line words 1004) words-1004)
-    (ap (λ (words : List ℕ). line words 1005) words-1005)
-    (ap (λ (words : List ℕ). line words 1006) words-1006)
-    (ap (λ (words : List ℕ). line words 1074) words-1074)
-    (ap (λ (words : List ℕ). line words 1075) words-1075)
-    (ap (λ (words : List ℕ). line words 1076) words-1076)
-    (ap (λ (words : List ℕ). line words 1077) words-1077)
-
-messages-rise : NumbersRise (1004 ∷ 1005 ∷ 1006 ∷ 1074 ∷ 1075 ∷ 1076 ∷ 1077 ∷ [])
+messages-rise : NumbersRise message_numbers
 messages-rise =
-    (omega arith, omega arith, (omega arith, omega arith, (omega arith, omega arith, (omega arith, omega arith, (omega arith, omega arith, (omega arith, omega arith, (omega arith, tt, tt)))))))
+    (omega arith, omega arith, (omega arith, omega arith, (omega arith, omega arith, (omega arith, omega arith, (omega arith, omega arith, (omega arith, omega arith, (omega arith, omega arith, (omega arith, omega arith, (omega arith, omega arith, (omega arith, omega arith, (omega arith, omega arith, (omega arith, omega arith, (omega arith, omega arith, (omega arith, omega arith, (omega arith, omega arith, (omega arith, omega arith, (omega arith, omega arith, (omega arith, omega arith, (omega arith, omega arith, (omega arith, omega arith, (omega arith, omega arith, (omega arith, omega arith, (omega arith, omega arith, (omega arith, omega arith, (omega arith, omega arith, (omega arith, omega arith, (omega arith, omega arith, (omega arith, omega arith, (omega arith, omega arith, (omega arith, omega arith, (omega arith, tt, tt)))))))))))))))))))))))))))))))
 
 -- what stands behind the times
 behind_times : List ℕ → ℕ → List AnyMessage → StationDates → Equipment → List ℕ
 behind_times name station ms d e =
-    told_lines d e ++ signal_lines (has_satellite (entries_in ms)) (has_code (entries_in ms))
+    told_lines d e ++ signal_lines (has_satellite (entries_in ms)) (has_code (entries_in ms)) (has_index (cells_beside ms)) (has_any_code (cells_beside ms))
+    ++ system_epoch_lines (epochs_beside ms)
+    ++ channel_line (place_is_told ms)
+    ++ clock_lines (clocks_of ms).offsets
     ++ proposal_lines name (near_text (proposed_date d)) station (λ kind. epochs_with_value kind ms) (λ kind. has_code (entries_with kind ms))
 
 station-is : (name : List ℕ) (station : ℕ) (ms : List AnyMessage) (d : StationDates) (e : Equipment) → station_lines name station ms d e
     ≡ number_line (codes "station ") station
-    ++ (lines_by_number (codes " message ") (λ n. count_of (is_numbered n) ms) (1004 ∷ 1005 ∷ 1006 ∷ 1074 ∷ 1075 ∷ 1076 ∷ 1077 ∷ [])
+    ++ (lines_by_number (codes " message ") (λ n. count_of (is_numbered n) ms) message_numbers
     ++ (time_lines (times_of_week ms) ++ behind_times name station ms d e))
-unfolding station_lines behind_times
+unfolding station_lines message_lines behind_times
 station-is name station ms d e =
-    let count : ℕ → ℕ = λ n. count_of (is_numbered n) ms in
-    let line : List ℕ → ℕ → List ℕ = λ words n. counted_line words (count n) in
-    grouped (number_line (codes "station ") station)
-    (line (codes " message 1004 ") 1004) (line (codes " message 1005 ") 1005) (line (codes " message 1006 ") 1006) (line (codes " message 1074 ") 1074) (line (codes " message 1075 ") 1075) (line (codes " message 1076 ") 1076) (line (codes " message 1077 ") 1077)
-    (time_lines (times_of_week ms)) (told_lines d e) (signal_lines (has_satellite (entries_in ms)) (has_code (entries_in ms)))
+    grouped (number_line (codes "station ") station) (lines_by_number (codes " message ") (λ n. count_of (is_numbered n) ms) message_numbers)
+    (time_lines (times_of_week ms)) (told_lines d e) (signal_lines (has_satellite (entries_in ms)) (has_code (entries_in ms)) (has_index (cells_beside ms)) (has_any_code (cells_beside ms)))
+    (system_epoch_lines (epochs_beside ms)) (channel_line (place_is_told ms)) (clock_lines (clocks_of ms).offsets)
     (proposal_lines name (near_text (proposed_date d)) station (λ kind. epochs_with_value kind ms) (λ kind. has_code (entries_with kind ms)))
-    ∙ ap (λ (lines : List ℕ). number_line (codes "station ") station ++ (lines ++ (time_lines (times_of_week ms) ++ behind_times name station ms d e))) (messages-are count)
 
 pub station-tells : StationLinesTell
 station-tells name names station other ms ns d dates e equipment held fits few less times alike same =
-    let numbers : List ℕ = 1004 ∷ 1005 ∷ 1006 ∷ 1074 ∷ 1075 ∷ 1076 ∷ 1077 ∷ [] in
+    let numbers : List ℕ = message_numbers in
     let f : ℕ → ℕ = λ n. count_of (is_numbered n) ms in
     let g : ℕ → ℕ = λ n. count_of (is_numbered n) ns in
     let left : List ℕ = time_lines (times_of_week ms) ++ behind_times name station ms d e in
@@ -281,14 +228,14 @@ unread-tells fs gs few less same =
 behind_frames : List ℕ → List ℕ → List ReadFrame → List ℕ
 behind_frames name bytes fs =
     look_line (length fs) (take 512 bytes)
-    ++ stations_text name (messages_in fs) (dates_in fs) (equipment_among fs) ++ weeks_text (dates_in fs) ++ unread_lines (faults_in fs) ++ nothing_line (codes_text (has_code (entries_in (messages_in fs))))
+    ++ stations_text name (messages_in fs) (dates_in fs) (equipment_among fs) ++ weeks_text (dates_in fs) ++ system_weeks_text (system_messages_in fs) ++ unread_lines (faults_in fs) ++ nothing_line (all_codes_text (has_code (entries_in (messages_in fs))) (has_any_code (cells_beside (messages_in fs))))
 
 frames-few : (fs : List ReadFrame) → length fs ≤ bytes_in fs
 frames-few [] = omega arith
 frames-few (f ∷ before) = let few = frames-few before in omega (arith, few)
 
-whole-grouped : (a b c l s w u n : List ℕ) → (a ++ b ++ c) ++ l ++ s ++ w ++ u ++ n ≡ a ++ (b ++ (c ++ (l ++ s ++ w ++ u ++ n)))
-whole-grouped a b c l s w u n = simp append_assoc
+whole-grouped : (a b c l s w v u n : List ℕ) → (a ++ b ++ c) ++ l ++ s ++ w ++ v ++ u ++ n ≡ a ++ (b ++ (c ++ (l ++ s ++ w ++ v ++ u ++ n)))
+whole-grouped a b c l s w v u n = simp append_assoc
 
 outside : ℕ → List ReadFrame → ℕ
 outside size fs = shown_count size - shown_count (bytes_in fs)
@@ -299,7 +246,7 @@ whole-is : (name bytes : List ℕ) (fs : List ReadFrame) → summary_text name b
 unfolding summary_text behind_frames outside
 whole-is name bytes fs =
     whole-grouped (number_line (codes "bytes ") (shown_count (length bytes))) (number_line (codes "outside-frames ") (outside (length bytes) fs)) (number_line (codes "frames ") (shown_count (length fs)))
-    (look_line (length fs) (take 512 bytes)) (stations_text name (messages_in fs) (dates_in fs) (equipment_among fs)) (weeks_text (dates_in fs)) (unread_lines (faults_in fs)) (nothing_line (codes_text (has_code (entries_in (messages_in fs)))))
+    (look_line (length fs) (take 512 bytes)) (stations_text name (messages_in fs) (dates_in fs) (equipment_among fs)) (weeks_text (dates_in fs)) (system_weeks_text (system_messages_in fs)) (unread_lines (faults_in fs)) (nothing_line (all_codes_text (has_code (entries_in (messages_in fs))) (has_any_code (cells_beside (messages_in fs)))))
 
 pub summary-tells : SummaryTellsFrames
 unfolding outside

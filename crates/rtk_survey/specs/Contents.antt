@@ -1,6 +1,6 @@
 -- What is held of a capture and of each station that was heard in it, tied to the frames that came so
 -- far. Lists of frames, messages, dates and entries are newest first.
-use Rattle.std.specs.Prelude.{◌≡◌, ℕ, ◌<◌, Bool, false, cond, List, [], length, get_or, Option, None, Some, unwrap_or}
+use Rattle.std.specs.Prelude.{◌≡◌, ℕ, ◌<◌, ◌+◌, ◌==◌, Bool, false, cond, List, [], length, get_or, Option, None, Some, unwrap_or, if◌then◌else◌}
 use Rattle.std.specs.BTreeMap.{BTreeMap, get}
 use Rattle.std.specs.List.{list_any}
 use Rattle.std.specs.Ordering.{nat_cmp}
@@ -11,8 +11,14 @@ use Rattle.rtk_message.specs.declared.msm_kind.MsmKind.{MsmKind}
 use Rattle.rtk_message.specs.declared.msm_kind.MsmKind.TheVariants.{Msm4, Msm5, Msm6, Msm7}
 use Rattle.rtk_message.specs.Systems.{number_of_kind}
 use Rattle.rtk_obs.specs.declared.cell.CellEntry.{CellEntry}
+use Rattle.rtk_obs.specs.declared.any_code.AnyCode.{AnyCode}
 use Rattle.rtk_obs.specs.declared.code.Code.{Code}
+use Rattle.rtk_obs.specs.declared.signal_cells.SignalEntry.{SignalEntry}
+use Rattle.rtk_obs.specs.AnyCode as any_code
 use Rattle.rtk_obs.specs.Code.{place_of}
+use Rattle.rtk_survey.specs.BesideGps.{is_beside_numbered, messages_beside, cells_beside, gives_index, gives_number, times_beside}
+use Rattle.rtk_survey.specs.Chains.{clocks_of, clocks_at}
+use Rattle.rtk_survey.specs.Channels.{CountsChannels, CountsSlots}
 use Rattle.rtk_survey.specs.Counting.{shown_count, count_of}
 use Rattle.rtk_survey.specs.EquipmentHistory.{no_equipment, equipment_of}
 use Rattle.rtk_survey.specs.FrameDates.{dates_in, no_station_dates, station_dates, is_of_week}
@@ -21,6 +27,7 @@ use Rattle.rtk_survey.specs.Proposal.{epochs_in, times_with_value, entries_with}
 use Rattle.rtk_survey.specs.ReadFrames.{ReadFrame, bytes_in, messages_in, faults_in, messages_from}
 use Rattle.rtk_survey.specs.ReferencePoints.{first_point, far_point}
 use Rattle.rtk_survey.specs.Sbas.{has_sbas}
+use Rattle.rtk_survey.specs.SystemTellings.{system_messages_in, names_week, HasLeapRanges}
 use Rattle.rtk_survey.specs.Targets.{IsAnswer}
 use Rattle.rtk_survey.specs.Tracing.{is_numbered, is_other, is_short, is_outside_week, is_no_number, is_too_many_cells, times_of_week, newest_time, oldest_time, changes_in, entries_in, gives_satellite, gives_place}
 use Rattle.rtk_survey.specs.declared.contents.Contents.{Contents}
@@ -35,6 +42,10 @@ use Rattle.rtk_survey.specs.declared.signals.Signals.{Signals}
 use Rattle.rtk_survey.specs.declared.station.MessageCounts.{MessageCounts}
 use Rattle.rtk_survey.specs.declared.station.StationSurvey.{StationSurvey}
 use Rattle.rtk_survey.specs.declared.station_dates.StationDates.{StationDates}
+use Rattle.rtk_survey.specs.declared.system_message.SystemMessage.{SystemMessage}
+use Rattle.rtk_survey.specs.declared.system_msm.SystemMsm.{SystemMsm}
+use Rattle.rtk_survey.specs.declared.system_signals.SystemSignals.{SystemSignals}
+use Rattle.rtk_survey.specs.declared.system_tellings.SystemTellings.{SystemTellings}
 use Rattle.rtk_survey.specs.declared.target.Target.{Target}
 use Rattle.rtk_survey.specs.declared.times_of_week.Times.{Times}
 use Rattle.rtk_survey.specs.declared.unread.Unread.{Unread}
@@ -113,6 +124,50 @@ epochs_held p kind = (msm_part p kind).epochs.count
 abbrev pub codes_held : MsmParts → MsmKind → Code → Bool
 codes_held p kind c = get_or (msm_part p kind).codes.marks (place_of c) false
 
+-- ---- other systems than GPS
+
+-- a mark stands at each place for which a cell of any system passes a test
+abbrev pub MarksOfSignals : (ℕ → SignalEntry → Bool) → List Bool → List SignalEntry → Type 0
+MarksOfSignals test marks es = (n : ℕ) → n < length marks → get_or marks n false ≡ list_any (test n) es
+
+-- by the index of the satellite, and by the number of the code
+pub record HasSystemSignals (s : SystemSignals) (es : List SignalEntry) : Type 0 where
+  pub satellites_size : length s.satellites ≡ 222
+  pub satellites : MarksOfSignals gives_index s.satellites es
+  pub codes_size : length s.codes ≡ 69
+  pub codes : MarksOfSignals gives_number s.codes es
+
+-- whether a code of another system than GPS has a value
+abbrev pub any_codes_held : SystemSignals → AnyCode → Bool
+any_codes_held s c = get_or s.codes (any_code.number_of c) false
+
+-- what is held of messages of one number
+pub record HasSystemMsm (p : SystemMsm) (own : List AnyMessage) : Type 0 where
+  pub messages : p.messages ≡ shown_count (length own)
+  pub epochs : p.epochs ≡ epochs_so_far (times_beside own)
+  pub signals : HasSystemSignals p.signals (cells_beside own)
+
+-- of a number without an entry no message came
+abbrev pub IsMsmKept : List AnyMessage → Option SystemMsm → Type 0
+IsMsmKept own None = own ≡ []
+IsMsmKept own (Some p) = HasSystemMsm p own
+
+-- each number has its own messages
+abbrev pub HasSystems : BTreeMap ℕ SystemMsm → List AnyMessage → Type 0
+HasSystems parts ms = (n : ℕ) → IsMsmKept (messages_beside n ms) (get nat_cmp parts n)
+
+abbrev pub messages_of_msm : Option SystemMsm → ℕ
+messages_of_msm None = 0
+messages_of_msm (Some p) = p.messages
+
+abbrev pub epochs_of_msm : Option SystemMsm → ℕ
+epochs_of_msm None = 0
+epochs_of_msm (Some p) = p.epochs.count
+
+-- how many epochs of the messages of a number have a value
+abbrev pub system_epochs_held : StationSurvey → ℕ → ℕ
+system_epochs_held s n = epochs_of_msm (get nat_cmp s.system_msm n)
+
 -- ---- a station
 
 pub record CountsMessages (s : MessageCounts) (ms : List AnyMessage) : Type 0 where
@@ -132,10 +187,26 @@ pub record IsStationOf (ms : List AnyMessage) (d : StationDates) (e : Equipment)
   pub times : s.times ≡ times_of (times_of_week ms)
   pub signals : HasSignals s.signals (entries_in ms)
   pub msm : HasMsms s.msm ms
+  pub system_signals : HasSystemSignals s.system_signals (cells_beside ms)
+  pub system_msm : HasSystems s.system_msm ms
+  pub channels : CountsChannels s.channels.items ms
+  pub clocks : clocks_at s.clocks ≡ clocks_of ms
   pub point : s.reference_point ≡ first_point ms
   pub far : s.far_point ≡ far_point ms
   pub dates : s.dates ≡ d
   pub equipment : equipment_at s.equipment ≡ e
+
+-- table
+-- how many messages of a number a station has
+abbrev pub messages_held : StationSurvey → ℕ → ℕ
+messages_held s n =
+    if n == 1004 then s.counts.obs_1004 else
+    if n == 1005 then s.counts.arp_1005 else
+    if n == 1006 then s.counts.arp_1006 else
+    if n == 1074 then s.msm.msm4.messages else
+    if n == 1075 then s.msm.msm5.messages else
+    if n == 1076 then s.msm.msm6.messages else
+    if n == 1077 then s.msm.msm7.messages else messages_of_msm (get nat_cmp s.system_msm n)
 
 -- of a station without an entry nothing came
 abbrev pub IsHeard : List AnyMessage → StationDates → Equipment → Option StationSurvey → Type 0
@@ -152,12 +223,36 @@ AreStations ms ds es stations =
 abbrev pub CountsWeeks : BTreeMap ℕ ℕ → List DateMessage → Type 0
 CountsWeeks weeks ds = (n : ℕ) → count_at weeks n ≡ count_of (is_of_week n) ds
 
+-- how many messages of a number name each week of a system
+abbrev pub CountsSystemWeeks : ℕ → BTreeMap ℕ ℕ → List SystemMessage → Type 0
+CountsSystemWeeks number weeks ts = (n : ℕ) → count_at weeks n ≡ count_of (names_week number n) ts
+
+-- how many messages of each number came that are of another system than GPS
+abbrev pub CountsBeside : BTreeMap ℕ ℕ → List AnyMessage → Type 0
+CountsBeside counts ms = (n : ℕ) → count_at counts n ≡ count_of (is_beside_numbered n) ms
+
+-- formula
+-- how many messages of a number came that a conversion of GPS does not read
+abbrev pub others_held : Contents → ℕ → ℕ
+others_held c n = shown_count (count_at c.unread.others n + count_at c.beside n)
+
+-- what 1042, 1045, 1046, 1020 and 1013 tell
+pub record HasSystemTellings (t : SystemTellings) (ts : List SystemMessage) : Type 0 where
+  pub of_1042 : CountsSystemWeeks 1042 t.weeks_1042 ts
+  pub of_1045 : CountsSystemWeeks 1045 t.weeks_1045 ts
+  pub of_1046 : CountsSystemWeeks 1046 t.weeks_1046 ts
+  pub channels : CountsSlots t.channels.items ts
+  pub leap : HasLeapRanges t.leap_seconds ts
+
 -- what is held of these frames, and of a station if it is asked for
 pub record HoldsFrames (q : Option Target) (fs : List ReadFrame) (c : Contents) : Type 0 where
   pub frames : c.frames ≡ shown_count (length fs)
   pub framed : c.framed ≡ shown_count (bytes_in fs)
   pub stations : AreStations (messages_in fs) (dates_in fs) (equipment_among fs) c.stations
   pub codes : HasCodes c.codes (entries_in (messages_in fs))
+  pub system_signals : HasSystemSignals c.system_signals (cells_beside (messages_in fs))
   pub weeks : CountsWeeks c.weeks (dates_in fs)
+  pub system_tellings : HasSystemTellings c.system_tellings (system_messages_in fs)
   pub unread : CountsFaults c.unread (faults_in fs)
+  pub beside : CountsBeside c.beside (messages_in fs)
   pub target : IsAnswer q fs c.target

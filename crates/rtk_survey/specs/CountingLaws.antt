@@ -12,13 +12,14 @@ use Rattle.rtk_message.specs.declared.any_fault.AnyFault.{AnyFault}
 use Rattle.rtk_message.specs.declared.msm_kind.MsmKind.{MsmKind}
 use Rattle.rtk_message.specs.Accepted.{accepts}
 use Rattle.rtk_message.specs.AnyDecoded.{number_of}
+use Rattle.rtk_survey.specs.BesideGps.{messages_beside, cells_beside, times_beside}
 use Rattle.rtk_survey.specs.FrameDates.{dates_in, station_dates, proposed_date}
 use Rattle.rtk_survey.specs.FrameEquipment.{equipment_among}
 use Rattle.rtk_survey.specs.NumberLaws.{IsHeld}
 use Rattle.rtk_survey.specs.Proposal.{epochs_in, times_with_value, entries_with}
 use Rattle.rtk_survey.specs.ReadFrames.{messages_read, ReadFrame, bytes_in, messages_in, faults_in, messages_from}
 use Rattle.rtk_survey.specs.Summary.{station_lines, stations_text, weeks_text, unread_lines, summary_text, AreFramesOf}
-use Rattle.rtk_survey.specs.SummaryText.{numbered_line, near_text, proposal_lines, untaken_numbers}
+use Rattle.rtk_survey.specs.SummaryText.{numbered_line, message_numbers, near_text, proposal_lines, untaken_numbers}
 use Rattle.rtk_survey.specs.Tracing.{is_numbered, is_other, times_of_week, changes_in, entries_in, has_code}
 use Rattle.rtk_survey.specs.declared.station_dates.StationDates.{StationDates}
 
@@ -38,11 +39,9 @@ pub record FramesAreCounted (bytes : List ℕ) (fs : List ReadFrame) : Type 0 wh
 abbrev pub EachFrameIsCounted : Type 0
 EachFrameIsCounted = (bytes : List ℕ) (fs : List ReadFrame) → AreFramesOf bytes fs → FramesAreCounted bytes fs
 
--- each message that is read is counted under one of the seven numbers
+-- each message is counted under one of the numbers that have a line
 abbrev pub EachMessageIsCounted : Type 0
-EachMessageIsCounted =
-    (ms : List AnyMessage) → AllByRecursion IsReadMessage ms
-    → sum_by (λ n. count_by (is_numbered n) ms) (1004 ∷ 1005 ∷ 1006 ∷ 1074 ∷ 1075 ∷ 1076 ∷ 1077 ∷ []) ≡ length ms
+EachMessageIsCounted = (ms : List AnyMessage) → sum_by (λ n. count_by (is_numbered n) ms) message_numbers ≡ length ms
 
 -- ---- all are taken alike, whatever came before
 
@@ -58,6 +57,9 @@ pub record AreTakenAlike (later before : List AnyMessage) : Type 0 where
   pub with_value : (kind : MsmKind) → times_with_value kind (later ++ before) ≡ times_with_value kind later ++ times_with_value kind before
   pub entries : entries_in (later ++ before) ≡ entries_in later ++ entries_in before
   pub entries_taken : (kind : MsmKind) → entries_with kind (later ++ before) ≡ entries_with kind later ++ entries_with kind before
+  pub beside : (n : ℕ) → messages_beside n (later ++ before) ≡ messages_beside n later ++ messages_beside n before
+  pub times_beside_gps : times_beside (later ++ before) ≡ times_beside later ++ times_beside before
+  pub cells_beside_them : cells_beside (later ++ before) ≡ cells_beside later ++ cells_beside before
 
 abbrev pub MessagesAreTakenAlike : Type 0
 MessagesAreTakenAlike = (later before : List AnyMessage) → AreTakenAlike later before

@@ -1,4 +1,8 @@
+pub mod BesideGps
 pub mod CaptureDates
+pub mod Chains
+pub mod Channels
+pub mod ClockLines
 pub mod Contents
 pub mod Counting
 pub mod CountingLaws
@@ -25,6 +29,8 @@ pub mod Steps
 pub mod Summary
 pub mod SummaryText
 pub mod Surveys
+pub mod SystemMessages
+pub mod SystemTellings
 pub mod Targets
 pub mod Telling
 pub mod Tracing

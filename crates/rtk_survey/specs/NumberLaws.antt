@@ -11,7 +11,7 @@ use Rattle.rtk_obs.specs.declared.code.Code.{Code}
 use Rattle.rtk_survey.specs.Proposal.{epochs_in, times_with_value, epochs_with_value, proposed}
 use Rattle.rtk_survey.specs.ReadFrames.{ReadFrame, bytes_in}
 use Rattle.rtk_survey.specs.Summary.{station_lines, unread_lines, summary_text}
-use Rattle.rtk_survey.specs.SummaryText.{number_line, counted_line, numbered_line, time_lines, codes_text, proposal_lines}
+use Rattle.rtk_survey.specs.SummaryText.{number_line, counted_line, numbered_line, message_numbers, time_lines, codes_text, proposal_lines}
 use Rattle.rtk_survey.specs.Tracing.{is_numbered, is_other, is_short, is_outside_week, is_no_number, is_too_many_cells, times_of_week, oldest_time, newest_time, changes_in}
 use Rattle.rtk_survey.specs.declared.station_dates.StationDates.{StationDates}
 
@@ -82,7 +82,7 @@ SummaryTellsFrames =
 -- many changes of the epoch
 pub record StationsAreAlike (station : ℕ) (ms : List AnyMessage) (other : ℕ) (ns : List AnyMessage) : Type 0 where
   pub number : station ≡ other
-  pub counts : AllByRecursion (λ n. count_by (is_numbered n) ms ≡ count_by (is_numbered n) ns) (1004 ∷ 1005 ∷ 1006 ∷ 1074 ∷ 1075 ∷ 1076 ∷ 1077 ∷ [])
+  pub counts : AllByRecursion (λ n. count_by (is_numbered n) ms ≡ count_by (is_numbered n) ns) message_numbers
   pub times : TimesAreAlike (times_of_week ms) (times_of_week ns)
 
 abbrev pub StationLinesTell : Type 0

@@ -9,14 +9,20 @@ use Rattle.rtk_survey.specs.declared.equipment.Equipment.{Equipment}
 use Rattle.rtk_survey.specs.declared.equipment_message.EquipmentMessage.{EquipmentMessage}
 use Rattle.rtk_message.specs.declared.any_message.AnyMessage.{AnyMessage}
 use Rattle.rtk_message.specs.declared.any_fault.AnyFault.{AnyFault}
+use Rattle.rtk_survey.specs.BesideGps.{messages_beside, cells_beside, has_index, has_any_code, times_beside}
+use Rattle.rtk_survey.specs.Chains.{clocks_of}
+use Rattle.rtk_survey.specs.Channels.{place_is_told}
+use Rattle.rtk_survey.specs.ClockLines.{clock_lines}
 use Rattle.rtk_survey.specs.Counting.{shown_count, count_of}
 use Rattle.rtk_survey.specs.FrameDates.{dates_in, station_dates, proposed_date, is_of_week}
 use Rattle.rtk_survey.specs.FrameEquipment.{equipment_among, is_mentioned, told_lines}
-use Rattle.rtk_survey.specs.Proposal.{epochs_with_value, entries_with}
+use Rattle.rtk_survey.specs.Proposal.{epochs_in, epochs_with_value, entries_with}
 use Rattle.rtk_survey.specs.ReadFrames.{ReadFrame, ReadsFrames, bytes_in, messages_in, faults_in, messages_from}
 use Rattle.rtk_survey.specs.Tracing.{is_numbered, is_other, is_short, is_outside_week, is_no_number, is_too_many_cells, times_of_week, entries_in, has_satellite, has_code}
-use Rattle.rtk_survey.specs.SummaryText.{number_line, counted_line, numbered_line, time_lines, week_line, look_line, signal_lines, near_text, proposal_lines, codes_text, nothing_line, untaken_numbers}
+use Rattle.rtk_survey.specs.SummaryText.{number_line, counted_line, numbered_line, message_lines, system_epoch_lines, channel_line, time_lines, week_line, system_week_line, look_line, signal_lines, near_text, proposal_lines, all_codes_text, nothing_line, untaken_numbers}
+use Rattle.rtk_survey.specs.SystemTellings.{system_messages_in, names_week}
 use Rattle.rtk_survey.specs.declared.station_dates.StationDates.{StationDates}
+use Rattle.rtk_survey.specs.declared.system_message.SystemMessage.{SystemMessage}
 
 -- table
 -- the numbers of stations and of messages, of 12 bits
@@ -24,21 +30,22 @@ use Rattle.rtk_survey.specs.declared.station_dates.StationDates.{StationDates}
 unfoldable pub all_numbers : List ℕ
 all_numbers = range_with_len 0 4096
 
+-- how many epochs of the messages of a number of another system than GPS have a value
+abbrev pub epochs_beside : List AnyMessage → ℕ → ℕ
+epochs_beside ms n = shown_count (epochs_in (times_beside (messages_beside n ms)))
+
 -- formula
 -- the lines of a station in the file of this name, of which these messages came, with what others told of it
 unfoldable pub station_lines : List ℕ → ℕ → List AnyMessage → StationDates → Equipment → List ℕ
 station_lines name station ms d e =
     number_line (codes "station ") station
-    ++ counted_line (codes " message 1004 ") (count_of (is_numbered 1004) ms)
-    ++ counted_line (codes " message 1005 ") (count_of (is_numbered 1005) ms)
-    ++ counted_line (codes " message 1006 ") (count_of (is_numbered 1006) ms)
-    ++ counted_line (codes " message 1074 ") (count_of (is_numbered 1074) ms)
-    ++ counted_line (codes " message 1075 ") (count_of (is_numbered 1075) ms)
-    ++ counted_line (codes " message 1076 ") (count_of (is_numbered 1076) ms)
-    ++ counted_line (codes " message 1077 ") (count_of (is_numbered 1077) ms)
+    ++ message_lines (λ n. count_of (is_numbered n) ms)
     ++ time_lines (times_of_week ms)
     ++ told_lines d e
-    ++ signal_lines (has_satellite (entries_in ms)) (has_code (entries_in ms))
+    ++ signal_lines (has_satellite (entries_in ms)) (has_code (entries_in ms)) (has_index (cells_beside ms)) (has_any_code (cells_beside ms))
+    ++ system_epoch_lines (epochs_beside ms)
+    ++ channel_line (place_is_told ms)
+    ++ clock_lines (clocks_of ms).offsets
     ++ proposal_lines name (near_text (proposed_date d)) station (λ kind. epochs_with_value kind ms) (λ kind. has_code (entries_with kind ms))
 
 -- a station of which no message came, and which no other one mentions, has no lines
@@ -53,6 +60,16 @@ stations_text name ms ds es = flat_map (λ s. lines_if_any name s (messages_from
 -- the weeks modulo 1,024 that 1019 name, rising
 unfoldable pub weeks_text : List DateMessage → List ℕ
 weeks_text ds = flat_map (λ w. week_line w (count_of (is_of_week w) ds)) (range_with_len 0 1024)
+
+-- formula
+-- the weeks below this one that messages of this number name, rising
+unfoldable pub weeks_text_of : ℕ → ℕ → List SystemMessage → List ℕ
+weeks_text_of number below ts = flat_map (λ w. system_week_line number w (count_of (names_week number w) ts)) (range_with_len 0 below)
+
+-- formula
+-- the weeks of BeiDou that 1042 name, modulo 8,192, and those of Galileo that 1045 and 1046 name, modulo 4,096
+abbrev pub system_weeks_text : List SystemMessage → List ℕ
+system_weeks_text ts = weeks_text_of 1042 8192 ts ++ weeks_text_of 1045 4096 ts ++ weeks_text_of 1046 4096 ts
 
 -- formula
 -- the payloads that are not read: other messages, those with GPS observations named once more, and
@@ -79,8 +96,9 @@ size_lines size fs =
 unfoldable pub summary_text : List ℕ → List ℕ → List ReadFrame → List ℕ
 summary_text name bytes fs =
     size_lines (length bytes) fs ++ look_line (length fs) (take 512 bytes)
-    ++ stations_text name (messages_in fs) (dates_in fs) (equipment_among fs) ++ weeks_text (dates_in fs) ++ unread_lines (faults_in fs)
-    ++ nothing_line (codes_text (has_code (entries_in (messages_in fs))))
+    ++ stations_text name (messages_in fs) (dates_in fs) (equipment_among fs) ++ weeks_text (dates_in fs)
+    ++ system_weeks_text (system_messages_in fs) ++ unread_lines (faults_in fs)
+    ++ nothing_line (all_codes_text (has_code (entries_in (messages_in fs))) (has_any_code (cells_beside (messages_in fs))))
 
 -- these are all the frames of a capture, newest first
 abbrev pub AreFramesOf : List ℕ → List ReadFrame → Type 0

@@ -1,6 +1,6 @@
 -- The lines of a summary (this project's rule): a keyword at the head of each, those of a station
 -- after a blank.
-use Rattle.std.specs.Prelude.{ℕ, ◌+◌, ◌/◌, ◌%◌, ◌==◌, nat_eq, Bool, not, ◌&&◌, List, [], ◌∷◌, ◌++◌, filter, flat_map, codes, decimal, Option, None, Some, if◌then◌else◌}
+use Rattle.std.specs.Prelude.{ℕ, ◌+◌, ◌-◌, ◌/◌, ◌%◌, ◌==◌, nat_eq, nat_lt, Bool, not, ◌&&◌, List, [], ◌∷◌, ◌++◌, filter, flat_map, codes, decimal, Option, None, Some, if◌then◌else◌}
 use Rattle.std.specs.Cmp.Lexicographic.{pointwise}
 use Rattle.std.specs.List.{range_with_len}
 use Rattle.rtk_survey.specs.Telling.{moment_of}
@@ -9,11 +9,14 @@ use Rattle.rtk_message.specs.ShellText.{sh_quoted}
 use Rattle.rtk_message.specs.declared.msm_kind.MsmKind.{MsmKind}
 use Rattle.rtk_message.specs.declared.msm_kind.MsmKind.TheVariants.{Msm4, Msm5, Msm6, Msm7}
 use Rattle.rtk_message.specs.Systems.{number_of_kind}
+use Rattle.rtk_obs.specs.declared.any_code.AnyCode.{AnyCode}
 use Rattle.rtk_obs.specs.declared.code.Code.{Code}
 use Rattle.rtk_obs.specs.declared.code.Code.TheVariants.{G2P, G2W}
 use Rattle.rtk_obs.specs.CivilText.{last_digits, date_text, clock_text}
+use Rattle.rtk_obs.specs.AnyCode.{text_of, all_any_codes}
 use Rattle.rtk_obs.specs.Code.{name_of, all_codes}
 use Rattle.rtk_obs.specs.Reading.{reading_of}
+use Rattle.rtk_obs.specs.SatelliteIndex.{index_name}
 use Rattle.rtk_survey.specs.Counting.{shown_count}
 use Rattle.rtk_survey.specs.Look.{look_of, look_name}
 use Rattle.rtk_survey.specs.Proposal.{proposed}
@@ -46,6 +49,33 @@ or_hyphen (x ∷ xs) = x ∷ xs
 abbrev pub list_line : List ℕ → List ℕ → List ℕ
 list_line words list = words ++ or_hyphen list ++ 10 ∷ []
 
+-- ---- messages
+
+-- table
+-- the messages that are read: 1004 to 1006, and MSM4 to MSM7 of all systems
+-- Source: RTCM 10403.3, DF002
+abbrev pub message_numbers : List ℕ
+message_numbers =
+    1004 ∷ 1005 ∷ 1006 ∷ 1074 ∷ 1075 ∷ 1076 ∷ 1077 ∷ 1084 ∷ 1085 ∷ 1086 ∷ 1087 ∷ 1094 ∷ 1095 ∷ 1096 ∷ 1097 ∷
+    1104 ∷ 1105 ∷ 1106 ∷ 1107 ∷ 1114 ∷ 1115 ∷ 1116 ∷ 1117 ∷ 1124 ∷ 1125 ∷ 1126 ∷ 1127 ∷ 1134 ∷ 1135 ∷ 1136 ∷ 1137 ∷ []
+
+-- table
+-- those of other systems than GPS
+abbrev pub beside_numbers : List ℕ
+beside_numbers =
+    1084 ∷ 1085 ∷ 1086 ∷ 1087 ∷ 1094 ∷ 1095 ∷ 1096 ∷ 1097 ∷ 1104 ∷ 1105 ∷ 1106 ∷ 1107 ∷
+    1114 ∷ 1115 ∷ 1116 ∷ 1117 ∷ 1124 ∷ 1125 ∷ 1126 ∷ 1127 ∷ 1134 ∷ 1135 ∷ 1136 ∷ 1137 ∷ []
+
+-- formula
+-- how many messages of each number there are
+unfoldable pub message_lines : (ℕ → ℕ) → List ℕ
+message_lines count = flat_map (λ n. numbered_line (codes " message ") n (count n)) message_numbers
+
+-- formula
+-- how many epochs with a value the messages of each number of another system than GPS have
+unfoldable pub system_epoch_lines : (ℕ → ℕ) → List ℕ
+system_epoch_lines epochs = flat_map (λ n. numbered_line (codes " epochs ") n (epochs n)) beside_numbers
+
 -- ---- times
 
 -- formula
@@ -56,7 +86,7 @@ time_line (Some first) None = codes " time-of-week -\n"
 time_line (Some first) (Some last) = codes " time-of-week " ++ decimal first ++ codes " " ++ decimal last ++ 10 ∷ []
 
 -- formula
--- the lines of the times of a station's observation messages, newest first
+-- the lines of the times of a station's observation messages of GPS, newest first
 abbrev pub time_lines : List ℕ → List ℕ
 time_lines ts =
     time_line (oldest_time ts) (newest_time ts)
@@ -87,6 +117,11 @@ date_lines d = date_line 1013 d.of_1013 ++ date_line 1029 d.of_1029
 -- a week modulo 1,024, and how many 1019 name it
 abbrev pub week_line : ℕ → ℕ → List ℕ
 week_line week n = counted_line (codes "week " ++ decimal week ++ codes " 1019 ") n
+
+-- formula
+-- a week of a system, and how many messages of this number name it
+abbrev pub system_week_line : ℕ → ℕ → ℕ → List ℕ
+system_week_line number week n = counted_line (codes "week " ++ decimal week ++ codes " " ++ decimal number ++ codes " ") n
 
 -- formula
 -- what a file without a frame looks like, by its first bytes
@@ -126,9 +161,73 @@ abbrev pub second_frequency_line : (Code → Bool) → List ℕ
 second_frequency_line test = if test G2P && not (test G2W) then codes " second-frequency 2P\n" else []
 
 -- formula
-unfoldable pub signal_lines : (ℕ → Bool) → (Code → Bool) → List ℕ
-signal_lines satellite code =
-    list_line (codes " satellites") (satellites_text satellite) ++ list_line (codes " codes") (codes_text code)
+-- the satellite of another system than GPS with this index after a blank, if it has a value
+abbrev pub listed_index : (ℕ → Bool) → ℕ → List ℕ
+listed_index test n = if test n then 32 ∷ index_name n else []
+
+-- formula
+-- the satellites of other systems than GPS that have a value, in the order of the index
+unfoldable pub indices_text : (ℕ → Bool) → List ℕ
+indices_text test = flat_map (listed_index test) (range_with_len 33 189)
+
+-- formula
+-- the names of codes with the letters of their systems, the first after this separator and each other one after a comma
+abbrev pub joined_texts : ℕ → List AnyCode → List ℕ
+joined_texts separator [] = []
+joined_texts separator (c ∷ cs) = separator ∷ text_of c ++ joined_texts 44 cs
+
+-- formula
+-- what separates a name from those before it: a comma, or a blank if there is none
+abbrev pub separator_behind : List ℕ → ℕ
+separator_behind [] = 32
+separator_behind (x ∷ xs) = 44
+
+-- formula
+-- the codes of other systems than GPS that have a value, as an option lists them behind those of GPS
+unfoldable pub any_codes_text : List ℕ → (AnyCode → Bool) → List ℕ
+any_codes_text before test = joined_texts (separator_behind before) (filter test all_any_codes)
+
+-- formula
+-- the codes of all systems that have a value, as an option lists them, after a blank
+unfoldable pub all_codes_text : (Code → Bool) → (AnyCode → Bool) → List ℕ
+all_codes_text code other = codes_text code ++ any_codes_text (codes_text code) other
+
+-- formula
+-- the satellites and codes of GPS, and those of other systems, by the tests which of them have a value
+unfoldable pub signal_lines : (ℕ → Bool) → (Code → Bool) → (ℕ → Bool) → (AnyCode → Bool) → List ℕ
+signal_lines satellite code index other =
+    list_line (codes " satellites") (satellites_text satellite ++ indices_text index) ++ list_line (codes " codes") (all_codes_text code other)
+
+-- ---- channels of GLONASS, by the test which messages tell
+
+-- formula
+-- the channel that a field tells (DF419): 7 less
+abbrev pub field_channel_text : ℕ → List ℕ
+field_channel_text field = if nat_lt field 7 then 45 ∷ (48 + (7 - field)) ∷ [] else (48 + (field - 7)) ∷ []
+
+-- formula
+-- a slot and a channel, as in 10:-5, by the place of the slot and the field
+abbrev pub told_channel_text : ℕ → List ℕ
+told_channel_text place = decimal (place / 14) ++ 58 ∷ field_channel_text (place % 14)
+
+-- formula
+abbrev pub joined_channels : ℕ → List ℕ → List ℕ
+joined_channels separator [] = []
+joined_channels separator (p ∷ ps) = separator ∷ told_channel_text p ++ joined_channels 44 ps
+
+-- formula
+-- the channels of slots 1 to 27 that messages tell, as an option lists them; a slot with several is named with each
+unfoldable pub told_channels_text : (ℕ → Bool) → List ℕ
+told_channels_text told = joined_channels 32 (filter told (range_with_len 14 378))
+
+-- formula
+-- without a channel there is no line
+abbrev pub line_if_some : List ℕ → List ℕ → List ℕ
+line_if_some words [] = []
+line_if_some words (x ∷ xs) = words ++ (x ∷ xs) ++ 10 ∷ []
+
+unfoldable pub channel_line : (ℕ → Bool) → List ℕ
+channel_line told = line_if_some (codes " channels") (told_channels_text told)
 
 -- ---- the commands that convert a station, by how many epochs of each MSM have a value, and by the
 -- codes that `convert` takes with each

@@ -1,10 +1,11 @@
 -- What the messages of a station tell of it: their numbers, their times, and the satellites and
 -- codes with a value. Lists of messages and times are newest first.
-use Rattle.std.specs.Prelude.{ℕ, ◌+◌, ◌==◌, Bool, true, false, ◌&&◌, ◌||◌, List, [], ◌∷◌, flat_map, Option, None, Some, unwrap_or, is_some, if◌then◌else◌}
+use Rattle.std.specs.Prelude.{ℕ, ◌+◌, ◌==◌, Bool, true, false, not, ◌&&◌, ◌||◌, List, [], ◌∷◌, flat_map, Option, None, Some, unwrap_or, is_some, if◌then◌else◌}
 use Rattle.std.specs.List.{list_any, filter_map}
 use Rattle.rtk_message.specs.declared.any_message.AnyMessage.{AnyMessage}
 use Rattle.rtk_message.specs.declared.any_fault.AnyFault.{AnyFault}
 use Rattle.rtk_message.specs.declared.any_fault.AnyFault.TheVariants.{NoNumber, Other, Short, EpochRange, TooManyCells}
+use Rattle.rtk_message.specs.Accepted.{of_gps, all_kinds, accepts}
 use Rattle.rtk_message.specs.AnyDecoded.{number_of, tow_of}
 use Rattle.rtk_obs.specs.declared.cell.Cell.{Cell}
 use Rattle.rtk_obs.specs.declared.cell.CellEntry.{CellEntry}
@@ -15,6 +16,14 @@ use Rattle.rtk_obs.specs.MessageCells.{cells_of}
 -- the message has this number (DF002)
 abbrev pub is_numbered : ℕ → AnyMessage → Bool
 is_numbered n m = number_of m == n
+
+-- a number of the messages of GPS and of stations: 1004 to 1006 and 1074 to 1077 (DF002)
+abbrev pub is_gps_number : ℕ → Bool
+is_gps_number n = accepts (of_gps all_kinds) n
+
+-- an MSM of another system than GPS
+abbrev pub is_beside_gps : AnyMessage → Bool
+is_beside_gps m = not (is_gps_number (number_of m))
 
 -- ---- payloads that are no message
 
@@ -44,9 +53,13 @@ is_too_many_cells n _ = false
 
 -- ---- times
 
--- the times of week of the observation messages (DF004)
+-- the time of week of a message of GPS (DF004)
+abbrev pub gps_time_of : AnyMessage → Option ℕ
+gps_time_of m = if is_gps_number (number_of m) then tow_of m else None
+
+-- the times of week of the observation messages of GPS
 abbrev pub times_of_week : List AnyMessage → List ℕ
-times_of_week ms = filter_map tow_of ms
+times_of_week ms = filter_map gps_time_of ms
 
 abbrev pub newest_time : List ℕ → Option ℕ
 newest_time [] = None

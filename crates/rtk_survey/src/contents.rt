@@ -4,25 +4,32 @@ ghost use Rattle.std.specs.Prelude.{◌≡◌, ◌+◌, ◌∷◌, [], List, ℕ
 ghost use Rattle.std.specs.List.{cons_option};
 ghost use Rattle.rtk_bits.specs.Bits.{bits};
 ghost use Rattle.rtk_message.specs.declared.any_message.AnyMessage.{AnyMessage};
-ghost use Rattle.rtk_survey.specs.Contents.{AreStations, CountsWeeks, HoldsFrames};
+ghost use Rattle.rtk_survey.specs.BesideGps.{cells_beside_gps};
+ghost use Rattle.rtk_survey.specs.Contents.{AreStations, CountsBeside, CountsWeeks, HasSystemTellings, HoldsFrames, others_held};
 ghost use Rattle.rtk_survey.specs.Counting.{shown_count};
 ghost use Rattle.rtk_survey.specs.DateMessages.{date_in};
 ghost use Rattle.rtk_survey.specs.EquipmentMessages.{equipment_in};
 ghost use Rattle.rtk_survey.specs.ReadFrames.{ReadFrame, read_frame};
+ghost use Rattle.rtk_survey.specs.SystemMessages.{system_message_in};
 ghost use Rattle.rtk_survey.specs.Tracing.{entries_of_message};
 ghost use Rattle.rtk_survey.specs.declared.date_message.DateMessage.{DateMessage};
 ghost use Rattle.rtk_survey.specs.declared.equipment_message.EquipmentMessage.{EquipmentMessage};
+ghost use Rattle.rtk_survey.specs.declared.system_message.SystemMessage.{SystemMessage};
 ghost use Rattle.rtk_survey.specs.declared.target.Target.{Target};
 
+use crate::beside_gps::is_beside_gps;
 use crate::date_message::{DateMessage, date_in};
 use crate::equipment_message::equipment_in;
 use crate::signals::Codes;
 use crate::station::StationSurvey;
 use crate::stations::{take_date, take_equipment, take_message};
+use crate::system_message::system_message_in;
+use crate::system_signals::SystemSignals;
+use crate::system_tellings::SystemTellings;
 use crate::target::{Target, TargetSurvey, answer_to, take_target_fault, take_target_message};
-use crate::unread::{Unread, count_number};
+use crate::unread::{Unread, count_number, count_of_number};
 use rtk_message::{AnyFault, AnyMessage};
-use rtk_obs::CellEntry;
+use rtk_obs::{CellEntry, SignalEntry};
 use std::alloc::{AllocError, Global};
 use std::collections::BTreeMap;
 
@@ -34,11 +41,17 @@ pub struct Contents {
     pub framed: u64,
     /// The stations that were heard, by number (DF003).
     pub stations: BTreeMap<u16, StationSurvey>,
-    /// The codes of all stations.
+    /// The codes of GPS of all stations.
     pub codes: Codes,
+    /// The satellites and codes of other systems of all stations.
+    pub system_signals: SystemSignals,
     /// How many 1019 name each week modulo 1,024 (DF076).
     pub weeks: BTreeMap<u16, u64>,
+    /// What 1042, 1045, 1046, 1020 and 1013 tell.
+    pub system_tellings: SystemTellings,
     pub unread: Unread,
+    /// How many MSM of other systems than GPS came, by number (DF002).
+    pub beside: BTreeMap<u16, u64>,
     /// What they tell of the station of a conversion, if it is asked for.
     pub target: Option<TargetSurvey>,
 }
@@ -93,6 +106,43 @@ fn take_equipment_in(
     }
 }
 
+// Takes what a payload tells of weeks, channels or leap seconds, if it is such a message.
+fn take_tellings_in(
+    alloc: Global,
+    tellings: &mut SystemTellings,
+    payload: &[u8],
+) -> Result<(), AllocError>
+    ensures { OnOk result ((ts : List SystemMessage) → HasSystemTellings tellings.old ts
+        → HasSystemTellings tellings.new (cons_option (system_message_in (bits payload.now)) ts)) }
+{
+    match system_message_in(payload) {
+        Some(message) => tellings.take(alloc, &message),
+        None => Ok(()),
+    }
+}
+
+// Counts a message of another system than GPS.
+fn count_beside(
+    counts: &mut BTreeMap<u16, u64>,
+    message: &AnyMessage,
+) -> Result<(), AllocError>
+    ensures { OnOk result ((ms : List AnyMessage) → CountsBeside counts.old ms → CountsBeside counts.new (message.now ∷ ms)) }
+{
+    if is_beside_gps(message) {
+        count_number(counts, message.number())
+    } else {
+        Ok(())
+    }
+}
+
+/// How many messages of a number came that a conversion of GPS does not read.
+pub fn others_numbered(contents: &Contents, number: u16) -> u64
+    ensures { result ≡ others_held contents.now number }
+{
+    let others = count_of_number(&contents.unread.others, number);
+    others.saturating_add(count_of_number(&contents.beside, number))
+}
+
 impl Contents {
     /// No frame came.
     pub(crate) fn new(alloc: Global, target: Option<Target>) -> Contents
@@ -103,21 +153,27 @@ impl Contents {
             framed: 0,
             stations: BTreeMap::new(alloc),
             codes: Codes::new(),
+            system_signals: SystemSignals::new(),
             weeks: BTreeMap::new(alloc),
+            system_tellings: SystemTellings::new(alloc),
             unread: Unread::new(alloc),
+            beside: BTreeMap::new(alloc),
             target: answer_to(alloc, target),
         }
     }
 
-    /// A frame more, whose payload is this message with these cells.
+    /// A frame more, whose payload is this message with these cells: those of GPS, and those of other
+    /// systems.
     pub(crate) fn take_message(
         &mut self,
         alloc: Global,
         payload: &[u8],
         message: &AnyMessage,
         entries: &[CellEntry],
+        signals: &[SignalEntry],
     ) -> Result<(), AllocError>
-        requires { entries.now ≡ entries_of_message message.now }
+        requires entries { entries.now ≡ entries_of_message message.now }
+        requires signals { signals.now ≡ cells_beside_gps message.now }
         ensures { OnOk result ((q : Option Target) (before : List ReadFrame) → HoldsFrames q before self.old
             → HoldsFrames q (read_frame payload.now (Ok message.now) ∷ before) self.new) }
     {
@@ -126,7 +182,16 @@ impl Contents {
         self.framed = self.framed.saturating_add(payload.len() as u64 + 6);
         let codes = Codes::of(entries);
         self.codes.join(&codes);
-        take_message(alloc, &mut self.stations, message, entries, &codes)?;
+        self.system_signals.mark_entries(signals);
+        count_beside(&mut self.beside, message)?;
+        take_message(
+            alloc,
+            &mut self.stations,
+            message,
+            entries,
+            &codes,
+            signals,
+        )?;
         take_target_message(alloc, &mut self.target, message, entries, frame)
     }
 
@@ -147,6 +212,7 @@ impl Contents {
         self.unread.count_fault(fault)?;
         take_target_fault(&mut self.target, payload, frame);
         take_dates_in(alloc, &mut self.stations, &mut self.weeks, payload)?;
+        take_tellings_in(alloc, &mut self.system_tellings, payload)?;
         take_equipment_in(alloc, &mut self.stations, payload)
     }
 }

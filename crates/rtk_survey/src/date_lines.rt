@@ -5,13 +5,15 @@
 ghost use Rattle.std.specs.Prelude.{◌≡◌, ◌++◌, List, OnOk};
 ghost use Rattle.rtk_survey.specs.declared.date_message.DateMessage.{DateMessage};
 ghost use Rattle.rtk_obs.specs.Reading.{reading_of};
-ghost use Rattle.rtk_survey.specs.Contents.{CountsWeeks};
-ghost use Rattle.rtk_survey.specs.Summary.{weeks_text};
-ghost use Rattle.rtk_survey.specs.SummaryText.{date_time_text, near_text, first_date_line, date_line, date_lines, week_line};
+ghost use Rattle.rtk_survey.specs.Contents.{CountsSystemWeeks, CountsWeeks, HasSystemTellings};
+ghost use Rattle.rtk_survey.specs.Summary.{weeks_text, weeks_text_of, system_weeks_text};
+ghost use Rattle.rtk_survey.specs.SummaryText.{date_time_text, near_text, first_date_line, date_line, date_lines, week_line, system_week_line};
+ghost use Rattle.rtk_survey.specs.declared.system_message.SystemMessage.{SystemMessage};
 
 use crate::date_message::UtcDate;
 use crate::line::put_line;
 use crate::station_dates::{DateCount, StationDates};
+use crate::system_tellings::SystemTellings;
 use crate::telling::moment_of;
 use crate::unread::count_of_number;
 use rtk_message::put_named;
@@ -21,6 +23,12 @@ use std::collections::BTreeMap;
 
 /// How many weeks there are: DF076 has 10 bits.
 const WEEKS: u16 = 1024;
+
+/// How many weeks of BeiDou there are: DF489 has 13 bits.
+const BEIDOU_WEEKS: u16 = 8192;
+
+/// How many weeks of Galileo there are: DF289 has 12 bits.
+const GALILEO_WEEKS: u16 = 4096;
 
 // The reading of a moment.
 fn reading(moment: GpsMs) -> Civil
@@ -98,4 +106,49 @@ pub(crate) fn put_weeks(lines: &mut Vec<u8>, weeks: &BTreeMap<u16, u64>) -> Resu
         put_week(lines, u64::from(week), count_of_number(weeks, week))?;
     }
     Ok(())
+}
+
+fn put_system_week(
+    lines: &mut Vec<u8>,
+    number: u16,
+    week: u16,
+    count: u64,
+) -> Result<(), AllocError>
+    ensures { OnOk result (lines.new.items ≡ lines.old.items ++ system_week_line number week count) }
+{
+    if count == 0 {
+        return Ok(());
+    }
+    put_named(lines, b"week ", u64::from(week))?;
+    put_named(lines, b" ", u64::from(number))?;
+    put_line(lines, b" ", count)
+}
+
+// Appends a line for each week, below this one, that messages of a number name.
+fn put_weeks_of(
+    lines: &mut Vec<u8>,
+    number: u16,
+    below: u16,
+    weeks: &BTreeMap<u16, u64>,
+) -> Result<(), AllocError>
+    ensures { (ts : List SystemMessage) → CountsSystemWeeks number weeks.now ts
+        → OnOk result (lines.new.items ≡ lines.old.items ++ weeks_text_of number below ts) }
+{
+    for week in 0..below {
+        put_system_week(lines, number, week, count_of_number(weeks, week))?;
+    }
+    Ok(())
+}
+
+/// Appends a line for each week of BeiDou and Galileo that has a count.
+pub(crate) fn put_system_weeks(
+    lines: &mut Vec<u8>,
+    tellings: &SystemTellings,
+) -> Result<(), AllocError>
+    ensures { (ts : List SystemMessage) → HasSystemTellings tellings.now ts
+        → OnOk result (lines.new.items ≡ lines.old.items ++ system_weeks_text ts) }
+{
+    put_weeks_of(lines, 1042, BEIDOU_WEEKS, &tellings.weeks_1042)?;
+    put_weeks_of(lines, 1045, GALILEO_WEEKS, &tellings.weeks_1045)?;
+    put_weeks_of(lines, 1046, GALILEO_WEEKS, &tellings.weeks_1046)
 }

@@ -54,7 +54,7 @@ pub fn summaries_tell_counts()
 {}
 
 /// All frames of a capture are counted, with their bytes, and each is a message that a summary reads or
-/// a fault. Each message that it reads has one of seven numbers.
+/// a fault. Each message that it reads has one of the numbers that have a line.
 pub fn each_frame_is_counted()
     ensures frames { EachFrameIsCounted }
     ensures messages { EachMessageIsCounted }

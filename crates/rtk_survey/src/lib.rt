@@ -4,8 +4,11 @@
 //! A [`CaptureSurvey`] is plain data. A station gets a [`StationSurvey`] with the first frame that
 //! names it, so memory grows with the stations that were heard; if it is refused, the survey is not
 //! made ([`SurveyFault::OutOfMemory`]). A frame costs a look-up among the stations and the work on its
-//! own cells, whatever other stations there are. Sizes that depend on the satellites and codes of a
-//! system stand in `signals.rt` alone.
+//! own cells, whatever other stations there are. Sizes that depend on the satellites and codes of systems
+//! stand in `signals.rt` and `system_signals.rt` alone.
+//!
+//! Of GPS a survey has what its command needs, and of the other systems their messages by number, with
+//! epochs, satellites and codes, the channels of GLONASS, and how far the clocks of systems are apart.
 //!
 //! The definitions go from the frames of a capture (specs/ReadFrames.antt) to what is held of them
 //! (specs/Contents.antt, specs/Surveys.antt) and to the text of a summary (specs/Summary.antt).
@@ -33,7 +36,12 @@
 
 #![tactic(auto)]
 
+mod beside_gps;
 mod capture_dates;
+mod channel_lines;
+mod channels;
+mod clock_chains;
+mod clock_lines;
 mod contents;
 mod counting;
 mod date_laws;
@@ -48,6 +56,7 @@ mod laws;
 mod line;
 mod lines;
 mod look;
+mod message_lines;
 mod msm_parts;
 mod parting;
 mod phases;
@@ -66,14 +75,22 @@ mod stations;
 mod summary;
 mod survey;
 mod survey_fault;
+mod system_message;
+mod system_msm;
+mod system_signals;
+mod system_tellings;
 mod target;
 mod telling;
 mod tellings;
 mod times_of_week;
 mod unread;
 
+pub use beside_gps::{is_beside_gps, told_time};
 pub use capture_dates::CaptureDates;
-pub use contents::Contents;
+pub use channels::count_of_field;
+pub use clock_chains::{ChainClock, ClockOffset, ClockOffsets, ClockSurvey, ClockTold};
+pub use clock_lines::{compared_clocks, told_offset};
+pub use contents::{Contents, others_numbered};
 pub use date_laws::{dates_are_nearest, told_moments_are_nearest};
 pub use date_message::{DateMessage, EphemerisDate, UtcDate, date_in};
 pub use epochs::Epochs;
@@ -100,6 +117,10 @@ pub use station_dates::{DateCount, StationDates};
 pub use summary::summarize;
 pub use survey::CaptureSurvey;
 pub use survey_fault::SurveyFault;
+pub use system_message::{LeapSeconds, SlotChannel, SystemMessage, SystemWeek, system_message_in};
+pub use system_msm::{SystemMsm, epochs_numbered, messages_numbered};
+pub use system_signals::SystemSignals;
+pub use system_tellings::{LeapRange, SystemTellings};
 pub use target::{EquipmentTimes, Target, TargetDates, TargetSurvey};
 pub use telling::{dated, is_date, moment_of, told};
 pub use tellings::{Tellings, Told};

@@ -9,7 +9,7 @@ ghost use Rattle.rtk_survey.specs.Contents.{equipment_at, times_of, CountsFaults
 ghost use Rattle.rtk_survey.specs.Counting.{shown_count};
 ghost use Rattle.rtk_survey.specs.FrameEquipment.{is_mentioned, told_lines};
 ghost use Rattle.rtk_survey.specs.ReadFrames.{ReadFrame};
-ghost use Rattle.rtk_survey.specs.Steps.Tables.{counts_text, untaken_text, counts_held, look_lines};
+ghost use Rattle.rtk_survey.specs.Steps.Tables.{counts_text, untaken_text, look_lines};
 ghost use Rattle.rtk_survey.specs.Summary.{size_lines, lines_if_any, station_lines, stations_text, unread_lines, summary_text};
 ghost use Rattle.rtk_survey.specs.SummaryText.{time_line, time_lines, nothing_line};
 ghost use Rattle.rtk_survey.specs.Surveys.{IsSurveyOf};
@@ -19,13 +19,16 @@ ghost use Rattle.rtk_survey.specs.declared.equipment_message.EquipmentMessage.{E
 ghost use Rattle.rtk_survey.specs.declared.station_dates.StationDates.{StationDates};
 ghost use Rattle.rtk_survey.specs.declared.target.Target.{Target};
 
+use crate::channel_lines::put_channels;
+use crate::clock_lines::put_clocks;
 use crate::contents::Contents;
-use crate::date_lines::{put_dates, put_weeks};
+use crate::date_lines::{put_dates, put_system_weeks, put_weeks};
 use crate::equipment_lines::{is_told, put_equipment};
 use crate::line::{put_counted, put_line, put_numbered};
 use crate::look::Look;
+use crate::message_lines::{put_epochs, put_messages};
 use crate::proposal_lines::put_proposal;
-use crate::signal_lines::{codes_text, put_signals};
+use crate::signal_lines::{all_codes_text, put_signals};
 use crate::station::StationSurvey;
 use crate::survey::CaptureSurvey;
 use crate::times_of_week::Times;
@@ -111,19 +114,6 @@ fn put_times(lines: &mut Vec<u8>, times: &Times) -> Result<(), AllocError>
     put_line(lines, b" changes-of-time ", times.changes)
 }
 
-fn put_counts(lines: &mut Vec<u8>, station: &StationSurvey) -> Result<(), AllocError>
-    ensures { OnOk result (lines.new.items ≡ lines.old.items ++ counts_held station.now) }
-{
-    put_counted(lines, b" message 1004 ", station.counts.obs_1004)?;
-    put_counted(lines, b" message 1005 ", station.counts.arp_1005)?;
-    put_counted(lines, b" message 1006 ", station.counts.arp_1006)?;
-    put_counted(lines, b" message 1074 ", station.msm.msm4.messages)?;
-    put_counted(lines, b" message 1075 ", station.msm.msm5.messages)?;
-    put_counted(lines, b" message 1076 ", station.msm.msm6.messages)?;
-    put_counted(lines, b" message 1077 ", station.msm.msm7.messages)?;
-    Ok(())
-}
-
 // Some message told a date of the station, or its antenna.
 fn is_mentioned(station: &StationSurvey) -> bool
     ensures { result ≡ is_mentioned station.now.dates (equipment_at station.now.equipment) }
@@ -159,10 +149,13 @@ fn put_station(
         → OnOk result (lines.new.items ≡ lines.old.items ++ station_lines name.now number ms d e) }
 {
     put_line(lines, b"station ", u64::from(number))?;
-    put_counts(lines, station)?;
+    put_messages(lines, station)?;
     put_times(lines, &station.times)?;
     put_told(lines, station)?;
-    put_signals(alloc, lines, &station.signals)?;
+    put_signals(alloc, lines, &station.signals, &station.system_signals)?;
+    put_epochs(lines, station)?;
+    put_channels(alloc, lines, station.channels.as_slice())?;
+    put_clocks(lines, station.clocks.as_slice())?;
     put_proposal(
         alloc,
         lines,
@@ -259,8 +252,10 @@ pub(crate) fn summary_lines(
     put_look(&mut lines, survey.look)?;
     put_stations(alloc, &mut lines, name, &contents.stations)?;
     put_weeks(&mut lines, &contents.weeks)?;
+    put_system_weeks(&mut lines, &contents.system_tellings)?;
     put_unread(&mut lines, &contents.unread)?;
-    let codes = codes_text(alloc, &contents.codes.marks)?;
+    let others = &contents.system_signals.codes;
+    let codes = all_codes_text(alloc, &contents.codes.marks, others)?;
     put_nothing(&mut lines, codes.as_slice())?;
     Ok(lines)
 }

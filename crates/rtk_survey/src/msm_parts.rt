@@ -10,6 +10,7 @@ ghost use Rattle.rtk_survey.specs.Tracing.{times_of_week, entries_of_message};
 use crate::counting::count_if;
 use crate::epochs::Epochs;
 use crate::signals::{Codes, have_value};
+use crate::times_of_week::gps_time_of;
 use rtk_message::{Accepted, AnyMessage, MsmKind};
 use rtk_obs::CellEntry;
 
@@ -40,12 +41,12 @@ fn gives_value(kind: MsmKind, message: &AnyMessage, entries: &[CellEntry]) -> bo
     message.number() == kind.number() && have_value(entries)
 }
 
-// Notes the time of week of a message, if it has one.
+// Notes the time of week of a message of GPS, if it has one.
 fn note_time_of(epochs: &mut Epochs, message: &AnyMessage)
     ensures { (ms : List AnyMessage) → epochs.old ≡ epochs_so_far (times_of_week ms)
         → epochs.new ≡ epochs_so_far (times_of_week (message.now ∷ ms)) }
 {
-    if let Some(time) = message.tow() {
+    if let Some(time) = gps_time_of(message) {
         epochs.note_time(time);
     }
 }

@@ -13,6 +13,7 @@ ghost use Rattle.rtk_survey.specs.Surveys.{HoldsMore, Surveys, look_if_empty};
 ghost use Rattle.rtk_survey.specs.Tracing.{entries_of_message};
 ghost use Rattle.rtk_survey.specs.declared.survey_fault.SurveyFault.TheVariants.{Read, Endless, Write};
 
+use crate::beside_gps::put_cells_beside_gps;
 use crate::contents::Contents;
 use crate::look::{Look, look_of};
 use crate::survey::CaptureSurvey;
@@ -21,7 +22,7 @@ use crate::target::Target;
 use arrayvec::ArrayVec;
 use rtk_frame::{Answer, Scanner, Source};
 use rtk_message::{Accepted, AnyDecoder, AnyMessage};
-use rtk_obs::{CellEntry, put_cells_msm, put_cells_of};
+use rtk_obs::{CellEntry, SignalEntry, put_cells_msm, put_cells_of};
 use std::alloc::{AllocError, Global};
 
 /// The most bytes that one read asks for.
@@ -34,12 +35,14 @@ const HEAD: usize = 512;
 #[derive(Drop)]
 struct Decoding {
     decoder: AnyDecoder,
-    // The cells of the last message. Those of the next one are put over them: a list of its own would
-    // be cleared for each message.
+    // The cells of GPS of the last message. Those of the next one are put over them: a list of its own
+    // would be cleared for each message.
     room: ArrayVec<CellEntry, 64>,
+    // Its cells of other systems.
+    signals: ArrayVec<SignalEntry, 64>,
 }
 
-// Puts the cells of a message over a list.
+// Puts the cells of GPS of a message over a list.
 fn put_entries(message: &AnyMessage, found: &mut ArrayVec<CellEntry, 64>)
     requires { IsValid message.now }
     ensures { found.new.items ≡ entries_of_message message.now }
@@ -56,6 +59,7 @@ impl Decoding {
         Decoding {
             decoder: AnyDecoder::new(),
             room: ArrayVec::new(),
+            signals: ArrayVec::new(),
         }
     }
 
@@ -68,10 +72,13 @@ impl Decoding {
     ) -> Result<(), AllocError>
         ensures { OnOk result (HoldsMore (payload.now ∷ []) contents.old contents.new) }
     {
-        match self.decoder.read(Accepted::GPS, payload) {
+        match self.decoder.read(Accepted::ALL, payload) {
             Ok(message) => {
                 put_entries(message, &mut self.room);
-                contents.take_message(alloc, payload, message, self.room.as_slice())
+                put_cells_beside_gps(message, &mut self.signals);
+                let entries = self.room.as_slice();
+                let signals = self.signals.as_slice();
+                contents.take_message(alloc, payload, message, entries, signals)
             }
             Err(fault) => contents.take_fault(alloc, payload, *fault),
         }

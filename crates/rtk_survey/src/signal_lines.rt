@@ -1,11 +1,14 @@
 //! The lines of satellites and codes of a summary.
 
-ghost use Rattle.std.specs.Prelude.{◌≡◌, ◌<◌, ◌++◌, false, get_or, IfOk, OnOk};
+ghost use Rattle.std.specs.Prelude.{◌≡◌, ◌<◌, ◌≤◌, ◌++◌, false, get_or, IfOk, OnOk};
+ghost use Rattle.rtk_obs.specs.AnyCode.{number_of};
 ghost use Rattle.rtk_obs.specs.Code.{place_of};
+ghost use Rattle.rtk_survey.specs.SummaryText as spec;
 ghost use Rattle.rtk_survey.specs.SummaryText.{list_line, listed_satellite, satellites_text, codes_text, second_frequency_line, signal_lines};
 
 use crate::signals::{CODES, SATELLITES, Signals};
-use rtk_obs::{ALL_CODES, Code};
+use crate::system_signals::{ANY_CODES, INDICES, SystemSignals};
+use rtk_obs::{ALL_ANY_CODES, ALL_CODES, Code, SatelliteIndex, satellite_name};
 use std::alloc::{AllocError, Global};
 
 // A satellite after a blank, if it has a value.
@@ -51,6 +54,86 @@ pub(crate) fn codes_text(alloc: Global, marks: &[bool; CODES]) -> Result<Vec<u8>
     Ok(text)
 }
 
+// A satellite of another system than GPS after a blank, if it has a value.
+fn put_index(
+    text: &mut Vec<u8>,
+    marks: &[bool; INDICES],
+    index: u8,
+) -> Result<(), AllocError>
+    requires { (1 ≤ index) × (index < 222) }
+    ensures { OnOk result (text.new.items ≡ text.old.items ++ spec.listed_index (λ n. get_or marks.now n false) index) }
+{
+    let Some(satellite) = SatelliteIndex::new(index) else {
+        unreachable!();
+    };
+    if marks[usize::from(index)] {
+        text.push(b' ')?;
+        text.extend_from_slice(&satellite_name(satellite))?;
+    }
+    Ok(())
+}
+
+// Appends the satellites of other systems than GPS that have a value.
+fn put_indices(text: &mut Vec<u8>, marks: &[bool; INDICES]) -> Result<(), AllocError>
+    ensures { OnOk result (text.new.items ≡ text.old.items ++ spec.indices_text (λ n. get_or marks.now n false)) }
+{
+    for index in 33u8..INDICES as u8 {
+        put_index(text, marks, index)?;
+    }
+    Ok(())
+}
+
+// What separates a name from those before it.
+fn separator_behind(text: &[u8]) -> u8
+    ensures { result ≡ spec.separator_behind text.now }
+{
+    if text.is_empty() { b' ' } else { b',' }
+}
+
+// Appends the codes of other systems than GPS that have a value, as an option lists them.
+fn put_any_codes(names: &mut Vec<u8>, marks: &[bool; ANY_CODES]) -> Result<(), AllocError>
+    ensures { OnOk result (names.new.items
+        ≡ names.old.items ++ spec.any_codes_text names.old.items (λ c. get_or marks.now (number_of c) false)) }
+{
+    let mut separator = separator_behind(names.as_slice());
+    for code in &ALL_ANY_CODES {
+        if marks[code.number()] {
+            names.push(separator)?;
+            names.extend_from_slice(&code.text())?;
+            separator = b',';
+        }
+    }
+    Ok(())
+}
+
+/// The codes of all systems that have a value, as an option lists them.
+pub(crate) fn all_codes_text(
+    alloc: Global,
+    marks: &[bool; CODES],
+    others: &[bool; ANY_CODES],
+) -> Result<Vec<u8>, AllocError>
+    ensures { IfOk result (λ text. text.items
+        ≡ spec.all_codes_text (λ c. get_or marks.now (place_of c) false) (λ c. get_or others.now (number_of c) false)) }
+{
+    let mut text = codes_text(alloc, marks)?;
+    put_any_codes(&mut text, others)?;
+    Ok(text)
+}
+
+// The satellites of all systems that have a value.
+fn all_satellites_text(
+    alloc: Global,
+    marks: &[bool; SATELLITES],
+    others: &[bool; INDICES],
+) -> Result<Vec<u8>, AllocError>
+    ensures { IfOk result (λ text. text.items
+        ≡ satellites_text (λ n. get_or marks.now n false) ++ spec.indices_text (λ n. get_or others.now n false)) }
+{
+    let mut text = satellites_text(alloc, marks)?;
+    put_indices(&mut text, others)?;
+    Ok(text)
+}
+
 // A list, or a hyphen if it is empty.
 fn put_list(lines: &mut Vec<u8>, words: &[u8], list: &[u8]) -> Result<(), AllocError>
     ensures { OnOk result (lines.new.items ≡ lines.old.items ++ list_line words.now list.now) }
@@ -84,12 +167,14 @@ pub(crate) fn put_signals(
     alloc: Global,
     lines: &mut Vec<u8>,
     signals: &Signals,
+    others: &SystemSignals,
 ) -> Result<(), AllocError>
     ensures { OnOk result (lines.new.items ≡ lines.old.items ++ signal_lines
-        (λ n. get_or signals.now.satellites n false) (λ c. get_or signals.now.codes.marks (place_of c) false)) }
+        (λ n. get_or signals.now.satellites n false) (λ c. get_or signals.now.codes.marks (place_of c) false)
+        (λ n. get_or others.now.satellites n false) (λ c. get_or others.now.codes (number_of c) false)) }
 {
-    let satellites = satellites_text(alloc, &signals.satellites)?;
-    let codes = codes_text(alloc, &signals.codes.marks)?;
+    let satellites = all_satellites_text(alloc, &signals.satellites, &others.satellites)?;
+    let codes = all_codes_text(alloc, &signals.codes.marks, &others.codes)?;
     put_list(lines, b" satellites", satellites.as_slice())?;
     put_list(lines, b" codes", codes.as_slice())?;
     Ok(())

@@ -37,8 +37,8 @@ pub fn has_value(cell: &Cell) -> bool
     cell.range_mm.is_some() || cell.phase_millicycles.is_some() || cell.strength_millidbhz.is_some()
 }
 
-// Marks a place, if its cell has a value.
-fn mark(marks: &mut [bool], place: usize, has_value: bool)
+/// Marks a place, if its cell has a value.
+pub(crate) fn mark(marks: &mut [bool], place: usize, has_value: bool)
     ensures size { length marks.new ≡ length marks.old }
     ensures marked { (n : ℕ) → n < length marks.old
         → get_or marks.new n false ≡ ((has_value && (place == n)) || get_or marks.old n false) }

@@ -2,6 +2,7 @@
 
 ghost use Rattle.std.specs.Prelude.{◌≡◌, List, [], ◌∷◌, OnOk};
 ghost use Rattle.rtk_message.specs.declared.any_message.AnyMessage.{AnyMessage};
+ghost use Rattle.rtk_survey.specs.BesideGps.{cells_beside_gps};
 ghost use Rattle.rtk_survey.specs.Contents.{equipment_at, CountsMessages, HasCodes, IsStationOf};
 ghost use Rattle.rtk_survey.specs.EquipmentHistory.{no_equipment, with_message};
 ghost use Rattle.rtk_survey.specs.FrameDates.{no_station_dates, station_dates};
@@ -11,6 +12,8 @@ ghost use Rattle.rtk_survey.specs.declared.date_message.DateMessage.TheVariants.
 ghost use Rattle.rtk_survey.specs.declared.equipment.Equipment.{Equipment};
 ghost use Rattle.rtk_survey.specs.declared.station_dates.StationDates.{StationDates};
 
+use crate::channels::{no_channels_told, take_channels};
+use crate::clock_chains::{ClockSurvey, take_clock};
 use crate::counting::count_if;
 use crate::date_message::UtcDate;
 use crate::equipment::Equipment;
@@ -20,10 +23,13 @@ use crate::reference_point::{ReferencePoint, far_point_with, first_point_with};
 use crate::sbas::has_sbas;
 use crate::signals::{Codes, Signals};
 use crate::station_dates::StationDates;
+use crate::system_msm::{SystemMsm, no_systems, take_system_message};
+use crate::system_signals::SystemSignals;
 use crate::times_of_week::Times;
 use rtk_message::AnyMessage;
-use rtk_obs::CellEntry;
+use rtk_obs::{CellEntry, SignalEntry};
 use std::alloc::{AllocError, Global};
+use std::collections::BTreeMap;
 
 /// How many messages of a station were read. Counts stop at the greatest `u64`.
 #[derive(Clone, Copy, Debug, PartialEq, Eq)]
@@ -41,11 +47,19 @@ pub struct MessageCounts {
 #[derive(Drop)]
 pub struct StationSurvey {
     pub counts: MessageCounts,
-    /// The times of week of its observation messages.
+    /// The times of week of its observation messages of GPS.
     pub times: Times,
-    /// The satellites and codes that have a value.
+    /// The satellites and codes of GPS that have a value.
     pub signals: Signals,
     pub msm: MsmParts,
+    /// The satellites and codes of other systems that have a value.
+    pub system_signals: SystemSignals,
+    /// Its MSM of other systems, by number (DF002).
+    pub system_msm: BTreeMap<u16, SystemMsm>,
+    /// How many messages tell each channel of each slot of GLONASS (`count_of_field`).
+    pub channels: Vec<u64>,
+    /// How far the clocks of its systems are apart: an entry, or none if no message came.
+    pub clocks: Vec<ClockSurvey>,
     /// That of its first 1005 or 1006 that has one.
     pub reference_point: Option<ReferencePoint>,
     /// The first one that is more than 100 m from it.
@@ -104,6 +118,10 @@ impl StationSurvey {
             times: Times::new(),
             signals: Signals::new(),
             msm: MsmParts::new(),
+            system_signals: SystemSignals::new(),
+            system_msm: no_systems(alloc),
+            channels: no_channels_told(alloc),
+            clocks: Vec::new(alloc),
             reference_point: None,
             far_point: None,
             dates: StationDates::new(),
@@ -111,25 +129,32 @@ impl StationSurvey {
         }
     }
 
-    /// A message more of the station, with its cells and their codes.
+    /// A message more of the station, with its cells and their codes: those of GPS, and those of other systems.
     pub(crate) fn take_message(
         &mut self,
+        alloc: Global,
         message: &AnyMessage,
         entries: &[CellEntry],
         codes: &Codes,
-    )
+        signals: &[SignalEntry],
+    ) -> Result<(), AllocError>
         requires entries { entries.now ≡ entries_of_message message.now }
         requires codes { HasCodes codes.now (entries_of_message message.now) }
-        ensures { (ms : List AnyMessage) (d : StationDates) (e : Equipment) → IsStationOf ms d e self.old
-            → IsStationOf (message.now ∷ ms) d e self.new }
+        requires signals { signals.now ≡ cells_beside_gps message.now }
+        ensures { OnOk result ((ms : List AnyMessage) (d : StationDates) (e : Equipment) → IsStationOf ms d e self.old
+            → IsStationOf (message.now ∷ ms) d e self.new) }
     {
         self.counts.count_message(message);
         self.times.note_message(message);
         self.signals.mark_entries(entries);
         self.msm.add_message(message, entries, codes);
+        self.system_signals.mark_entries(signals);
         let first = self.reference_point;
         self.far_point = far_point_with(first, self.far_point, message);
         self.reference_point = first_point_with(first, message);
+        take_channels(alloc, &mut self.channels, message)?;
+        take_clock(&mut self.clocks, message)?;
+        take_system_message(&mut self.system_msm, message, signals)
     }
 
     /// A 1013 or a 1029 more of the station.

@@ -1,11 +1,11 @@
-//! The times of week of a station's observation messages.
+//! The times of week of a station's observation messages of GPS.
 
 ghost use Rattle.std.specs.Prelude.{◌≡◌, List, ℕ, [], ◌∷◌};
 ghost use Rattle.rtk_message.specs.declared.any_message.AnyMessage.{AnyMessage};
 ghost use Rattle.rtk_survey.specs.Contents.{times_of};
-ghost use Rattle.rtk_survey.specs.Tracing.{change_from, times_of_week};
+ghost use Rattle.rtk_survey.specs.Tracing.{change_from, gps_time_of, times_of_week};
 
-use rtk_message::AnyMessage;
+use rtk_message::{Accepted, AnyMessage};
 
 /// The first time and the last one, in ms, and how many differ from the one before.
 #[derive(Clone, Copy, Debug, PartialEq, Eq)]
@@ -13,6 +13,17 @@ pub struct Times {
     pub first: Option<u32>,
     pub last: Option<u32>,
     pub changes: u64,
+}
+
+/// The time of week of a message of GPS, if it has one.
+pub(crate) fn gps_time_of(message: &AnyMessage) -> Option<u32>
+    ensures { result ≡ gps_time_of message.now }
+{
+    if Accepted::GPS.accepts(message.number()) {
+        message.tow()
+    } else {
+        None
+    }
 }
 
 fn change_from(before: Option<u32>, time: u32) -> u64
@@ -45,12 +56,13 @@ impl Times {
         self.first = Some(self.first.unwrap_or(time));
         self.last = Some(time);
     }
-    /// Notes the time of week of a message, if it has one.
+
+    /// Notes the time of week of a message of GPS, if it has one.
     pub fn note_message(&mut self, message: &AnyMessage)
         ensures { (ms : List AnyMessage) → self.old ≡ times_of (times_of_week ms)
             → self.new ≡ times_of (times_of_week (message.now ∷ ms)) }
     {
-        if let Some(time) = message.tow() {
+        if let Some(time) = gps_time_of(message) {
             self.note_time(time);
         }
     }

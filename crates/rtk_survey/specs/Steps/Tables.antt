@@ -4,9 +4,8 @@ use Rattle.std.specs.BTreeMap.{BTreeMap}
 use Rattle.rtk_survey.specs.Contents.{count_at}
 use Rattle.rtk_survey.specs.Look.{look_name}
 use Rattle.rtk_survey.specs.Summary.{all_numbers}
-use Rattle.rtk_survey.specs.SummaryText.{counted_line, numbered_line, untaken_numbers}
+use Rattle.rtk_survey.specs.SummaryText.{numbered_line, untaken_numbers}
 use Rattle.rtk_survey.specs.declared.look.Look.{Look}
-use Rattle.rtk_survey.specs.declared.station.StationSurvey.{StationSurvey}
 
 -- a line for each number that has a count
 unfoldable pub counts_text : List ℕ → BTreeMap ℕ ℕ → List ℕ
@@ -15,17 +14,6 @@ counts_text words counts = flat_map (λ n. numbered_line words n (count_at count
 -- a line for each message with GPS observations that is not read and has a count
 unfoldable pub untaken_text : BTreeMap ℕ ℕ → List ℕ
 untaken_text counts = flat_map (λ n. numbered_line (codes "untaken GPS ") n (count_at counts n)) untaken_numbers
-
--- the counts of a station's messages
-abbrev pub counts_held : StationSurvey → List ℕ
-counts_held s =
-    counted_line (codes " message 1004 ") s.counts.obs_1004
-    ++ counted_line (codes " message 1005 ") s.counts.arp_1005
-    ++ counted_line (codes " message 1006 ") s.counts.arp_1006
-    ++ counted_line (codes " message 1074 ") s.msm.msm4.messages
-    ++ counted_line (codes " message 1075 ") s.msm.msm5.messages
-    ++ counted_line (codes " message 1076 ") s.msm.msm6.messages
-    ++ counted_line (codes " message 1077 ") s.msm.msm7.messages
 
 -- what a file without a frame looks like
 abbrev pub look_lines : Option Look → List ℕ

@@ -1,14 +1,18 @@
 use Rattle.std.proofs.Common.{◌++◌, List, ℕ, false, get_or, sym, ap, ◌∙◌}
 use Rattle.std.specs.Prelude.{codes}
+use Rattle.rtk_obs.specs.AnyCode.{number_of}
 use Rattle.rtk_obs.specs.Code.{place_of}
 use Rattle.rtk_survey.specs.declared.equipment.Equipment.{Equipment}
+use Rattle.rtk_survey.specs.Chains.{no_clocks, clocks_at}
+use Rattle.rtk_survey.specs.Channels.{place_is_counted}
+use Rattle.rtk_survey.specs.ClockLines.{clock_lines}
 use Rattle.rtk_survey.specs.FrameDates.{proposed_date}
 use Rattle.rtk_survey.specs.FrameEquipment.{told_lines}
 use Rattle.rtk_survey.specs.Summary.{station_lines}
-use Rattle.rtk_survey.specs.SummaryText.{number_line, time_lines, near_text, signal_lines, proposal_lines}
-use Rattle.rtk_survey.specs.Contents.{equipment_at, epochs_held, codes_held}
-use Rattle.rtk_survey.specs.Steps.Tables.{counts_held}
+use Rattle.rtk_survey.specs.SummaryText.{number_line, message_lines, system_epoch_lines, channel_line, time_lines, near_text, signal_lines, proposal_lines}
+use Rattle.rtk_survey.specs.Contents.{equipment_at, epochs_held, codes_held, messages_held, system_epochs_held}
 use Rattle.rtk_survey.specs.Tracing.{times_of_week}
+use Rattle.rtk_survey.specs.declared.clock_chains.ClockSurvey.{ClockSurvey}
 use Rattle.rtk_survey.specs.declared.station_dates.StationDates.{StationDates}
 use Rattle.rtk_survey.proofs.LineLemmas.{own-survey, station-lines-are}
 use Rattle.rtk_survey.proofs.ListLemmas.{and-then}
@@ -22,23 +26,34 @@ returns c = λ ms date told stands.
     let name : List ℕ = c.args.name.now in
     let number : ℕ = c.args.number in
     let times : List ℕ = times_of_week ms in
-    let signals : List ℕ = signal_lines (λ n. get_or s.signals.satellites n false) (λ code. get_or s.signals.codes.marks (place_of code) false) in
+    let signals : List ℕ =
+    signal_lines (λ n. get_or s.signals.satellites n false) (λ code. get_or s.signals.codes.marks (place_of code) false)
+    (λ n. get_or s.system_signals.satellites n false) (λ code. get_or s.system_signals.codes (number_of code) false) in
     let l0 : List ℕ = c.args.lines.now.items in
     let l1 : List ℕ = c.put_line.new.lines.items in
-    let l2 : List ℕ = c.put_counts.new.lines.items in
+    let l2 : List ℕ = c.put_messages.new.lines.items in
     let l3 : List ℕ = c.put_times.new.lines.items in
     let l4 : List ℕ = c.put_told.new.lines.items in
     let l5 : List ℕ = c.put_signals.new.lines.items in
-    let l6 : List ℕ = c.put_proposal.new.lines.items in
-    and-then l0 l5 l6 _ (proposal_lines name (near_text (proposed_date d)) number (epochs_held s.msm) (codes_held s.msm))
+    let l6 : List ℕ = c.put_epochs.new.lines.items in
+    let l7 : List ℕ = c.put_channels.new.lines.items in
+    let l8 : List ℕ = c.put_clocks.new.lines.items in
+    let l9 : List ℕ = c.put_proposal.new.lines.items in
+    and-then l0 l8 l9 _ (proposal_lines name (near_text (proposed_date d)) number (epochs_held s.msm) (codes_held s.msm))
+    (and-then l0 l7 l8 _ (clock_lines (clocks_at s.clocks).offsets)
+    (and-then l0 l6 l7 _ (channel_line (place_is_counted s.channels.items))
+    (and-then l0 l5 l6 _ (system_epoch_lines (system_epochs_held s))
     (and-then l0 l4 l5 _ signals
     (and-then l0 l3 l4 _ (told_lines d e)
     (and-then l0 l2 l3 _ (time_lines times)
-    (and-then l0 l1 l2 (number_line (codes "station ") number) (counts_held s)
-    (c.in_ok-put_line.ensures ∙ ap (λ (n : ℕ). l0 ++ number_line (codes "station ") n) c.from.ensures) c.in_ok-put_counts.ensures)
+    (and-then l0 l1 l2 (number_line (codes "station ") number) (message_lines (messages_held s))
+    (c.in_ok-put_line.ensures ∙ ap (λ (n : ℕ). l0 ++ number_line (codes "station ") n) c.from.ensures) c.in_ok-put_messages.ensures)
     (c.in_ok-put_times.ensures times stands.times))
     c.in_ok-put_told.ensures)
     c.in_ok-put_signals.ensures)
-    (c.in_ok-put_proposal.ensures ∙ ap (λ near. l5 ++ proposal_lines name (near_text near) number (epochs_held s.msm) (codes_held s.msm)) c.proposed_date.ensures)
+    c.in_ok-put_epochs.ensures)
+    (c.in_ok-put_channels.ensures ∙ ap (λ (t : List ℕ). l6 ++ channel_line (place_is_counted t)) c.as_slice.ensures.value))
+    (c.in_ok-put_clocks.ensures ∙ ap (λ (t : List ClockSurvey). l7 ++ clock_lines (get_or t 0 no_clocks).offsets) c.as_slice-2.ensures.value))
+    (c.in_ok-put_proposal.ensures ∙ ap (λ near. l8 ++ proposal_lines name (near_text near) number (epochs_held s.msm) (codes_held s.msm)) c.proposed_date.ensures)
     ∙ ap (λ (t : List ℕ). l0 ++ t) (sym (station-lines-are name number s d e ms (own-survey ms date told s stands)))
     ∙ ap (λ (x : StationDates). l0 ++ station_lines name number ms x e) stands.dates ∙ ap (λ (x : Equipment). l0 ++ station_lines name number ms date x) stands.equipment

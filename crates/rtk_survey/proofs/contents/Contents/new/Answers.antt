@@ -9,7 +9,10 @@ returns c = record {
   framed = refl;
   stations = no-stations c.new.result c.new.ensures.empty;
   codes = c.new-2.ensures;
-  weeks = nothing-counted c.new-3.result c.new-3.ensures.empty;
-  unread = c.new-4.ensures;
+  system_signals = c.new-3.ensures;
+  weeks = nothing-counted c.new-4.result c.new-4.ensures.empty;
+  system_tellings = c.new-5.ensures;
+  unread = c.new-6.ensures;
+  beside = nothing-counted c.new-7.result c.new-7.ensures.empty;
   target = c.answer_to.ensures;
 }

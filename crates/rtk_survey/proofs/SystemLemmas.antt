@@ -1,0 +1,199 @@
+-- What a station has of other systems than GPS, one message after another.
+use Rattle.std.proofs.Common.{◌≡◌, ◌≢◌, ◌<◌, ◌+◌, ◌-◌, ◌==◌, ◌&&◌, ◌∙◌, ◌++◌, ℕ, ℤ, zero, suc, Bool, true, false, not, cond, List, [], ◌∷◌, Option, None, Some, length, take, get_or, replicate, refl, sym, ap, subst, inl, inr, ne_eqb, arith}
+use Rattle.std.specs.Prelude.{filter, nat_le}
+use Rattle.std.specs.BTreeMap.{BTreeMap, get, is_at, Updates}
+use Rattle.std.specs.List.{AllByRecursion, filter_map}
+use Rattle.std.specs.Map.{lookup}
+use Rattle.std.specs.Option.{unwrap_or}
+use Rattle.std.specs.Ordering.{nat_cmp}
+use Rattle.std.proofs.Math.Path.{fun_ext}
+use Rattle.std.proofs.lemmas.Bool.{cases_eq, eq-eqb}
+use Rattle.std.proofs.lemmas.List.Sums.{length-filter}
+use Rattle.rtk_message.specs.declared.any_message.AnyMessage.{AnyMessage}
+use Rattle.rtk_message.specs.AnyDecoded.{number_of}
+use Rattle.rtk_message.specs.declared.msm.Msm.{Msm}
+use Rattle.rtk_message.specs.declared.system.System.{System}
+use Rattle.rtk_message.specs.declared.system.System.TheVariants.{Gps, Glonass, Galileo, Beidou, Qzss, Sbas, Navic}
+use Rattle.rtk_obs.specs.declared.any_code.AnyCode.{AnyCode}
+use Rattle.rtk_obs.specs.declared.signal_cells.SignalEntry.{SignalEntry}
+use Rattle.rtk_obs.specs.AnyCode as any_code
+use Rattle.rtk_obs.specs.Carriers.{channel_at}
+use Rattle.rtk_obs.specs.Mask.{join_from}
+use Rattle.rtk_obs.specs.MsmCells.{Slot, slots_of}
+use Rattle.rtk_obs.specs.SatelliteIndex.{index_in}
+use Rattle.rtk_obs.specs.SignalCells.{unless_other, channel_in, bit_of_row, field_of_row, entry_if, signal_entry, signal_entries}
+use Rattle.rtk_obs.specs.Signals.{code_in}
+use Rattle.rtk_obs.proofs.PublicLaws.{number_below}
+use Rattle.rtk_survey.specs.BesideGps.{no_channels, is_beside_numbered, messages_beside, gives_index, gives_number, has_any_code, told_time_of, gives_value_beside, times_beside}
+use Rattle.rtk_survey.specs.Contents.{count_at, CountsBeside, CountsMessages, HasMsms, HasSystemSignals, any_codes_held, HasSystemMsm, IsMsmKept, HasSystems, messages_of_msm, epochs_of_msm, messages_held, system_epochs_held}
+use Rattle.rtk_survey.specs.Counting.{shown_count, count_of}
+use Rattle.rtk_survey.specs.Proposal.{epochs_in}
+use Rattle.rtk_survey.specs.Summary.{epochs_beside}
+use Rattle.rtk_survey.specs.SummaryText.{message_numbers}
+use Rattle.rtk_survey.specs.Tracing.{is_numbered, is_gps_number, is_beside_gps}
+use Rattle.rtk_survey.specs.declared.epochs.Epochs.{Epochs}
+use Rattle.rtk_survey.specs.declared.station.StationSurvey.{StationSurvey}
+use Rattle.rtk_survey.specs.declared.system_msm.SystemMsm.{SystemMsm}
+use Rattle.rtk_survey.specs.declared.system_signals.SystemSignals.{SystemSignals}
+use Rattle.rtk_survey.proofs.MapLemmas.{put-one}
+use Rattle.rtk_survey.proofs.SignalLemmas.{any-more}
+use Rattle.rtk_survey.proofs.TallyLemmas.{tally-more, tally-same}
+
+-- ---- channels
+
+none-of-none : (n k : ℕ) → ◌≡◌ {A = Option ℤ} (get_or (replicate n None) k None) None
+none-of-none zero k = refl
+none-of-none (suc n) zero = refl
+none-of-none (suc n) (suc k) = none-of-none n k
+
+-- cells depend on the channels of slots alone
+channel-same : (s : System) (a b : List (Option ℤ)) (bit field : ℕ) → channel_at a bit ≡ channel_at b bit → channel_in s a bit field ≡ channel_in s b bit field
+channel-same Gps a b bit field same = refl
+channel-same Glonass a b bit field same = ap (λ (o : Option ℤ). cond (nat_le bit 27) (unless_other field o) None) same
+channel-same Galileo a b bit field same = refl
+channel-same Beidou a b bit field same = refl
+channel-same Qzss a b bit field same = refl
+channel-same Sbas a b bit field same = refl
+channel-same Navic a b bit field same = refl
+
+entry-same : (a b : List (Option ℤ)) (m : Msm) → ((slot : ℕ) → channel_at a slot ≡ channel_at b slot) → (k : ℕ) (s : Slot) → signal_entry a m k s ≡ signal_entry b m k s
+entry-same a b m same k s =
+    let bit : ℕ = bit_of_row m s.row in
+    ap (λ (o : Option ℤ). entry_if m k s.row o (index_in m.system bit) (code_in m.system s.signal)) (channel-same m.system a b bit (field_of_row m s.row) (same bit))
+
+-- the cells of a message if no slot has a channel
+pub cells-without : (channels : List (Option ℤ)) (m : Msm) → ((slot : ℕ) → channel_at channels slot ≡ None) → signal_entries channels m ≡ signal_entries no_channels m
+cells-without channels m none =
+    ap (λ (f : ℕ → Slot → List SignalEntry). join_from f 0 (slots_of m.header m.cell_mask))
+    (fun_ext (λ k. fun_ext (λ s. entry-same channels no_channels m (λ slot. none slot ∙ sym (none-of-none 27 (slot - 1))) k s)))
+
+-- ---- satellites and codes
+
+pub signals-more : (s : SystemSignals) (xs es : List SignalEntry) (i : ℕ) (d : SignalEntry) → i < length xs
+    → HasSystemSignals s (get_or xs i d ∷ (take i xs ++ es)) → HasSystemSignals s (take (i + 1) xs ++ es)
+signals-more s xs es i d within stands = record {
+  satellites_size = stands.satellites_size;
+  satellites = λ n lt. stands.satellites n lt ∙ sym (any-more (gives_index n) xs es i d within);
+  codes_size = stands.codes_size;
+  codes = λ n lt. stands.codes n lt ∙ sym (any-more (gives_number n) xs es i d within);
+}
+
+pub any-codes-marked : (s : SystemSignals) (es : List SignalEntry) → HasSystemSignals s es → any_codes_held s ≡ has_any_code es
+any-codes-marked s es stands = fun_ext (λ code.
+    stands.codes (any_code.number_of code) (let below = number_below code in let size = stands.codes_size in omega (arith, below, size)))
+
+-- ---- times
+
+-- the times of a message more, by whether it gives a value
+pub times-with-value : (m : AnyMessage) (ms : List AnyMessage) → gives_value_beside m ≡ true
+    → times_beside (m ∷ ms) ≡ filter_map told_time_of (m ∷ filter gives_value_beside ms)
+times-with-value m ms passes =
+    let others = filter gives_value_beside ms in
+    ap (λ (b : Bool). filter_map told_time_of (cond b (m ∷ others) others)) passes
+
+pub times-without-value : (m : AnyMessage) (ms : List AnyMessage) → gives_value_beside m ≡ false → times_beside (m ∷ ms) ≡ times_beside ms
+times-without-value m ms fails =
+    let others = filter gives_value_beside ms in
+    ap (λ (b : Bool). filter_map told_time_of (cond b (m ∷ others) others)) fails
+
+-- ---- messages by number
+
+nothing-if : (b : Bool) → ◌≡◌ {A = List AnyMessage} (cond b [] []) []
+nothing-if true = refl
+nothing-if false = refl
+
+none-beside : (n : ℕ) → messages_beside n [] ≡ []
+none-beside n = nothing-if (is_gps_number n)
+
+not-true : (b : Bool) → not b ≡ true → b ≡ false
+not-true true is = cc
+not-true false is = refl
+
+not-false : (b : Bool) → not b ≡ false → b ≡ true
+not-false true is = refl
+not-false false is = cc
+
+-- a message of a number is one of its messages
+beside-own : (k : ℕ) (m : AnyMessage) (ms : List AnyMessage) → k ≡ number_of m → is_beside_gps m ≡ true → messages_beside k (m ∷ ms) ≡ m ∷ messages_beside k ms
+beside-own k m ms is beside =
+    let out : is_gps_number k ≡ false = ap is_gps_number is ∙ not-true (is_gps_number (number_of m)) beside in
+    let yes : is_numbered k m ≡ true = eq-eqb (number_of m) k (sym is) in
+    let others : List AnyMessage = filter (is_numbered k) ms in
+    ap (λ (b : Bool). cond b [] (cond (is_numbered k m) (m ∷ others) others)) out
+    ∙ ap (λ (b : Bool). cond b (m ∷ others) others) yes
+    ∙ ap (λ (b : Bool). m ∷ cond b [] others) (sym out)
+
+-- and one of another number is none
+beside-other : (n : ℕ) (m : AnyMessage) (ms : List AnyMessage) → n ≢ number_of m → messages_beside n (m ∷ ms) ≡ messages_beside n ms
+beside-other n m ms other =
+    let no : is_numbered n m ≡ false = ne_eqb (number_of m) n (λ same. other (sym same)) in
+    let others : List AnyMessage = filter (is_numbered n) ms in
+    ap (λ (b : Bool). cond (is_gps_number n) [] (cond b (m ∷ others) others)) no
+
+-- nor is a message of GPS
+beside-none : (n : ℕ) (m : AnyMessage) (ms : List AnyMessage) → is_beside_gps m ≡ false → messages_beside n (m ∷ ms) ≡ messages_beside n ms
+beside-none n m ms inside = elim (cases_eq n (number_of m)) [
+  | inl same ↦
+      let gps : is_gps_number n ≡ true = ap is_gps_number same ∙ not-false (is_gps_number (number_of m)) inside in
+      ap (λ (b : Bool). cond b [] (filter (is_numbered n) (m ∷ ms))) gps ∙ ap (λ (b : Bool). cond b [] (filter (is_numbered n) ms)) (sym gps)
+  | inr other ↦ beside-other n m ms other
+]
+
+-- what is held of a number is its entry, else a new one
+part-or-new : (own : List AnyMessage) (o : Option SystemMsm) (new : SystemMsm) → IsMsmKept own o → HasSystemMsm new [] → HasSystemMsm (unwrap_or o new) own
+part-or-new own None new nothing begins = subst (λ (x : List AnyMessage). HasSystemMsm new x) (sym nothing) begins
+part-or-new own (Some p) new is begins = is
+
+module _ (m m' : BTreeMap ℕ SystemMsm) (old new fresh : SystemMsm) (ms : List AnyMessage) where
+  pub system-more : (x : AnyMessage) (k : ℕ) → k ≡ number_of x → is_beside_gps x ≡ true → old ≡ unwrap_or (get nat_cmp m k) fresh → HasSystemMsm fresh [] → Updates nat_cmp m m' k (Some new)
+      → ((own : List AnyMessage) → HasSystemMsm old own → HasSystemMsm new (x ∷ own)) → HasSystems m ms → HasSystems m' (x ∷ ms)
+  system-more x k is beside was begins puts takes all =
+      put-one (λ n o. IsMsmKept (messages_beside n ms) o) (λ n o. IsMsmKept (messages_beside n (x ∷ ms)) o) m m' k new puts
+      (subst (λ (own : List AnyMessage). HasSystemMsm new own) (sym (beside-own k x ms is beside))
+      (takes (messages_beside k ms) (subst (λ (s : SystemMsm). HasSystemMsm s (messages_beside k ms)) (sym was) (part-or-new (messages_beside k ms) (get nat_cmp m k) fresh (all k) begins))))
+      (λ n other kept. subst (λ (own : List AnyMessage). IsMsmKept own (get nat_cmp m n)) (sym (beside-other n x ms (λ same. other (same ∙ sym is)))) kept)
+      all
+
+pub system-same : (m : BTreeMap ℕ SystemMsm) (x : AnyMessage) (ms : List AnyMessage) → is_beside_gps x ≡ false → HasSystems m ms → HasSystems m (x ∷ ms)
+system-same m x ms inside all = λ n. subst (λ (own : List AnyMessage). IsMsmKept own (get nat_cmp m n)) (sym (beside-none n x ms inside)) (all n)
+
+pub no-systems-yet : (m : BTreeMap ℕ SystemMsm) → m.entries ≡ [] → HasSystems m []
+no-systems-yet m empty = λ n.
+    subst (λ (entries : List (ℕ × SystemMsm)). IsMsmKept (messages_beside n []) (lookup (is_at (nat_cmp n)) entries)) (sym empty) (none-beside n)
+
+-- ---- counts
+
+counted-of : (own : List AnyMessage) (o : Option SystemMsm) → IsMsmKept own o → messages_of_msm o ≡ shown_count (length own)
+counted-of own None nothing = let size = ap (λ (xs : List AnyMessage). length xs) nothing in omega (arith, size)
+counted-of own (Some p) is = is.messages
+
+counted-beside : (n : ℕ) (parts : BTreeMap ℕ SystemMsm) (ms : List AnyMessage) → is_gps_number n ≡ false → HasSystems parts ms → messages_of_msm (get nat_cmp parts n) ≡ count_of (is_numbered n) ms
+counted-beside n parts ms out has =
+    counted-of (messages_beside n ms) (get nat_cmp parts n) (has n)
+    ∙ ap (λ (b : Bool). shown_count (length (cond b [] (filter (is_numbered n) ms)))) out
+    ∙ ap shown_count (length-filter (is_numbered n) ms)
+
+epochs-of : (own : List AnyMessage) (o : Option SystemMsm) → IsMsmKept own o → epochs_of_msm o ≡ shown_count (epochs_in (times_beside own))
+epochs-of own None nothing = let few = ap (λ (xs : List AnyMessage). epochs_in (times_beside xs)) nothing in omega (arith, few)
+epochs-of own (Some p) is = ap (λ (e : Epochs). e.count) is.epochs
+
+pub epochs-beside-are : (s : StationSurvey) (ms : List AnyMessage) → HasSystems s.system_msm ms → system_epochs_held s ≡ epochs_beside ms
+epochs-beside-are s ms has = fun_ext (λ n. epochs-of (messages_beside n ms) (get nat_cmp s.system_msm n) (has n))
+
+-- each number that has a line has its count
+pub counts-held : (s : StationSurvey) (ms : List AnyMessage) → CountsMessages s.counts ms → HasMsms s.msm ms → HasSystems s.system_msm ms
+    → AllByRecursion (λ n. messages_held s n ≡ count_of (is_numbered n) ms) message_numbers
+counts-held s ms k m has =
+    let beside : (n : ℕ) → is_gps_number n ≡ false → messages_of_msm (get nat_cmp s.system_msm n) ≡ count_of (is_numbered n) ms = λ n out. counted-beside n s.system_msm ms out has in
+    (k.obs_1004, (k.arp_1005, (k.arp_1006, (m.msm4.messages, (m.msm5.messages, (m.msm6.messages, (m.msm7.messages, (beside 1084 refl, (beside 1085 refl, (beside 1086 refl, (beside 1087 refl, (beside 1094 refl, (beside 1095 refl, (beside 1096 refl, (beside 1097 refl, (beside 1104 refl, (beside 1105 refl, (beside 1106 refl, (beside 1107 refl, (beside 1114 refl, (beside 1115 refl, (beside 1116 refl, (beside 1117 refl, (beside 1124 refl, (beside 1125 refl, (beside 1126 refl, (beside 1127 refl, (beside 1134 refl, (beside 1135 refl, (beside 1136 refl, (beside 1137 refl, tt)))))))))))))))))))))))))))))))
+
+-- a message of another system more, by its number
+pub beside-counted : (old new : BTreeMap ℕ ℕ) (k : ℕ) (m : AnyMessage) (ms : List AnyMessage) → k ≡ number_of m → is_beside_gps m ≡ true
+    → count_at new k ≡ shown_count (count_at old k + 1) → ((n : ℕ) → n ≢ k → count_at new n ≡ count_at old n) → CountsBeside old ms → CountsBeside new (m ∷ ms)
+beside-counted old new k m ms is beside own others counts =
+    tally-more (λ n x. is_beside_numbered n x) m ms old new k
+    (λ n. ap (λ (b : Bool). b && is_numbered n m) beside ∙ ap (λ (j : ℕ). j == n) (sym is)) own others counts
+
+-- and one of GPS
+pub beside-passed : (counts : BTreeMap ℕ ℕ) (m : AnyMessage) (ms : List AnyMessage) → is_beside_gps m ≡ false → CountsBeside counts ms → CountsBeside counts (m ∷ ms)
+beside-passed counts m ms inside stand = tally-same (λ n x. is_beside_numbered n x) m ms counts (λ n. ap (λ (b : Bool). b && is_numbered n m) inside) stand

@@ -1,0 +1,12 @@
+use Rattle.std.proofs.Common.{◌≡◌, ◌-◌, ◌++◌}
+use Rattle.std.specs.Prelude.{filter}
+use Rattle.std.specs.List.{range_with_len}
+use Rattle.rtk_survey.specs.Channels.{place_is_counted}
+use Rattle.rtk_survey.specs.SummaryText.{joined_channels}
+use Rattle.rtk_survey.proofs.channel_lines.channels_text.Given as goal
+
+-- the channels so far and those of the places that are left are all
+abbrev pub invariant-loop-place : goal.invariant-loop-place
+invariant-loop-place l =
+    l.text.items ++ joined_channels l.separator (filter (place_is_counted l.table) (range_with_len l.place (392 - l.place)))
+    ≡ joined_channels 32 (filter (place_is_counted l.table) (range_with_len 14 378))

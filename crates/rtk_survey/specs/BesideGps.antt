@@ -1,0 +1,93 @@
+-- Messages of other systems than GPS: their times, and the satellites and codes of their cells.
+-- Lists of messages and entries are newest first.
+-- Source: RTCM 10403.3, messages 1081 to 1137
+use Rattle.std.specs.Prelude.{ℕ, ◌/◌, ◌%◌, ◌^◌, ◌==◌, ℤ, Bool, true, false, ◌&&◌, List, [], flat_map, filter, replicate, Option, None, Some, if◌then◌else◌}
+use Rattle.std.specs.List.{list_any, filter_map}
+use Rattle.rtk_message.specs.declared.any_message.AnyMessage.{AnyMessage}
+use Rattle.rtk_message.specs.declared.any_message.AnyMessage.TheVariants as any
+use Rattle.rtk_message.specs.declared.system.System.{System}
+use Rattle.rtk_message.specs.declared.system.System.TheVariants.{Gps, Glonass, Galileo, Beidou, Qzss, Sbas, Navic}
+use Rattle.rtk_obs.specs.declared.any_code.AnyCode.{AnyCode}
+use Rattle.rtk_obs.specs.declared.signal_cells.SignalEntry.{SignalEntry}
+use Rattle.rtk_obs.specs.AnyCode as any_code
+use Rattle.rtk_obs.specs.Clocks.{beidou_tow}
+use Rattle.rtk_obs.specs.GlonassTime.{glonass_tow}
+use Rattle.rtk_obs.specs.SignalCells.{signal_entries}
+use Rattle.rtk_survey.specs.Tracing.{is_numbered, is_gps_number, is_beside_gps, has_value}
+
+-- an MSM of another system than GPS, of this number
+abbrev pub is_beside_numbered : ℕ → AnyMessage → Bool
+is_beside_numbered n m = is_beside_gps m && is_numbered n m
+
+-- the messages of this number, if it is none of GPS
+abbrev pub messages_beside : ℕ → List AnyMessage → List AnyMessage
+messages_beside n ms = if is_gps_number n then [] else filter (is_numbered n) ms
+
+-- ---- satellites and codes
+
+-- no slot of GLONASS has a channel
+abbrev pub no_channels : List (Option ℤ)
+no_channels = replicate 27 None
+
+-- table
+abbrev pub is_other_system : System → Bool
+is_other_system Gps = false
+is_other_system Glonass = true
+is_other_system Galileo = true
+is_other_system Beidou = true
+is_other_system Qzss = true
+is_other_system Sbas = true
+is_other_system Navic = true
+
+-- the cells of a message of another system than GPS. Those of GLONASS have no phase: it would depend on the channels,
+-- which a capture need not tell
+abbrev pub cells_beside_gps : AnyMessage → List SignalEntry
+cells_beside_gps (any.Message m) = []
+cells_beside_gps (any.Msm m) = if is_other_system m.system then signal_entries no_channels m else []
+
+-- the cells of messages
+abbrev pub cells_beside : List AnyMessage → List SignalEntry
+cells_beside ms = flat_map cells_beside_gps ms
+
+abbrev pub signal_has_value : SignalEntry → Bool
+signal_has_value e = has_value e.cell
+
+abbrev pub gives_index : ℕ → SignalEntry → Bool
+gives_index n e = has_value e.cell && (e.satellite == n)
+
+abbrev pub gives_number : ℕ → SignalEntry → Bool
+gives_number n e = has_value e.cell && (any_code.number_of e.code == n)
+
+-- a cell of the satellite with this index has a value
+abbrev pub has_index : List SignalEntry → ℕ → Bool
+has_index es n = list_any (gives_index n) es
+
+-- a cell of this code has a value
+abbrev pub has_any_code : List SignalEntry → AnyCode → Bool
+has_any_code es c = list_any (gives_number (any_code.number_of c)) es
+
+-- ---- times
+
+-- table
+-- the time of week that a clock tells, in ms: that of GPS, but for GLONASS that of UTC, since a capture need not tell the
+-- leap seconds between the two
+abbrev pub told_time : System → ℕ → ℕ
+told_time Gps c = c
+told_time Glonass c = glonass_tow (c / 2 ^ 27) (c % 2 ^ 27) 0
+told_time Galileo c = c
+told_time Beidou c = beidou_tow c
+told_time Qzss c = c
+told_time Sbas c = c
+told_time Navic c = c
+
+abbrev pub told_time_of : AnyMessage → Option ℕ
+told_time_of (any.Message m) = None
+told_time_of (any.Msm m) = Some (told_time m.system m.header.tow)
+
+-- a message of another system than GPS that has a cell with a range, a phase or a strength
+abbrev pub gives_value_beside : AnyMessage → Bool
+gives_value_beside m = list_any signal_has_value (cells_beside_gps m)
+
+-- the times of such messages
+abbrev pub times_beside : List AnyMessage → List ℕ
+times_beside ms = filter_map told_time_of (filter gives_value_beside ms)

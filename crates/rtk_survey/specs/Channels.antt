@@ -1,0 +1,116 @@
+-- How often messages tell each frequency channel of each slot of GLONASS. Lists of messages are newest first.
+-- Source: RTCM 10403.3, DF038, DF040, DF394 and DF419
+use Rattle.std.specs.Prelude.{◌≡◌, ◌≢◌, ℕ, ◌+◌, ◌-◌, ◌*◌, ◌/◌, ◌%◌, ◌^◌, ◌==◌, ◌<◌, ◌≤◌, Bool, true, false, ◌&&◌, ◌⊎◌, List, [], ◌∷◌, length, get_or, slice_get, replicate, count_ones, nat_lt, Option, None, Some, if◌then◌else◌}
+use Rattle.rtk_message.specs.declared.any_message.AnyMessage.{AnyMessage}
+use Rattle.rtk_message.specs.declared.any_message.AnyMessage.TheVariants as any
+use Rattle.rtk_message.specs.declared.msm.Msm.{Msm}
+use Rattle.rtk_message.specs.declared.system.System.{System}
+use Rattle.rtk_message.specs.declared.system.System.TheVariants.{Gps, Glonass, Galileo, Beidou, Qzss, Sbas, Navic}
+use Rattle.rtk_survey.specs.Counting.{shown_count, count_of}
+use Rattle.rtk_survey.specs.declared.system_message.SlotChannel.{SlotChannel}
+use Rattle.rtk_survey.specs.declared.system_message.SystemMessage.{SystemMessage}
+use Rattle.rtk_survey.specs.declared.system_message.SystemMessage.TheVariants.{Week, Slot, Leap}
+
+-- formula
+-- the mask has the bit of this slot; the first bit is the most significant one
+abbrev pub has_slot_bit : ℕ → ℕ → Bool
+has_slot_bit mask slot = (mask / 2 ^ (64 - slot)) % 2 == 1
+
+-- formula
+-- how many bits of the mask stand before that of this slot
+abbrev pub slots_before : ℕ → ℕ → ℕ
+slots_before mask slot = count_ones (mask / 2 ^ (64 - slot) / 2)
+
+-- the field of a slot (DF419), if the message has its satellite and such fields
+abbrev pub slot_field : Msm → ℕ → Option ℕ
+slot_field m slot =
+    if has_slot_bit m.header.satellite_mask slot then slice_get m.extended (slots_before m.header.satellite_mask slot) else None
+
+abbrev pub is_field : Option ℕ → ℕ → Bool
+is_field None field = false
+is_field (Some told) field = told == field
+
+-- table
+abbrev pub is_glonass : System → Bool
+is_glonass Gps = false
+is_glonass Glonass = true
+is_glonass Galileo = false
+is_glonass Beidou = false
+is_glonass Qzss = false
+is_glonass Sbas = false
+is_glonass Navic = false
+
+abbrev pub tells_field_of : Msm → ℕ → ℕ → Bool
+tells_field_of m slot field = is_field (slot_field m slot) field
+
+-- a message of GLONASS has this field for this slot
+abbrev pub tells_field : ℕ → ℕ → AnyMessage → Bool
+tells_field slot field (any.Message m) = false
+tells_field slot field (any.Msm m) = is_glonass m.system && tells_field_of m slot field
+
+-- formula
+-- the place of a slot, 1 to 27, and of a field that tells a channel, 0 to 13: 7 more than the channel
+abbrev pub place_of_field : ℕ → ℕ → ℕ
+place_of_field slot field = 14 * slot + field
+
+-- the slots and the fields that tell a channel
+pub record IsChannelTold (slot field : ℕ) : Type 0 where
+  pub first : 1 ≤ slot
+  pub last : slot < 28
+  pub few : field < 14
+
+-- a table has a place for each slot and field, with how many of these tell it
+pub record CountsFields {X : Type 0} (tells : ℕ → ℕ → X → Bool) (table : List ℕ) (xs : List X) : Type 0 where
+  pub size : length table ≡ 392
+  pub counts : (slot field : ℕ) → IsChannelTold slot field → get_or table (place_of_field slot field) 0 ≡ count_of (tells slot field) xs
+
+-- a message more, which tells these fields: before, after
+pub record TakesFields (tells : ℕ → ℕ → Bool) (old new : List ℕ) : Type 0 where
+  pub size : length new ≡ 392
+  pub told : (slot field : ℕ) → IsChannelTold slot field → tells slot field ≡ true
+      → get_or new (place_of_field slot field) 0 ≡ shown_count (get_or old (place_of_field slot field) 0 + 1)
+  pub others : (slot field : ℕ) → IsChannelTold slot field → tells slot field ≡ false
+      → get_or new (place_of_field slot field) 0 ≡ get_or old (place_of_field slot field) 0
+
+-- formula
+-- some message tells the slot and the field of a place
+abbrev pub place_is_told : List AnyMessage → ℕ → Bool
+place_is_told ms place = nat_lt 0 (count_of (tells_field (place / 14) (place % 14)) ms)
+
+abbrev pub place_is_counted : List ℕ → ℕ → Bool
+place_is_counted table place = nat_lt 0 (get_or table place 0)
+
+-- as long as there is no table, none of these tells a channel
+abbrev pub CountsTold : {X : Type 0} → (ℕ → ℕ → X → Bool) → List ℕ → List X → Type 0
+CountsTold tells [] xs = (slot field : ℕ) → IsChannelTold slot field → count_of (tells slot field) xs ≡ 0
+CountsTold tells (y ∷ ys) xs = CountsFields tells (y ∷ ys) xs
+
+-- a table is there, or one was made: before, after
+abbrev pub IsTableMade : List ℕ → List ℕ → Type 0
+IsTableMade old new = ((length old ≡ 392) × (new ≡ old)) ⊎ ((length old ≢ 392) × (new ≡ replicate 392 0))
+
+-- how many messages tell each field of each slot
+abbrev pub CountsChannels : List ℕ → List AnyMessage → Type 0
+CountsChannels table ms = CountsTold tells_field table ms
+
+-- ---- 1020
+
+-- what a 1020 tells of a slot and a field
+abbrev pub tells_slot_channel : SlotChannel → ℕ → ℕ → Bool
+tells_slot_channel s slot field = (s.slot == slot) && (s.field == field)
+
+abbrev pub slot_channel_in : SystemMessage → Option SlotChannel
+slot_channel_in (Week w) = None
+slot_channel_in (Slot s) = Some s
+slot_channel_in (Leap l) = None
+
+abbrev pub tells_slot_if : Option SlotChannel → ℕ → ℕ → Bool
+tells_slot_if None slot field = false
+tells_slot_if (Some s) slot field = tells_slot_channel s slot field
+
+abbrev pub tells_slot_of_1020 : ℕ → ℕ → SystemMessage → Bool
+tells_slot_of_1020 slot field m = tells_slot_if (slot_channel_in m) slot field
+
+-- how many 1020 tell each field of each slot
+abbrev pub CountsSlots : List ℕ → List SystemMessage → Type 0
+CountsSlots table ts = CountsTold tells_slot_of_1020 table ts

@@ -1,0 +1,110 @@
+//! Messages of other systems than GPS: which they are, their times and their cells.
+
+ghost use Rattle.std.specs.Prelude.{◌≡◌, ◌/◌, ◌%◌, ◌^◌, ◌<◌, [], if◌then◌else◌};
+ghost use Rattle.rtk_message.specs.AnyDecoded.{IsValid};
+ghost use Rattle.rtk_message.specs.MsmForm.{IsValid as IsValidMsm};
+ghost use Rattle.rtk_obs.specs.Clocks.{beidou_tow};
+ghost use Rattle.rtk_obs.specs.GlonassTime.{glonass_tow};
+ghost use Rattle.rtk_obs.specs.SignalCells.{signal_entries};
+ghost use Rattle.rtk_survey.specs.BesideGps as spec;
+ghost use Rattle.rtk_survey.specs.Tracing.{is_beside_gps};
+
+use arrayvec::ArrayVec;
+use rtk_message::{Accepted, AnyMessage, Msm, System};
+use rtk_obs::{Channels, SignalEntry, WEEK_MS, put_signal_entries};
+
+const DAY_MS: u64 = 86_400_000;
+
+/// By how much GPS time is ahead of BeiDou time.
+const BEIDOU_MS: u64 = 14_000;
+
+/// By how much the time in Moscow is ahead of UTC.
+const MOSCOW_MS: u64 = 10_800_000;
+
+/// The clock of GLONASS has 3 bits of the day (DF416) before 27 bits of the time of day (DF034).
+const TIME_OF_DAY: u32 = 1 << 27;
+
+/// Is it an MSM of another system than GPS?
+pub fn is_beside_gps(message: &AnyMessage) -> bool
+    ensures { result ≡ is_beside_gps message.now }
+{
+    !Accepted::GPS.accepts(message.number())
+}
+
+// ---- times
+
+// The GPS time of week of a BeiDou time of week.
+fn beidou_time(clock: u32) -> u32
+    ensures { result ≡ beidou_tow clock }
+{
+    ((u64::from(clock) + BEIDOU_MS) % WEEK_MS) as u32
+}
+
+// The time of week, of UTC, of a day and a time of day in Moscow.
+fn glonass_time(clock: u32) -> u32
+    ensures { result ≡ glonass_tow (clock / 2 ^ 27) (clock % 2 ^ 27) 0 }
+{
+    let moscow = DAY_MS * u64::from(clock / TIME_OF_DAY) + u64::from(clock % TIME_OF_DAY);
+    ((moscow + (WEEK_MS - MOSCOW_MS)) % WEEK_MS) as u32
+}
+
+/// The time of week that a clock of a system tells, in ms: that of GPS, but for GLONASS that of UTC.
+pub fn told_time(system: System, clock: u32) -> u32
+    ensures { result ≡ spec.told_time system clock }
+{
+    match system {
+        System::Glonass => glonass_time(clock),
+        System::Beidou => beidou_time(clock),
+        System::Gps | System::Galileo | System::Qzss | System::Sbas | System::Navic => clock,
+    }
+}
+
+/// The time of week that an MSM tells (`told_time`). A 1074, or a message of another number, has none here.
+pub(crate) fn told_time_of(message: &AnyMessage) -> Option<u32>
+    ensures { result ≡ spec.told_time_of message.now }
+{
+    match message {
+        AnyMessage::Message(_) => None,
+        AnyMessage::Msm(message) => Some(told_time(message.system, message.header.tow)),
+    }
+}
+
+// ---- cells
+
+fn is_other_system(system: System) -> bool
+    ensures { result ≡ spec.is_other_system system }
+{
+    match system {
+        System::Gps => false,
+        System::Glonass
+        | System::Galileo
+        | System::Beidou
+        | System::Qzss
+        | System::Sbas
+        | System::Navic => true,
+    }
+}
+
+// Puts the cells of an MSM over a list, if it is of another system than GPS.
+fn put_cells_of_other(message: &Msm, found: &mut ArrayVec<SignalEntry, 64>)
+    requires { IsValidMsm message.now }
+    ensures { found.new.items ≡ (if spec.is_other_system message.now.system then signal_entries spec.no_channels message.now else []) }
+{
+    if is_other_system(message.system) {
+        let channels = Channels::new();
+        put_signal_entries(message, &channels, found);
+    } else {
+        found.clear();
+    }
+}
+
+/// Puts the cells of a message of another system than GPS over a list. Another message has none.
+pub(crate) fn put_cells_beside_gps(message: &AnyMessage, found: &mut ArrayVec<SignalEntry, 64>)
+    requires { IsValid message.now }
+    ensures { found.new.items ≡ spec.cells_beside_gps message.now }
+{
+    match message {
+        AnyMessage::Message(_) => found.clear(),
+        AnyMessage::Msm(message) => put_cells_of_other(message, found),
+    }
+}

@@ -1,0 +1,355 @@
+//! How far the clocks of systems are apart within chains of messages.
+//!
+//! A chain ends with an observation message whose multiple-message bit is 0. Its clock is that of its first
+//! message of GPS; if there is none, of Galileo, QZSS, SBAS or NavIC.
+
+ghost use Rattle.std.specs.Prelude.{◌≡◌, ◌<◌, ◌≤◌, length, drop, IfSome, OnOk};
+ghost use Rattle.rtk_survey.specs.Chains as spec;
+
+use crate::beside_gps::told_time;
+use arrayvec::ArrayVec;
+use rtk_message::{AnyMessage, Message, System};
+use rtk_obs::WEEK_MS;
+use std::alloc::AllocError;
+
+/// How many clocks of a chain are kept. Others are passed over.
+const MOST_WAITING: usize = 64;
+
+/// How many offsets of a system that differ are kept.
+const MOST_OFFSETS: usize = 16;
+
+/// The clock of a message.
+#[derive(Clone, Copy, Debug, PartialEq, Eq)]
+pub struct ClockTold {
+    pub system: System,
+    /// The time of week, as `told_time` has it.
+    pub time: u32,
+}
+
+// A list that has room for such clocks is filled with it.
+impl Default for ClockTold {
+    fn default() -> ClockTold {
+        ClockTold {
+            system: System::Gps,
+            time: 0,
+        }
+    }
+}
+
+/// The clock that times a chain.
+#[derive(Clone, Copy, Debug, PartialEq, Eq)]
+pub struct ChainClock {
+    /// The rank of its system among those that time a chain.
+    pub rank: u8,
+    pub time: u32,
+}
+
+/// By how much clocks of a system are ahead of those of their chains.
+#[derive(Clone, Copy, Debug, Default, PartialEq, Eq)]
+pub struct ClockOffset {
+    /// In ms, less than a week. That of GLONASS lacks the leap seconds.
+    pub ahead_ms: u32,
+    /// How many messages have it. Stays at the greatest `u64`.
+    pub count: u64,
+}
+
+/// The offsets of each system: the first 16 that differ, in the order in which they came.
+#[derive(Clone, Drop)]
+pub struct ClockOffsets {
+    pub gps: ArrayVec<ClockOffset, MOST_OFFSETS>,
+    pub glonass: ArrayVec<ClockOffset, MOST_OFFSETS>,
+    pub galileo: ArrayVec<ClockOffset, MOST_OFFSETS>,
+    pub beidou: ArrayVec<ClockOffset, MOST_OFFSETS>,
+    pub qzss: ArrayVec<ClockOffset, MOST_OFFSETS>,
+    pub sbas: ArrayVec<ClockOffset, MOST_OFFSETS>,
+    pub navic: ArrayVec<ClockOffset, MOST_OFFSETS>,
+}
+
+/// What is held of the clocks of a station.
+#[derive(Clone, Drop)]
+pub struct ClockSurvey {
+    /// The clocks of the chain that has not ended.
+    pub waiting: ArrayVec<ClockTold, MOST_WAITING>,
+    /// The offsets in the chains that have ended.
+    pub offsets: ClockOffsets,
+}
+
+// ---- the clock of a message
+
+fn told_clock(system: System, time: u32) -> ClockTold
+    ensures { result ≡ spec.told_clock system time }
+{
+    ClockTold { system, time }
+}
+
+fn clock_of_four(message: &Message) -> Option<ClockTold>
+    ensures { result ≡ spec.clock_of_four message.now }
+{
+    match message {
+        Message::Obs1004(message) => Some(told_clock(System::Gps, message.tow)),
+        Message::Arp1005(_) | Message::Arp1006(_) => None,
+        Message::Msm1074(message) => Some(told_clock(System::Gps, message.header.tow)),
+    }
+}
+
+fn clock_of(message: &AnyMessage) -> Option<ClockTold>
+    ensures { result ≡ spec.clock_of message.now }
+{
+    match message {
+        AnyMessage::Message(message) => clock_of_four(message),
+        AnyMessage::Msm(message) => {
+            let time = told_time(message.system, message.header.tow);
+            Some(told_clock(message.system, time))
+        }
+    }
+}
+
+fn more_follow_four(message: &Message) -> bool
+    ensures { result ≡ spec.more_follow_four message.now }
+{
+    match message {
+        Message::Obs1004(message) => message.synchronous,
+        Message::Arp1005(_) | Message::Arp1006(_) => false,
+        Message::Msm1074(message) => message.header.multiple_message,
+    }
+}
+
+fn more_follow(message: &AnyMessage) -> bool
+    ensures { result ≡ spec.more_follow message.now }
+{
+    match message {
+        AnyMessage::Message(message) => more_follow_four(message),
+        AnyMessage::Msm(message) => message.header.multiple_message,
+    }
+}
+
+// ---- the clock of a chain
+
+fn clock_rank(system: System) -> u8
+    ensures { result ≡ spec.clock_rank system }
+{
+    match system {
+        System::Gps => 0,
+        System::Galileo => 1,
+        System::Qzss => 2,
+        System::Sbas => 3,
+        System::Navic => 4,
+        System::Beidou => 5,
+        System::Glonass => 6,
+    }
+}
+
+// The first clock of the system with this rank.
+fn first_ranked(rank: u8, clocks: &[ClockTold]) -> Option<ChainClock>
+    ensures { result ≡ spec.first_ranked rank clocks.now }
+{
+    for clock in clocks {
+        if clock_rank(clock.system) == rank {
+            let time = clock.time;
+            return Some(ChainClock { rank, time });
+        }
+    }
+    None
+}
+
+fn clock_or(clock: Option<ChainClock>, other: Option<ChainClock>) -> Option<ChainClock>
+    ensures { result ≡ spec.clock_or clock other }
+{
+    match clock {
+        Some(clock) => Some(clock),
+        None => other,
+    }
+}
+
+fn chain_clock(clocks: &[ClockTold]) -> Option<ChainClock>
+    ensures { result ≡ spec.chain_clock clocks.now }
+{
+    let by_sbas_or_navic = clock_or(first_ranked(3, clocks), first_ranked(4, clocks));
+    let by_qzss_to_navic = clock_or(first_ranked(2, clocks), by_sbas_or_navic);
+    let by_galileo_to_navic = clock_or(first_ranked(1, clocks), by_qzss_to_navic);
+    clock_or(first_ranked(0, clocks), by_galileo_to_navic)
+}
+
+// ---- how far other clocks are from it
+
+fn ahead_of(base: u32, time: u32) -> u32
+    ensures { result ≡ spec.ahead_of base time }
+{
+    ((u64::from(time) + WEEK_MS).saturating_sub(u64::from(base)) % WEEK_MS) as u32
+}
+
+fn place_of(ahead: u32, list: &[ClockOffset]) -> Option<usize>
+    ensures value { result ≡ spec.offset_place 0 ahead list.now }
+    ensures bound { IfSome result (λ at. at < length list.now) }
+{
+    for (at, offset) in list.iter().enumerate() {
+        if offset.ahead_ms == ahead {
+            return Some(at);
+        }
+    }
+    None
+}
+
+// Counts an offset.
+fn count_offset(list: &mut ArrayVec<ClockOffset, MOST_OFFSETS>, ahead: u32)
+    ensures { list.new ≡ spec.with_counted ahead list.old }
+{
+    match place_of(ahead, list.as_slice()) {
+        Some(at) => {
+            let offset = &mut list.as_mut_slice()[at];
+            offset.count = offset.count.saturating_add(1);
+        }
+        None if list.len() < MOST_OFFSETS => list.push(ClockOffset {
+            ahead_ms: ahead,
+            count: 1,
+        }),
+        None => {}
+    }
+}
+
+impl ClockOffsets {
+    // No chain ended.
+    fn new() -> ClockOffsets
+        ensures { result ≡ spec.no_offsets }
+    {
+        ClockOffsets {
+            gps: ArrayVec::new(),
+            glonass: ArrayVec::new(),
+            galileo: ArrayVec::new(),
+            beidou: ArrayVec::new(),
+            qzss: ArrayVec::new(),
+            sbas: ArrayVec::new(),
+            navic: ArrayVec::new(),
+        }
+    }
+
+    /// The offsets of a system.
+    pub fn of(&self, system: System) -> &[ClockOffset]
+        ensures { result.now ≡ spec.offsets_of self.now system }
+    {
+        match system {
+            System::Gps => self.gps.as_slice(),
+            System::Glonass => self.glonass.as_slice(),
+            System::Galileo => self.galileo.as_slice(),
+            System::Beidou => self.beidou.as_slice(),
+            System::Qzss => self.qzss.as_slice(),
+            System::Sbas => self.sbas.as_slice(),
+            System::Navic => self.navic.as_slice(),
+        }
+    }
+
+    fn count(&mut self, system: System, ahead: u32)
+        ensures { self.new ≡ spec.with_ahead system ahead self.old }
+    {
+        match system {
+            System::Gps => count_offset(&mut self.gps, ahead),
+            System::Glonass => count_offset(&mut self.glonass, ahead),
+            System::Galileo => count_offset(&mut self.galileo, ahead),
+            System::Beidou => count_offset(&mut self.beidou, ahead),
+            System::Qzss => count_offset(&mut self.qzss, ahead),
+            System::Sbas => count_offset(&mut self.sbas, ahead),
+            System::Navic => count_offset(&mut self.navic, ahead),
+        }
+    }
+
+    // A clock more, in a chain that this time is of.
+    fn compare(&mut self, base: u32, clock: ClockTold)
+        ensures { self.new ≡ spec.with_offset base clock self.old }
+    {
+        self.count(clock.system, ahead_of(base, clock.time));
+    }
+
+    // Some clocks more.
+    fn compare_all(&mut self, base: u32, clocks: &[ClockTold])
+        ensures { self.new ≡ spec.with_compared base clocks.now self.old }
+    {
+        for clock in clocks {
+            self.compare(base, *clock);
+        }
+    }
+
+    // The clocks before the first one with this rank. The result is how many these are, and that one.
+    fn compare_before(&mut self, rank: u8, base: u32, clocks: &[ClockTold]) -> usize
+        ensures value { spec.with_compared base (drop result clocks.now) self.new ≡ spec.with_others rank base clocks.now self.old }
+        ensures within { result ≤ length clocks.now }
+    {
+        for (at, clock) in clocks.iter().enumerate() {
+            if clock_rank(clock.system) == rank {
+                return at + 1;
+            }
+            self.compare(base, *clock);
+        }
+        clocks.len()
+    }
+
+    // All clocks but the first one with this rank.
+    fn compare_others(&mut self, chain: ChainClock, clocks: &[ClockTold])
+        ensures { self.new ≡ spec.with_others chain.rank chain.time clocks.now self.old }
+    {
+        let count = self.compare_before(chain.rank, chain.time, clocks);
+        self.compare_all(chain.time, &clocks[count..]);
+    }
+
+    // A chain more.
+    fn take_chain(&mut self, clocks: &[ClockTold])
+        ensures { self.new ≡ spec.with_chain clocks.now self.old }
+    {
+        if let Some(chain) = chain_clock(clocks) {
+            self.compare_others(chain, clocks);
+        }
+    }
+}
+
+impl ClockSurvey {
+    /// No message came.
+    pub(crate) fn new() -> ClockSurvey
+        ensures { result ≡ spec.no_clocks }
+    {
+        ClockSurvey {
+            waiting: ArrayVec::new(),
+            offsets: ClockOffsets::new(),
+        }
+    }
+
+    fn open_with(&mut self, clock: ClockTold)
+        ensures { self.new ≡ spec.with_open clock self.old }
+    {
+        if self.waiting.len() < MOST_WAITING {
+            self.waiting.push(clock);
+        }
+    }
+
+    fn end_chain(&mut self)
+        ensures { self.new ≡ spec.chain_ended self.old }
+    {
+        self.offsets.take_chain(self.waiting.as_slice());
+        self.waiting.clear();
+    }
+
+    /// A message more.
+    pub(crate) fn take(&mut self, message: &AnyMessage)
+        ensures { self.new ≡ spec.with_clock_of message.now self.old }
+    {
+        let Some(clock) = clock_of(message) else {
+            return;
+        };
+        self.open_with(clock);
+        if !more_follow(message) {
+            self.end_chain();
+        }
+    }
+}
+
+/// A message more; the first one makes the entry.
+pub(crate) fn take_clock(
+    entries: &mut Vec<ClockSurvey>,
+    message: &AnyMessage,
+) -> Result<(), AllocError>
+    ensures { OnOk result (spec.clocks_at entries.new ≡ spec.with_clock_of message.now (spec.clocks_at entries.old)) }
+{
+    if entries.is_empty() {
+        entries.push(ClockSurvey::new())?;
+    }
+    entries[0].take(message);
+    Ok(())
+}
