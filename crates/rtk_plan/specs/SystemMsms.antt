@@ -66,16 +66,22 @@ kind_digit Msm7 = 55
 abbrev pub is_exception : MsmKind → MsmKind → Bool
 is_exception first kind = not (kind_digit kind == kind_digit first)
 
+abbrev pub is_exception_of : MsmKind → SystemKinds → System → Bool
+is_exception_of first ks s = is_exception first (kind_of ks s)
+
 abbrev pub has_exception : MsmKind → SystemKinds → Bool
-has_exception first ks = list_any (λ s. is_exception first (kind_of ks s)) systems_in_order
+has_exception first ks = list_any (is_exception_of first ks) systems_in_order
 
 -- formula
 -- an exception stands behind a comma, with the letter of its system
 abbrev pub exception_text : MsmKind → System → MsmKind → List ℕ
 exception_text first system kind = if is_exception first kind then 44 ∷ letter_of system ∷ kind_digit kind ∷ [] else []
 
+abbrev pub exception_text_of : MsmKind → SystemKinds → System → List ℕ
+exception_text_of first ks s = exception_text first s (kind_of ks s)
+
 abbrev pub exceptions_text : MsmKind → SystemKinds → List ℕ
-exceptions_text first ks = flat_map (λ s. exception_text first s (kind_of ks s)) systems_in_order
+exceptions_text first ks = flat_map (exception_text_of first ks) systems_in_order
 
 -- formula
 abbrev pub first_and_exceptions : MsmKind → SystemKinds → List ℕ

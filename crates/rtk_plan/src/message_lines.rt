@@ -146,7 +146,8 @@ fn put_msm(
     ensures { OnOk result (lines.new.items ≡ lines.old.items ++ spec.msm_line taken surveys.now station msm) }
 {
     let count = messages_in_captures(surveys, station, msm);
-    put_msm_numbered(lines, taken, msm.number(), count)
+    put_msm_numbered(lines, taken, msm.number(), count)?;
+    Ok(())
 }
 
 /// Appends the lines of the MSM of GPS of a station that are not taken.

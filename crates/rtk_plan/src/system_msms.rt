@@ -125,13 +125,20 @@ fn is_exception(first: MsmKind, kind: MsmKind) -> bool
     kind_digit(kind) != kind_digit(first)
 }
 
+// Has a system another kind than the first?
+fn is_exception_of(first: MsmKind, kinds: SystemKinds, system: System) -> bool
+    ensures { result ≡ spec.is_exception_of first kinds system }
+{
+    is_exception(first, kinds.kind(system))
+}
+
 // Has some system another kind than the first?
 fn has_exception(first: MsmKind, kinds: SystemKinds) -> bool
     ensures { result ≡ spec.has_exception first kinds }
 {
     SYSTEMS
         .iter()
-        .any(|system| is_exception(first, kinds.kind(*system)))
+        .any(|system| is_exception_of(first, kinds, *system))
 }
 
 // Appends the kind of a system, if it is an exception.
@@ -146,7 +153,23 @@ fn put_exception(
     if !is_exception(first, kind) {
         return Ok(());
     }
-    line.extend_from_slice(&[b',', system_letter(system), kind_digit(kind)])
+    line.push(b',')?;
+    line.push(system_letter(system))?;
+    line.push(kind_digit(kind))?;
+    Ok(())
+}
+
+// Appends the kind of a system among these, if it is an exception.
+fn put_exception_of(
+    line: &mut Vec<u8>,
+    first: MsmKind,
+    kinds: SystemKinds,
+    system: System,
+) -> Result<(), AllocError>
+    ensures { OnOk result (line.new.items ≡ line.old.items ++ spec.exception_text_of first kinds system) }
+{
+    put_exception(line, first, system, kinds.kind(system))?;
+    Ok(())
 }
 
 // Appends the exceptions.
@@ -158,7 +181,7 @@ fn put_exceptions(
     ensures { OnOk result (line.new.items ≡ line.old.items ++ spec.exceptions_text first kinds) }
 {
     for system in &SYSTEMS {
-        put_exception(line, first, *system, kinds.kind(*system))?;
+        put_exception_of(line, first, kinds, *system)?;
     }
     Ok(())
 }
@@ -192,6 +215,7 @@ fn put_msm_option(
 }
 
 /// Appends the option that names the kinds of a conversion with these codes.
+#[tactic(auto, unfolding(crate::specs::SystemMsms::kinds_words))]
 pub(crate) fn put_kinds_words(
     line: &mut Vec<u8>,
     kinds: SystemKinds,
@@ -199,5 +223,6 @@ pub(crate) fn put_kinds_words(
 ) -> Result<(), AllocError>
     ensures { OnOk result (line.new.items ≡ line.old.items ++ spec.kinds_words kinds listed.now) }
 {
-    put_msm_option(line, first_kind(kinds, listed), kinds)
+    put_msm_option(line, first_kind(kinds, listed), kinds)?;
+    Ok(())
 }

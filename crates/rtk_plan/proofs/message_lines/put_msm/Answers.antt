@@ -6,6 +6,6 @@ use Rattle.rtk_plan.proofs.message_lines.put_msm.Goals as goal
 pub returns : goal.returns
 returns c =
     let old : List ℕ = c.args.lines.now.items in
-    c.put_msm_numbered.ensures
+    c.in_ok-put_msm_numbered.ensures
     ∙ ap (λ (n : ℕ). old ++ msm_line_of c.args.taken n c.messages_in_captures-count.result) c.number.ensures
     ∙ ap (λ (n : ℕ). old ++ msm_line_of c.args.taken (number_of_kind c.args.msm) n) c.messages_in_captures-count.ensures
