@@ -1,6 +1,6 @@
 //! The kinds of MSM of systems, of which some have a listed code.
 
-ghost use Rattle.std.specs.Prelude.{◌≡◌, ◌++◌, OnOk};
+ghost use Rattle.std.specs.Prelude.{◌≡◌, ◌++◌, flat_map, OnOk};
 ghost use Rattle.rtk_obs.specs.SatelliteIndex.{letter_of};
 ghost use Rattle.rtk_survey.specs.SummaryText.{msm_option};
 ghost use Rattle.rtk_plan.specs.SystemMsms as spec;
@@ -172,6 +172,21 @@ fn put_exception_of(
     Ok(())
 }
 
+// Appends the exceptions among some systems.
+fn put_exceptions_among(
+    line: &mut Vec<u8>,
+    first: MsmKind,
+    kinds: SystemKinds,
+    systems: &[System],
+) -> Result<(), AllocError>
+    ensures { OnOk result (line.new.items ≡ line.old.items ++ flat_map (spec.exception_text_of first kinds) systems.now) }
+{
+    for system in systems {
+        put_exception_of(line, first, kinds, *system)?;
+    }
+    Ok(())
+}
+
 // Appends the exceptions.
 fn put_exceptions(
     line: &mut Vec<u8>,
@@ -180,10 +195,7 @@ fn put_exceptions(
 ) -> Result<(), AllocError>
     ensures { OnOk result (line.new.items ≡ line.old.items ++ spec.exceptions_text first kinds) }
 {
-    for system in &SYSTEMS {
-        put_exception_of(line, first, kinds, *system)?;
-    }
-    Ok(())
+    put_exceptions_among(line, first, kinds, &SYSTEMS)
 }
 
 // Appends the option of the first kind and the exceptions.
