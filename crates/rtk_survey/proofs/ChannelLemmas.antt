@@ -44,12 +44,12 @@ pub fields-made : {X : Type 0} (tells : ℕ → ℕ → X → Bool) (old new : L
 fields-made {X} tells old new xs made counts = elim made [
   | inl there ↦ subst (λ (t : List ℕ). CountsFields tells t xs) (sym there.1) (sized tells old xs there.0 counts)
   | inr fresh ↦ record {
-      size = as-many new 392 0 fresh.1;
-      counts = λ slot field is.
-          ap (λ (t : List ℕ). get_or t (place_of_field slot field) 0) fresh.1
-          ∙ get_or-replicate 392 (place_of_field slot field) 0 0 (field-within slot field is.last is.few)
-          ∙ sym (unsized tells old xs fresh.0 counts slot field is);
-    }
+    size = as-many new 392 0 fresh.1;
+    counts = λ slot field is.
+        ap (λ (t : List ℕ). get_or t (place_of_field slot field) 0) fresh.1
+        ∙ get_or-replicate 392 (place_of_field slot field) 0 0 (field-within slot field is.last is.few)
+        ∙ sym (unsized tells old xs fresh.0 counts slot field is);
+  }
 ]
 
 pub no-channels-yet : {X : Type 0} (tells : ℕ → ℕ → X → Bool) (table : List ℕ) → table ≡ [] → CountsTold tells table []
