@@ -1,13 +1,14 @@
 -- The channels that messages tell, one message after another.
-use Rattle.std.proofs.Common.{◌≡◌, ◌≢◌, ◌<◌, ◌≤◌, ◌+◌, ◌∙◌, ◌&&◌, ℕ, Bool, true, false, List, [], ◌∷◌, Option, None, Some, length, set, get_or, replicate, refl, sym, ap, subst, inl, inr, get_or-set_same, get_or-set_other, arith}
+use Rattle.std.proofs.Common.{◌≡◌, ◌≢◌, ◌<◌, ◌∙◌, ◌&&◌, ℕ, Bool, true, false, List, [], ◌∷◌, Option, None, Some, length, get_or, refl, sym, ap, subst, inl, inr, arith}
 use Rattle.std.proofs.lemmas.Bool.{cases_Bool}
 use Rattle.std.proofs.lemmas.List.{get_or-replicate}
 use Rattle.rtk_message.specs.declared.any_message.AnyMessage.{AnyMessage}
 use Rattle.rtk_message.specs.declared.any_message.AnyMessage.TheVariants.{Message, Msm}
 use Rattle.rtk_message.specs.declared.message.Message as four
 use Rattle.rtk_message.specs.declared.msm.Msm as msm
-use Rattle.rtk_survey.specs.Channels.{tells_field_of, is_glonass, tells_field, place_of_field, IsChannelTold, CountsFields, TakesFields, CountsTold, IsTableMade, CountsChannels, tells_slot_channel, slot_channel_in, tells_slot_if, tells_slot_of_1020, CountsSlots}
-use Rattle.rtk_survey.specs.Counting.{shown_count, count_of}
+use Rattle.rtk_survey.specs.Channels.{tells_field_of, is_glonass, tells_field, place_of_field, IsChannelTold, CountsFields, CountsTold, CountsChannels, tells_slot_channel, slot_channel_in, tells_slot_if, tells_slot_of_1020, CountsSlots}
+use Rattle.rtk_survey.specs.Steps.Fields.{TakesFields, IsTableMade}
+use Rattle.rtk_survey.specs.Counting.{count_of}
 use Rattle.rtk_survey.specs.declared.system_message.SlotChannel.{SlotChannel}
 use Rattle.rtk_survey.specs.declared.system_message.SystemMessage.{SystemMessage}
 use Rattle.rtk_survey.proofs.FreshLemmas.{as-many}
