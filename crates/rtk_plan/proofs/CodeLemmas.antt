@@ -140,25 +140,25 @@ no-glonass p [] other = refl
 no-glonass p (c ∷ cs) other =
     let rest = filter p cs in
     ⊎_elim
-    (λ (yes : p c ≡ true).
-        ap (λ (b : Bool). has_glonass (cond b (c ∷ rest) rest)) yes ∙ ap (λ (b : Bool). b || has_glonass rest) (other c yes) ∙ no-glonass p cs other)
-    (λ (no : p c ≡ false). ap (λ (b : Bool). has_glonass (cond b (c ∷ rest) rest)) no ∙ no-glonass p cs other)
+    (λ (is : p c ≡ true).
+        ap (λ (b : Bool). has_glonass (cond b (c ∷ rest) rest)) is ∙ ap (λ (b : Bool). b || has_glonass rest) (other c is) ∙ no-glonass p cs other)
+    (λ (not : p c ≡ false). ap (λ (b : Bool). has_glonass (cond b (c ∷ rest) rest)) not ∙ no-glonass p cs other)
     (cases_Bool (p c))
 
 not-converted : (s : System) → is_converted s ≡ true → (letter_of s == 82) ≡ false
-not-converted Gps yes = refl
-not-converted Glonass yes = absurd (false≢true yes)
-not-converted Galileo yes = refl
-not-converted Beidou yes = refl
-not-converted Qzss yes = refl
-not-converted Sbas yes = refl
-not-converted Navic yes = refl
+not-converted Gps is = refl
+not-converted Glonass is = absurd (false≢true is)
+not-converted Galileo is = refl
+not-converted Beidou is = refl
+not-converted Qzss is = refl
+not-converted Sbas is = refl
+not-converted Navic is = refl
 
 -- none of those that are found is of GLONASS
 pub found-beside-glonass : (ss : List CaptureSurvey) (n : ℕ) (ks : SystemKinds) → has_glonass (filter (is_found ss n ks) all_any_codes) ≡ false
 found-beside-glonass ss n ks =
     no-glonass (is_found ss n ks) all_any_codes
-    (λ c yes. not-converted (system_of c) (and_parts (is_converted (system_of c)) (list_any (gives_code n ks c) ss) yes).0)
+    (λ c is. not-converted (system_of c) (and_parts (is_converted (system_of c)) (list_any (gives_code n ks c) ss) is).0)
 
 -- ---- codes of GPS
 
