@@ -141,7 +141,7 @@ no-glonass p (c ∷ cs) other =
     let rest = filter p cs in
     ⊎_elim
     (λ (is : p c ≡ true).
-        ap (λ (b : Bool). has_glonass (cond b (c ∷ rest) rest)) is ∙ ap (λ (b : Bool). b || has_glonass rest) (other c is) ∙ no-glonass p cs other)
+    ap (λ (b : Bool). has_glonass (cond b (c ∷ rest) rest)) is ∙ ap (λ (b : Bool). b || has_glonass rest) (other c is) ∙ no-glonass p cs other)
     (λ (not : p c ≡ false). ap (λ (b : Bool). has_glonass (cond b (c ∷ rest) rest)) not ∙ no-glonass p cs other)
     (cases_Bool (p c))
 
