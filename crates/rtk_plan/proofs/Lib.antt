@@ -1,3 +1,4 @@
+mod ChannelLemmas
 mod CodeLemmas
 mod LinkLemmas
 mod OnePlanLemmas

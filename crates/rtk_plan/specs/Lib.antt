@@ -16,6 +16,7 @@ pub mod Reach
 pub mod RefusalLists
 pub mod Reported
 pub mod SaidCommand
+pub mod SlotChannels
 pub mod Sources
 pub mod SpanLine
 pub mod StationCaptures

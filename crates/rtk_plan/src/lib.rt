@@ -89,6 +89,7 @@ mod reach;
 mod refusal;
 mod reported;
 mod said_command;
+mod slot_channels;
 mod span_line;
 mod station_capture;
 mod station_setup;
