@@ -1,29 +1,23 @@
 -- Codes that are found or named are a list for a head.
-use Rattle.std.proofs.Common.{◌≡◌, ◌≢◌, ◌<◌, ◌≤◌, ◌+◌, ◌-◌, ◌*◌, ◌==◌, ◌&&◌, ◌||◌, ◌∙◌, ℕ, zero, suc, Bool, true, false, cond, nat_le, List, [], ◌∷◌, ◌++◌, length, map, drop, get_or, append_assoc, refl, sym, ap, subst, eq-eqb, ⊎_elim, None, arith}
+use Rattle.std.proofs.Common.{◌≡◌, ◌≢◌, ◌<◌, ◌≤◌, ◌+◌, ◌-◌, ◌*◌, ◌==◌, ◌&&◌, ◌∙◌, ℕ, zero, suc, Bool, true, false, cond, nat_le, List, [], ◌∷◌, ◌++◌, length, map, drop, get_or, append_assoc, refl, sym, ap, subst, eq-eqb, Option, arith}
 use Rattle.std.specs.Prelude.{filter, AllPairs, slice_index_or, count_by}
 use Rattle.std.specs.Int.{IsInRange}
-use Rattle.std.proofs.lemmas.Bool.{and_parts, cases_Bool, eqb-true, leb-true, false≢true}
+use Rattle.std.proofs.lemmas.Bool.{and_parts, eqb-true, leb-true}
 use Rattle.std.proofs.lemmas.List.{get_or-map, length-map}
 use Rattle.std.proofs.lemmas.List.Kept.{AllPairs-filter}
 use Rattle.std.proofs.lemmas.List.Sums.{length-filter, count_by-le-length}
-use Rattle.rtk_message.specs.declared.system.System.{System}
-use Rattle.rtk_message.specs.declared.system.System.TheVariants.{Gps, Glonass, Galileo, Beidou, Qzss, Sbas, Navic}
+use Rattle.rtk_message.specs.declared.system.System.TheVariants.{Gps}
 use Rattle.rtk_obs.specs.declared.any_code.AnyCode.{AnyCode}
 use Rattle.rtk_obs.specs.declared.code.Code.{Code}
 use Rattle.rtk_obs.specs.declared.code.Code.TheVariants as gps
 use Rattle.rtk_obs.specs.AnyCode.{code_of_gps, system_of, codes_before, number_of, all_any_codes}
 use Rattle.rtk_obs.specs.Code.{place_of}
-use Rattle.rtk_obs.specs.SatelliteIndex.{letter_of}
 use Rattle.rtk_obs.proofs.PublicLaws.{number-of-gps, same_signal}
 use Rattle.rtk_rinex.specs.Header.{IsCodeList}
-use Rattle.rtk_rinex.specs.MixedHead.{AreInOrder, IsMixedList, IsMixedHeadFault, has_glonass, letter}
+use Rattle.rtk_rinex.specs.MixedHead.{AreInOrder, GlonassView, IsMixedList, IsMixedHeadFault, TellsGlonass}
 use Rattle.rtk_rinex.specs.declared.mixed_head_fault.MixedHeadFault.{MixedHeadFault}
 use Rattle.rtk_rinex.specs.declared.mixed_head_fault.MixedHeadFault.TheVariants.{Codes, Glonass as NotTold}
-use Rattle.rtk_survey.specs.declared.survey.CaptureSurvey.{CaptureSurvey}
-use Rattle.rtk_setup.specs.declared.system_kinds.SystemKinds.{SystemKinds}
-use Rattle.rtk_plan.specs.Values.{gives_code, is_converted, is_found}
 use Rattle.rtk_plan.proofs.WalkLemmas.{cut-at}
-use Rattle.std.specs.List.{list_any}
 
 -- ---- codes one after another
 
@@ -135,31 +129,6 @@ mixed-found p cs n b found len is says = subst IsMixedList (sym found) (some-mix
     not-empty [] len none = let q : true ≡ false = sym (eq-eqb n 0 len) ∙ sym is ∙ says in cc
     not-empty (c ∷ cs) len none = let q : length (c ∷ cs) ≡ 0 = ap length none in absurd (omega (arith, q))
 
-no-glonass : (p : AnyCode → Bool) (cs : List AnyCode) → ((c : AnyCode) → p c ≡ true → (letter c == 82) ≡ false) → has_glonass (filter p cs) ≡ false
-no-glonass p [] other = refl
-no-glonass p (c ∷ cs) other =
-    let rest = filter p cs in
-    ⊎_elim
-    (λ (yes : p c ≡ true).
-        ap (λ (b : Bool). has_glonass (cond b (c ∷ rest) rest)) yes ∙ ap (λ (b : Bool). b || has_glonass rest) (other c yes) ∙ no-glonass p cs other)
-    (λ (no : p c ≡ false). ap (λ (b : Bool). has_glonass (cond b (c ∷ rest) rest)) no ∙ no-glonass p cs other)
-    (cases_Bool (p c))
-
-not-converted : (s : System) → is_converted s ≡ true → (letter_of s == 82) ≡ false
-not-converted Gps yes = refl
-not-converted Glonass yes = absurd (false≢true yes)
-not-converted Galileo yes = refl
-not-converted Beidou yes = refl
-not-converted Qzss yes = refl
-not-converted Sbas yes = refl
-not-converted Navic yes = refl
-
--- none of those that are found is of GLONASS
-pub found-beside-glonass : (ss : List CaptureSurvey) (n : ℕ) (ks : SystemKinds) → has_glonass (filter (is_found ss n ks) all_any_codes) ≡ false
-found-beside-glonass ss n ks =
-    no-glonass (is_found ss n ks) all_any_codes
-    (λ c yes. not-converted (system_of c) (and_parts (is_converted (system_of c)) (list_any (gives_code n ks c) ss) yes).0)
-
 -- ---- codes of GPS
 
 -- all codes of GPS are of GPS
@@ -210,16 +179,9 @@ gps-list cs h =
           rw (one, other) (gps-in-order (get_or cs i gps.G1C) (get_or cs j gps.G1C) (h.1 i j gps.G1C lt high));
     }
 
-gps-letter : (c : Code) → (letter (code_of_gps c) == 82) ≡ false
-gps-letter c = ap (λ (s : System). letter_of s == 82) (gps-code c)
-
-pub gps-beside-glonass : (cs : List Code) → has_glonass (map code_of_gps cs) ≡ false
-gps-beside-glonass [] = refl
-gps-beside-glonass (c ∷ cs) = rw (gps-letter c) (gps-beside-glonass cs)
-
 -- ---- the head of these
 
 -- parts that are good make a head
-pub no-head-fault : (cs : List AnyCode) (f : MixedHeadFault) → IsMixedList cs → has_glonass cs ≡ false → IsMixedHeadFault cs None f → ⊥
-no-head-fault cs Codes good none bad = bad good
-no-head-fault cs NotTold good none bad = bad.1 none
+pub no-head-fault : (cs : List AnyCode) (g : Option GlonassView) (f : MixedHeadFault) → IsMixedList cs → TellsGlonass cs g → IsMixedHeadFault cs g f → ⊥
+no-head-fault cs g Codes good tells bad = bad good
+no-head-fault cs g NotTold good tells bad = bad.1 tells

@@ -19,6 +19,7 @@ use Rattle.rtk_survey.specs.declared.span.Span.{Span}
 use Rattle.rtk_survey.specs.declared.survey.CaptureSurvey.{CaptureSurvey}
 use Rattle.rtk_survey.specs.declared.tellings.Told.{Told}
 use Rattle.rtk_plan.specs.CaptureNames.{capture_name, lines_by}
+use Rattle.rtk_plan.specs.ChannelWords.{no_channel_lines}
 use Rattle.rtk_plan.specs.FewPhases.{has_few_phases}
 use Rattle.rtk_plan.specs.Linking.{places_of}
 use Rattle.rtk_plan.specs.Lists.{date_line, undated_line, stray_line, capture_line, name_line, msm_lines, doppler_line, sbas_line, all_unread}
@@ -123,6 +124,7 @@ lines_before_late names ss plan told =
     undated_lines plan.span.source names plan.captures.items
     ++ all_other_dates names plan.setup.station plan.setup.near ss
     ++ few_phases_lines ss plan.setup.station plan.setup.kinds.gps plan.setup.head.listed
+    ++ no_channel_lines ss plan.setup.station plan.setup.kinds.glonass plan.setup.head.glonass
     ++ texts_left_out told
     ++ stray_lines names plan.span.until plan.strays.items
 

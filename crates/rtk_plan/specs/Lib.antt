@@ -1,6 +1,7 @@
 pub mod CaptureEquipment
 pub mod CaptureNames
 pub mod Causes
+pub mod ChannelWords
 pub mod ChosenStation
 pub mod FewPhases
 pub mod Joining

@@ -19,6 +19,7 @@ use Rattle.rtk_plan.specs.declared.reach.Base.TheVariants.{Given, Told}
 use Rattle.rtk_plan.specs.StationCaptures.{capture_of}
 use Rattle.rtk_plan.specs.Sources.{dated_span_of}
 use Rattle.rtk_plan.specs.Stray.{strays}
+use Rattle.rtk_plan.specs.SlotChannels.{IsGlonassFound}
 use Rattle.rtk_plan.specs.SystemMsms.{kinds_listed}
 use Rattle.rtk_plan.specs.Values.{kinds_in_links, codes_in_captures}
 use Rattle.rtk_plan.specs.declared.wanted.Wanted.{Wanted}
@@ -89,7 +90,7 @@ abbrev pub captures_of : List CaptureSurvey → ℕ → List StationCapture
 captures_of ss station = map (capture_of station) ss
 
 -- the setup of a conversion of captures with these surveys on these links, by these words and at this time of
--- making: each value is named or found; no code is of GLONASS, so nothing is told of it
+-- making: each value is named or found
 pub record IsSetupFor (ss : List CaptureSurvey) (links : List (List ℕ)) (w : Wanted) (made : ℕ) (s : SetupView) : Type 0 where
   pub station : IsChosenStation ss w.station s.station
   pub kinds : s.kinds ≡ kinds_listed (kinds_found w.msm ss links s.station) s.head.listed
@@ -97,6 +98,6 @@ pub record IsSetupFor (ss : List CaptureSurvey) (links : List (List ℕ)) (w : W
   pub marker : s.head.marker ≡ marker_chosen w.marker s.station
   pub made_at : s.head.made ≡ made
   pub window : s.window ≡ w.window
-  pub glonass : s.head.glonass ≡ None
+  pub glonass : IsGlonassFound ss s.station (kinds_found w.msm ss links s.station) s.head.listed s.near s.head.glonass
   pub leap_seconds : s.leap_seconds ≡ None
   pub near_by : IsNearOf w.near (captures_of ss s.station) s.near

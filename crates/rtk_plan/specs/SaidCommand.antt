@@ -10,6 +10,7 @@ use Rattle.rtk_obs.specs.AnyCode.{system_of, name_of, text_of}
 use Rattle.rtk_rinex.specs.MixedHead.{MixedHeadView}
 use Rattle.rtk_obs.specs.Reading.{reading_of}
 use Rattle.rtk_setup.specs.Setup.{SetupView}
+use Rattle.rtk_plan.specs.ChannelWords.{glonass_words}
 use Rattle.rtk_plan.specs.SystemMsms.{kinds_words}
 use Rattle.rtk_plan.specs.Values.{is_gps_system}
 
@@ -53,7 +54,7 @@ value_words s = codes " --codes" ++ code_names 32 s.head.listed ++ kinds_words s
 -- formula
 -- the command with its options
 unfoldable pub convert_words : SetupView → List ℕ
-convert_words s = station_words s ++ marker_words s.head ++ value_words s
+convert_words s = station_words s ++ marker_words s.head ++ value_words s ++ glonass_words s.head.glonass
 
 -- formula
 -- names of files, each after a blank

@@ -1,5 +1,5 @@
 -- The values of the conversion of a station, by the surveys of its captures (this project's rule).
-use Rattle.std.specs.Prelude.{ℕ, ◌+◌, ◌-◌, ◌==◌, Bool, true, false, ◌&&◌, List, [], ◌∷◌, filter, get_or, slice_get, max, Option, None, Some, if◌then◌else◌}
+use Rattle.std.specs.Prelude.{ℕ, ◌+◌, ◌-◌, ◌==◌, Bool, true, false, List, [], ◌∷◌, filter, get_or, slice_get, max, Option, None, Some, if◌then◌else◌}
 use Rattle.std.specs.BTreeMap.{get, values}
 use Rattle.std.specs.List.{list_any, sum_by}
 use Rattle.std.specs.Ordering.{nat_cmp}
@@ -131,20 +131,9 @@ has_code_with ks c (Some t) = has_code_by (system_of c) ks c t
 abbrev pub gives_code : ℕ → SystemKinds → AnyCode → CaptureSurvey → Bool
 gives_code n ks c s = has_code_with ks c (station_in n s)
 
--- table
--- the systems that are converted. GLONASS is not: its phases need channels
-abbrev pub is_converted : System → Bool
-is_converted Gps = true
-is_converted Glonass = false
-is_converted Galileo = true
-is_converted Beidou = true
-is_converted Qzss = true
-is_converted Sbas = true
-is_converted Navic = true
-
--- a code of a system that is converted has a value in some capture
+-- it has one in some capture
 abbrev pub is_found : List CaptureSurvey → ℕ → SystemKinds → AnyCode → Bool
-is_found ss n ks c = is_converted (system_of c) && list_any (gives_code n ks c) ss
+is_found ss n ks c = list_any (gives_code n ks c) ss
 
 abbrev pub codes_in_captures : List CaptureSurvey → ℕ → SystemKinds → List AnyCode
 codes_in_captures ss n ks = filter (is_found ss n ks) all_any_codes

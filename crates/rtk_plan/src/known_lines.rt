@@ -9,6 +9,7 @@ ghost use Rattle.rtk_plan.specs.Linking.{places_of};
 
 use crate::capture_lines::{put_epochs, put_other_dates, put_skipped, put_strays, put_undated};
 use crate::captures::Captures;
+use crate::channel_words::put_no_channel_in;
 use crate::message_lines::{put_doppler, put_msms, put_sbas, put_unread};
 use crate::phase_lines::put_few_phases_in;
 use crate::planning::Plan;
@@ -127,6 +128,7 @@ fn put_first_lines(
     put_undated(lines, captures, plan)?;
     put_other_dates(lines, captures, &plan.setup)?;
     put_few_phases_in(lines, captures.surveys, &plan.setup)?;
+    put_no_channel_in(lines, captures.surveys, &plan.setup)?;
     put_texts_left_out(lines, told)?;
     put_strays(lines, captures, plan.span.until, plan.strays.as_slice())?;
     Ok(())
@@ -196,8 +198,8 @@ fn put_last_lines(
 }
 
 /// What a person should know of a conversion, a line each, only where it is so: captures that are dated near
-/// the others; a date that is told and does not count; codes with few phases; texts that messages told and that
-/// a label does not have; captures with a stray epoch, that are left out, that have no epoch or whose time falls;
+/// the others; a date that is told and does not count; codes with few phases; satellites without a channel; texts
+/// that messages told and that a label does not have; captures with a stray epoch, that are left out, that have no epoch or whose time falls;
 /// and observations that are not taken.
 pub fn what_is_known(
     alloc: Global,

@@ -69,6 +69,7 @@
 mod capture_equipment;
 mod capture_lines;
 mod captures;
+mod channel_words;
 mod chosen_station;
 mod count_lines;
 mod dating;

@@ -7,6 +7,7 @@ ghost use Rattle.rtk_obs.specs.declared.time.TheConstants.{LAST_MS};
 ghost use Rattle.rtk_obs.specs.Reading.{reading_of};
 ghost use Rattle.rtk_plan.specs.SaidCommand as spec;
 
+use crate::channel_words::put_glonass_words;
 use crate::system_msms::put_kinds_words;
 use crate::values::is_gps_system;
 use rtk_message::{put_named, put_sh_quoted};
@@ -127,6 +128,7 @@ fn put_convert_words(line: &mut Vec<u8>, setup: &Setup) -> Result<(), AllocError
     put_station_words(line, setup)?;
     put_marker_words(line, setup.head())?;
     put_value_words(line, setup)?;
+    put_glonass_words(line, setup.head().glonass())?;
     Ok(())
 }
 

@@ -51,8 +51,8 @@ fn gives_slot(station: u16, kind: MsmKind, slot: u8, survey: &CaptureSurvey) -> 
     has_slot(slot, kind, survey.contents.stations.get(&station))
 }
 
-// Has it one in some capture?
-fn is_slot_given(surveys: &[CaptureSurvey], station: u16, kind: MsmKind, slot: u8) -> bool
+/// Has it one in some capture?
+pub(crate) fn is_slot_given(surveys: &[CaptureSurvey], station: u16, kind: MsmKind, slot: u8) -> bool
     requires { slot < 28 }
     ensures { result ≡ spec.is_slot_given surveys.now station kind slot }
 {

@@ -1,25 +1,28 @@
 //! What the conversion of a station is told: the MSM and the codes of each system, and the head of the file.
 
-ghost use Rattle.std.specs.Prelude.{◌≡◌, ◌<◌, None, [], false, map, IfOk, IfErr};
+ghost use Rattle.std.specs.Prelude.{◌≡◌, ◌<◌, ◌≤◌, None, [], map, IfOk, IfErr};
 ghost use Rattle.std.specs.Option.{ForSome};
 ghost use Rattle.rtk_obs.specs.AnyCode.{code_of_gps};
 ghost use Rattle.rtk_obs.specs.CivilText.{last_digits};
 ghost use Rattle.rtk_rinex.specs.Header.{IsCodeList};
-ghost use Rattle.rtk_rinex.specs.MixedHead.{IsMixedList, has_glonass};
+ghost use Rattle.rtk_obs.specs.LeapSeconds.{IsLeapSecondsAt};
+ghost use Rattle.rtk_rinex.specs.MixedHead.{IsGlonassView, IsMixedList, TellsGlonass, has_glonass};
 ghost use Rattle.rtk_plan.specs.Causes.{IfRefused, IsSetupCause};
 ghost use Rattle.rtk_plan.specs.Linking.{places_of};
 ghost use Rattle.rtk_plan.specs.Plan.{IsChosenStation, kinds_found, codes_chosen, marker_chosen, captures_of, IsNearOf, IsSetupFor};
+ghost use Rattle.rtk_plan.specs.SlotChannels.{IsGlonassOf, IsGlonassFound};
 ghost use Rattle.rtk_plan.specs.SystemMsms as msms;
 ghost use Rattle.rtk_plan.specs.Values.{codes_in_captures};
 
 use crate::captures::list_held;
 use crate::refusal::{PlanFault, Refusal, refused};
+use crate::slot_channels::channels_found;
 use crate::system_msms::kinds_listed;
 use crate::values::{codes_in_captures, kinds_in_links};
 use crate::wanted::Wanted;
 use rtk_message::{MsmKind, System};
-use rtk_obs::{AnyCode, Code, GpsMs};
-use rtk_rinex::{CreationTime, Marker, MixedHead};
+use rtk_obs::{AnyCode, Code, GpsMs, leap_seconds_at};
+use rtk_rinex::{CreationTime, Glonass, Marker, MixedHead};
 use rtk_setup::{Reference, Setup, Station, SystemKinds};
 use rtk_survey::CaptureSurvey;
 use std::alloc::{AllocError, Global};
@@ -42,7 +45,6 @@ fn named_codes(alloc: Global, named: &[Code]) -> Result<Vec<AnyCode>, AllocError
     requires { IsCodeList named.now }
     ensures codes { IfOk result (λ codes. codes.items ≡ map code_of_gps named.now) }
     ensures good { IfOk result (λ codes. IsMixedList codes.items) }
-    ensures others { IfOk result (λ codes. has_glonass codes.items ≡ false) }
 {
     let codes = any_codes(alloc, named)?;
     Ok(codes)
@@ -59,7 +61,6 @@ fn codes_to_convert(
     requires { ForSome wanted.now (λ codes. IsCodeList codes.items) }
     ensures codes { IfOk result (λ codes. codes.items ≡ codes_chosen wanted.now surveys.now station kinds) }
     ensures good { IfOk result (λ codes. IsMixedList codes.items) }
-    ensures others { IfOk result (λ codes. has_glonass codes.items ≡ false) }
     ensures refused { IfErr result (IfRefused (λ refusal. (refusal ≡ Refusal.NoCode) × (wanted.now ≡ None)
         × (codes_in_captures surveys.now station kinds ≡ []))) }
 {
@@ -103,13 +104,73 @@ fn marker_of(station: u16, marker: &Option<Marker>) -> Marker
     marker
 }
 
-// The head of the file.
-fn head_of(marker: Marker, codes: &[AnyCode], made: CreationTime) -> MixedHead
-    requires good { IsMixedList codes.now }
-    requires others { has_glonass codes.now ≡ false }
-    ensures { result ≡ record { marker = marker; listed = codes.now; glonass = None; made = made } }
+// Is a listed code of GLONASS?
+fn has_glonass(listed: &[AnyCode]) -> bool
+    ensures { result ≡ has_glonass listed.now }
 {
-    let Ok(head) = MixedHead::new(marker, codes, None, made) else {
+    for code in listed {
+        if code.text()[0] == b'R' {
+            return true;
+        }
+    }
+    false
+}
+
+// The leap seconds of the table at a moment.
+fn table_seconds(near: GpsMs) -> u8
+    ensures said { IsLeapSecondsAt near result }
+    ensures bound { result ≤ 99 }
+{
+    leap_seconds_at(near)
+}
+
+// What the file tells of GLONASS.
+fn glonass_of(
+    surveys: &[CaptureSurvey],
+    station: u16,
+    kind: MsmKind,
+    near: GpsMs,
+) -> Glonass
+    ensures found { IsGlonassOf surveys.now station kind near result }
+    ensures good { IsGlonassView result }
+{
+    let channels = channels_found(surveys, station, kind);
+    let Some(glonass) = Glonass::new(channels, table_seconds(near)) else {
+        unreachable!();
+    };
+    glonass
+}
+
+// What the file tells of GLONASS, if it lists a code of it.
+fn glonass_found(
+    surveys: &[CaptureSurvey],
+    station: u16,
+    kinds: SystemKinds,
+    listed: &[AnyCode],
+    near: GpsMs,
+) -> Option<Glonass>
+    ensures found { IsGlonassFound surveys.now station kinds listed.now near result }
+    ensures due { TellsGlonass listed.now result }
+{
+    if has_glonass(listed) {
+        Some(glonass_of(surveys, station, kinds.glonass, near))
+    } else {
+        None
+    }
+}
+
+// The head of the file.
+fn head_of(
+    marker: Marker,
+    codes: &[AnyCode],
+    glonass: Option<Glonass>,
+    made: CreationTime,
+) -> MixedHead
+    requires good { IsMixedList codes.now }
+    requires due { TellsGlonass codes.now glonass }
+    ensures { result ≡ record { marker = marker; listed = codes.now; glonass = glonass; made = made } }
+{
+    let Ok(head) = MixedHead::new(marker, codes, glonass, made) else {
         unreachable!();
     };
     head
@@ -175,8 +236,9 @@ pub(crate) fn setup_near(
 {
     let kinds = kinds_to_convert(surveys, links, wanted.msm, station);
     let codes = codes_to_convert(alloc, surveys, station, kinds, &wanted.codes)?;
-    let marker = marker_of(station, &wanted.marker);
-    let head = head_of(marker, codes.as_slice(), made);
+    let listed = codes.as_slice();
+    let glonass = glonass_found(surveys, station, kinds, listed, near);
+    let head = head_of(marker_of(station, &wanted.marker), listed, glonass, made);
     let Ok(station) = Station::new(station) else {
         unreachable!();
     };

@@ -1,7 +1,6 @@
 //! The values of the conversion of a station, by the surveys of its captures.
 
 ghost use Rattle.std.specs.Prelude.{◌≡◌, slice_get, IfOk};
-ghost use Rattle.std.specs.List.{list_any};
 ghost use Rattle.std.specs.Option.{option_copied};
 ghost use Rattle.rtk_survey.specs.Proposal as proposal;
 ghost use Rattle.rtk_plan.specs.Linking.{places_of};
@@ -232,38 +231,16 @@ fn gives_code(station: u16, kinds: SystemKinds, code: AnyCode, survey: &CaptureS
     has_code_with(kinds, code, survey.contents.stations.get(&station))
 }
 
-fn is_given(surveys: &[CaptureSurvey], station: u16, kinds: SystemKinds, code: AnyCode) -> bool
-    ensures { result ≡ list_any (spec.gives_code station kinds code) surveys.now }
+// Has a code a value in some capture?
+fn is_found(surveys: &[CaptureSurvey], station: u16, kinds: SystemKinds, code: AnyCode) -> bool
+    ensures { result ≡ spec.is_found surveys.now station kinds code }
 {
     surveys
         .iter()
         .any(|survey| gives_code(station, kinds, code, survey))
 }
 
-// Is the system converted? GLONASS is not: its phases need channels.
-fn is_converted(system: System) -> bool
-    ensures { result ≡ spec.is_converted system }
-{
-    match system {
-        System::Glonass => false,
-        System::Gps
-        | System::Galileo
-        | System::Beidou
-        | System::Qzss
-        | System::Sbas
-        | System::Navic => true,
-    }
-}
-
-// Has a code of a system that is converted a value in some capture?
-fn is_found(surveys: &[CaptureSurvey], station: u16, kinds: SystemKinds, code: AnyCode) -> bool
-    ensures { result ≡ spec.is_found surveys.now station kinds code }
-{
-    is_converted(code.system()) && is_given(surveys, station, kinds, code)
-}
-
-/// The codes of the systems that are converted that have a value in messages of the station that a conversion
-/// takes with the MSM of these kinds.
+/// The codes that have a value in messages of the station that a conversion takes with the MSM of these kinds.
 pub(crate) fn codes_in_captures(
     alloc: Global,
     surveys: &[CaptureSurvey],

@@ -1,7 +1,5 @@
-use Rattle.std.proofs.Common.{ap, ◌∙◌}
-use Rattle.rtk_rinex.specs.MixedHead.{has_glonass}
 use Rattle.rtk_plan.specs.Values.{is_found}
-use Rattle.rtk_plan.proofs.CodeLemmas.{mixed-found, found-beside-glonass}
+use Rattle.rtk_plan.proofs.CodeLemmas.{mixed-found}
 use Rattle.rtk_plan.proofs.station_setup.codes_to_convert.Goals as goal
 
 -- the codes that are found are some of all
@@ -10,6 +8,3 @@ returns-clause-good c =
     mixed-found (is_found c.args.surveys.now c.args.station c.args.kinds)
     c.in_ok-codes.codes.items _ c.is_empty.result c.in_ok-codes.ensures
     c.in_ok-codes.codes.ok.0 c.is_empty.ensures c.if-is_empty.false
-
-pub returns-clause-others : goal.returns-clause-others
-returns-clause-others c = ap has_glonass c.in_ok-codes.ensures ∙ found-beside-glonass c.args.surveys.now c.args.station c.args.kinds
