@@ -10,7 +10,7 @@ use Rattle.rtk_rinex.specs.MixedHead.{GlonassView, has_glonass}
 use Rattle.rtk_setup.specs.declared.system_kinds.SystemKinds.{SystemKinds}
 use Rattle.rtk_survey.specs.declared.survey.CaptureSurvey.{CaptureSurvey}
 use Rattle.rtk_plan.specs.SlotChannels.{count_told, IsMostTold, IsToldField, IsSlotField, channel_if, is_slot_given, IsChannelFound, AreChannelsFound, IsGlonassOf, IsGlonassFound}
-use Rattle.rtk_plan.specs.Steps.ToldFields.{told_with}
+use Rattle.rtk_plan.specs.Steps.ToldFields.{most_told_with}
 use Rattle.rtk_plan.specs.Values.{or_else}
 use Rattle.rtk_plan.specs.declared.slot_channels.MostTold.{MostTold}
 
@@ -68,7 +68,7 @@ told-none counts = record {
   count = refl;
 }
 
-pub told-step : (counts : ℕ → ℕ) (n : ℕ) (t : MostTold) → IsToldSoFar counts n t → IsToldSoFar counts (n + 1) (told_with t n (counts n))
+pub told-step : (counts : ℕ → ℕ) (n : ℕ) (t : MostTold) → IsToldSoFar counts n t → IsToldSoFar counts (n + 1) (most_told_with t n (counts n))
 told-step counts n t is =
     let is_count = is.count in
     let found : MostTold = record { field = Some n; count = counts n } in

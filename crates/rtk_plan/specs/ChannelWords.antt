@@ -21,14 +21,14 @@ abbrev pub channel_in_slot : List (Option ℤ) → ℕ → Option ℤ
 channel_in_slot channels slot = if nat_le 1 slot && nat_le slot 27 then channel_at channels slot else None
 
 -- formula
-abbrev pub channel_text : ℤ → List ℕ
-channel_text k = sign_text (is_negative k) ++ decimal (unsigned_abs k)
+abbrev pub said_channel : ℤ → List ℕ
+said_channel k = sign_text (is_negative k) ++ decimal (unsigned_abs k)
 
 -- formula
 -- a slot and its channel, as 9:-6, behind a separator
-abbrev pub slot_entry : ℕ → ℕ → Option ℤ → List ℕ
-slot_entry separator slot None = []
-slot_entry separator slot (Some k) = separator ∷ decimal slot ++ 58 ∷ channel_text k
+abbrev pub said_slot : ℕ → ℕ → Option ℤ → List ℕ
+said_slot separator slot None = []
+said_slot separator slot (Some k) = separator ∷ decimal slot ++ 58 ∷ said_channel k
 
 -- a comma separates an entry from those before it
 abbrev pub separator_after : ℕ → Option ℤ → ℕ
@@ -36,26 +36,26 @@ separator_after separator None = separator
 separator_after separator (Some k) = 44
 
 -- the slots that have a channel, the first after this separator and each other one after a comma
-abbrev pub slot_entries : ℕ → List (Option ℤ) → List ℕ → List ℕ
-slot_entries separator channels [] = []
-slot_entries separator channels (slot ∷ slots) =
-    slot_entry separator slot (channel_in_slot channels slot)
-    ++ slot_entries (separator_after separator (channel_in_slot channels slot)) channels slots
+abbrev pub said_slots : ℕ → List (Option ℤ) → List ℕ → List ℕ
+said_slots separator channels [] = []
+said_slots separator channels (slot ∷ slots) =
+    said_slot separator slot (channel_in_slot channels slot)
+    ++ said_slots (separator_after separator (channel_in_slot channels slot)) channels slots
 
-abbrev pub has_channel : List (Option ℤ) → ℕ → Bool
-has_channel channels slot = is_some (channel_in_slot channels slot)
+abbrev pub slot_has_channel : List (Option ℤ) → ℕ → Bool
+slot_has_channel channels slot = is_some (channel_in_slot channels slot)
 
 abbrev pub have_channel : List (Option ℤ) → Bool
-have_channel channels = list_any (has_channel channels) all_slots
+have_channel channels = list_any (slot_has_channel channels) all_slots
 
 -- formula
 -- the slots that have a channel, or that none has one
-abbrev pub channels_text : List (Option ℤ) → List ℕ
-channels_text channels = if have_channel channels then slot_entries 32 channels all_slots else codes " none"
+abbrev pub said_channels : List (Option ℤ) → List ℕ
+said_channels channels = if have_channel channels then said_slots 32 channels all_slots else codes " none"
 
 -- formula
 abbrev pub channels_option : List (Option ℤ) → List ℕ
-channels_option channels = codes " --channels" ++ channels_text channels
+channels_option channels = codes " --channels" ++ said_channels channels
 
 -- the option of what a file tells of GLONASS
 abbrev pub glonass_words : Option GlonassView → List ℕ
@@ -66,7 +66,7 @@ glonass_words (Some g) = channels_option g.channels
 
 -- a slot has a value, and no channel
 abbrev pub lacks_channel : List CaptureSurvey → ℕ → MsmKind → List (Option ℤ) → ℕ → Bool
-lacks_channel ss n kind channels slot = nat_lt slot 28 && (is_slot_given ss n kind slot && not (has_channel channels slot))
+lacks_channel ss n kind channels slot = nat_lt slot 28 && (is_slot_given ss n kind slot && not (slot_has_channel channels slot))
 
 abbrev pub have_none : List CaptureSurvey → ℕ → MsmKind → List (Option ℤ) → Bool
 have_none ss n kind channels = list_any (lacks_channel ss n kind channels) all_slots

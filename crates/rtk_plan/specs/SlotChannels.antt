@@ -29,12 +29,12 @@ is_slot_in slot None = false
 is_slot_in slot (Some p) = get_or p.signals.satellites (32 + slot) false
 
 -- the same in the messages of a station that a conversion takes with the MSM of this kind
-abbrev pub has_slot : ℕ → MsmKind → Option StationSurvey → Bool
-has_slot slot kind None = false
-has_slot slot kind (Some t) = is_slot_in slot (get nat_cmp t.system_msm (number_of_type (record { system = Glonass; kind = kind })))
+abbrev pub holds_slot : ℕ → MsmKind → Option StationSurvey → Bool
+holds_slot slot kind None = false
+holds_slot slot kind (Some t) = is_slot_in slot (get nat_cmp t.system_msm (number_of_type (record { system = Glonass; kind = kind })))
 
 abbrev pub gives_slot : ℕ → MsmKind → ℕ → CaptureSurvey → Bool
-gives_slot n kind slot s = has_slot slot kind (station_in n s)
+gives_slot n kind slot s = holds_slot slot kind (station_in n s)
 
 abbrev pub is_slot_given : List CaptureSurvey → ℕ → MsmKind → ℕ → Bool
 is_slot_given ss n kind slot = list_any (gives_slot n kind slot) ss

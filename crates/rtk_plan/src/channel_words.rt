@@ -32,7 +32,7 @@ fn channel_in_slot(channels: &Channels, slot: u8) -> Option<Channel>
 }
 
 fn put_channel(line: &mut Vec<u8>, channel: Channel) -> Result<(), AllocError>
-    ensures { OnOk result (line.new.items ≡ line.old.items ++ spec.channel_text channel) }
+    ensures { OnOk result (line.new.items ≡ line.old.items ++ spec.said_channel channel) }
 {
     let number = channel.number();
     if number < 0 {
@@ -42,13 +42,13 @@ fn put_channel(line: &mut Vec<u8>, channel: Channel) -> Result<(), AllocError>
 }
 
 // Appends a slot and its channel, if it has one, behind a separator.
-fn put_slot_entry(
+fn put_slot(
     line: &mut Vec<u8>,
     separator: u8,
     slot: u8,
     channel: Option<Channel>,
 ) -> Result<(), AllocError>
-    ensures { OnOk result (line.new.items ≡ line.old.items ++ spec.slot_entry separator slot channel) }
+    ensures { OnOk result (line.new.items ≡ line.old.items ++ spec.said_slot separator slot channel) }
 {
     let Some(channel) = channel else {
         return Ok(());
@@ -70,24 +70,24 @@ fn separator_after(separator: u8, channel: Option<Channel>) -> u8
 }
 
 // Appends the slots of some that have a channel.
-fn put_slot_entries(
+fn put_slots(
     line: &mut Vec<u8>,
     channels: &Channels,
     slots: &[u8],
 ) -> Result<(), AllocError>
-    ensures { OnOk result (line.new.items ≡ line.old.items ++ spec.slot_entries 32 channels.now slots.now) }
+    ensures { OnOk result (line.new.items ≡ line.old.items ++ spec.said_slots 32 channels.now slots.now) }
 {
     let mut separator = b' ';
     for slot in slots {
         let channel = channel_in_slot(channels, *slot);
-        put_slot_entry(line, separator, *slot, channel)?;
+        put_slot(line, separator, *slot, channel)?;
         separator = separator_after(separator, channel);
     }
     Ok(())
 }
 
-fn has_channel(channels: &Channels, slot: u8) -> bool
-    ensures { result ≡ spec.has_channel channels.now slot }
+fn slot_has_channel(channels: &Channels, slot: u8) -> bool
+    ensures { result ≡ spec.slot_has_channel channels.now slot }
 {
     channel_in_slot(channels, slot).is_some()
 }
@@ -95,15 +95,15 @@ fn has_channel(channels: &Channels, slot: u8) -> bool
 fn have_channel(channels: &Channels) -> bool
     ensures { result ≡ spec.have_channel channels.now }
 {
-    SLOTS.iter().any(|slot| has_channel(channels, *slot))
+    SLOTS.iter().any(|slot| slot_has_channel(channels, *slot))
 }
 
 // Appends the channels as the option lists them.
 fn put_channels(line: &mut Vec<u8>, channels: &Channels) -> Result<(), AllocError>
-    ensures { OnOk result (line.new.items ≡ line.old.items ++ spec.channels_text channels.now) }
+    ensures { OnOk result (line.new.items ≡ line.old.items ++ spec.said_channels channels.now) }
 {
     if have_channel(channels) {
-        put_slot_entries(line, channels, &SLOTS)
+        put_slots(line, channels, &SLOTS)
     } else {
         line.extend_from_slice(b" none")
     }
@@ -146,7 +146,7 @@ fn lacks_channel(captures: &SlotCaptures<'_>, slot: u8) -> bool
 {
     slot < 28
         && is_slot_given(captures.surveys, captures.station, captures.kind, slot)
-        && !has_channel(&captures.channels, slot)
+        && !slot_has_channel(&captures.channels, slot)
 }
 
 fn have_none(captures: &SlotCaptures<'_>) -> bool

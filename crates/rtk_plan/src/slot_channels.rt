@@ -4,7 +4,7 @@ ghost use Rattle.std.specs.Prelude.{◌≡◌, ◌<◌, None, IfSome};
 ghost use Rattle.std.specs.Option.{option_copied};
 ghost use Rattle.rtk_obs.specs.Carriers.{IsSlot, channel_at};
 ghost use Rattle.rtk_plan.specs.SlotChannels as spec;
-ghost use Rattle.rtk_plan.specs.Steps.ToldFields.{told_with};
+ghost use Rattle.rtk_plan.specs.Steps.ToldFields.{most_told_with};
 
 use rtk_message::{MsmKind, MsmType, System};
 use rtk_obs::{Channel, Channels};
@@ -32,9 +32,9 @@ fn is_slot_in(slot: u8, part: Option<&SystemMsm>) -> bool
 }
 
 // Has the satellite of a slot a value in the messages of a station that a conversion takes with this MSM?
-fn has_slot(slot: u8, kind: MsmKind, station: Option<&StationSurvey>) -> bool
+fn holds_slot(slot: u8, kind: MsmKind, station: Option<&StationSurvey>) -> bool
     requires { slot < 28 }
-    ensures { result ≡ spec.has_slot slot kind (option_copied station.entry) }
+    ensures { result ≡ spec.holds_slot slot kind (option_copied station.entry) }
 {
     let system = System::Glonass;
     let msm = MsmType { system, kind };
@@ -48,7 +48,7 @@ fn gives_slot(station: u16, kind: MsmKind, slot: u8, survey: &CaptureSurvey) -> 
     requires { slot < 28 }
     ensures { result ≡ spec.gives_slot station kind slot survey.now }
 {
-    has_slot(slot, kind, survey.contents.stations.get(&station))
+    holds_slot(slot, kind, survey.contents.stations.get(&station))
 }
 
 /// Has it one in some capture?
@@ -117,8 +117,8 @@ struct MostTold {
 }
 
 // A field more, which is told so often.
-fn told_with(told: MostTold, field: u8, count: u64) -> MostTold
-    ensures { result ≡ told_with told field count }
+fn most_told_with(told: MostTold, field: u8, count: u64) -> MostTold
+    ensures { result ≡ most_told_with told field count }
 {
     if told.count < count {
         MostTold {
@@ -139,7 +139,7 @@ fn told_field(surveys: &[CaptureSurvey], source: Option<u16>, slot: u8) -> Optio
         count: 0,
     };
     for field in 0u8..FIELDS {
-        told = told_with(told, field, count_told(surveys, source, slot, field));
+        told = most_told_with(told, field, count_told(surveys, source, slot, field));
     }
     told.field
 }

@@ -3,5 +3,5 @@ use Rattle.std.specs.Prelude.{◌≡◌, ℕ, nat_lt, Option, None, Some, if◌t
 use Rattle.rtk_plan.specs.declared.slot_channels.MostTold.{MostTold}
 
 -- a field more, which is told so often
-abbrev pub told_with : MostTold → ℕ → ℕ → MostTold
-told_with t field count = if nat_lt t.count count then record { field = Some field; count = count } else t
+abbrev pub most_told_with : MostTold → ℕ → ℕ → MostTold
+most_told_with t field count = if nat_lt t.count count then record { field = Some field; count = count } else t
