@@ -7,18 +7,19 @@ use Rattle.rtk_message.specs.declared.msm_kind.MsmKind.{MsmKind}
 use Rattle.rtk_message.specs.declared.msm_type.MsmType.{MsmType}
 use Rattle.rtk_message.specs.declared.system.System.{System}
 use Rattle.rtk_message.specs.declared.system.System.TheVariants.{Gps, Glonass, Galileo, Beidou, Qzss, Sbas, Navic}
-use Rattle.rtk_message.specs.Systems.{number_of_type}
+use Rattle.rtk_message.specs.Systems.{number_of_type, type_of_number}
 use Rattle.rtk_obs.specs.declared.any_code.AnyCode.{AnyCode}
 use Rattle.rtk_obs.specs.AnyCode.{system_of, place_of, number_of, all_any_codes}
 use Rattle.rtk_setup.specs.Setup.{kind_of}
 use Rattle.rtk_setup.specs.declared.system_kinds.SystemKinds.{SystemKinds}
-use Rattle.rtk_survey.specs.Contents.{msm_part, others_held}
+use Rattle.rtk_survey.specs.Contents.{count_at, msm_part, others_held}
 use Rattle.rtk_survey.specs.Counting.{shown_count}
 use Rattle.rtk_survey.specs.Proposal.{proposed}
 use Rattle.rtk_survey.specs.declared.epochs.Epochs.{Epochs}
 use Rattle.rtk_survey.specs.declared.station.StationSurvey.{StationSurvey}
 use Rattle.rtk_survey.specs.declared.survey.CaptureSurvey.{CaptureSurvey}
 use Rattle.rtk_survey.specs.declared.system_msm.SystemMsm.{SystemMsm}
+use Rattle.rtk_survey.specs.declared.unread.Unread.{Unread}
 use Rattle.rtk_plan.specs.StationCaptures.{station_in}
 
 -- table
@@ -156,9 +157,21 @@ sbas_of_station (Some t) = t.counts.sbas_1004
 abbrev pub sbas_in_captures : List CaptureSurvey → ℕ → ℕ
 sbas_in_captures ss n = shown_count (sum_by (λ s. sbas_of_station (station_in n s)) ss)
 
--- how many messages of a number that is not read captures have
+-- how many messages of a number were refused
+abbrev pub refused_of_number : Unread → ℕ → ℕ
+refused_of_number u number = shown_count (shown_count (count_at u.short number + count_at u.outside_week number) + count_at u.too_many_cells number)
+
+-- how many were, if they are MSM of another system than GPS, which a conversion of GPS takes for other messages
+abbrev pub refused_beside : Option MsmType → Unread → ℕ → ℕ
+refused_beside None u number = 0
+refused_beside (Some m) u number = if is_gps_system m.system then 0 else refused_of_number u number
+
+-- how many messages of a number a capture has that a conversion of GPS does not read
+abbrev pub others_of_capture : ℕ → CaptureSurvey → ℕ
+others_of_capture number s = shown_count (others_held s.contents number + refused_beside (type_of_number number) s.contents.unread number)
+
 abbrev pub others_in_captures : List CaptureSurvey → ℕ → ℕ
-others_in_captures ss number = shown_count (sum_by (λ s. others_held s.contents number) ss)
+others_in_captures ss number = shown_count (sum_by (others_of_capture number) ss)
 
 -- table
 -- how many messages of a number that is read a station has

@@ -9,7 +9,9 @@ ghost use Rattle.rtk_plan.specs.Values as spec;
 use rtk_message::{MsmKind, MsmType, System};
 use rtk_obs::{ALL_ANY_CODES, AnyCode};
 use rtk_setup::SystemKinds;
-use rtk_survey::{CaptureSurvey, Epochs, StationSurvey, SystemMsm, others_numbered};
+use rtk_survey::{
+    CaptureSurvey, Epochs, StationSurvey, SystemMsm, Unread, count_of_number, others_numbered,
+};
 use std::alloc::{AllocError, Global};
 
 /// Is this GPS, whose messages are held beside those of all other systems?
@@ -302,13 +304,41 @@ pub(crate) fn sbas_in_captures(surveys: &[CaptureSurvey], station: u16) -> u64
     count
 }
 
-/// How many messages of a number that is not read captures have.
+// How many messages of a number were refused.
+fn refused_of_number(unread: &Unread, number: u16) -> u64
+    ensures { result ≡ spec.refused_of_number unread.now number }
+{
+    let short = count_of_number(&unread.short, number);
+    let short_or_outside = short.saturating_add(count_of_number(&unread.outside_week, number));
+    short_or_outside.saturating_add(count_of_number(&unread.too_many_cells, number))
+}
+
+// How many were refused, if they are MSM of another system than GPS.
+fn refused_beside(msm: Option<MsmType>, unread: &Unread, number: u16) -> u64
+    ensures { result ≡ spec.refused_beside msm unread.now number }
+{
+    match msm {
+        Some(msm) if !is_gps_system(msm.system) => refused_of_number(unread, number),
+        _ => 0,
+    }
+}
+
+// How many messages of a number a capture has that a conversion of GPS does not read.
+fn others_of_capture(number: u16, survey: &CaptureSurvey) -> u64
+    ensures { result ≡ spec.others_of_capture number survey.now }
+{
+    let msm = MsmType::of_number(number);
+    let refused = refused_beside(msm, &survey.contents.unread, number);
+    others_numbered(&survey.contents, number).saturating_add(refused)
+}
+
+/// How many messages of a number captures have that a conversion of GPS does not read.
 pub(crate) fn others_in_captures(surveys: &[CaptureSurvey], number: u16) -> u64
     ensures { result ≡ spec.others_in_captures surveys.now number }
 {
     let mut count = 0u64;
     for survey in surveys {
-        count = count.saturating_add(others_numbered(&survey.contents, number));
+        count = count.saturating_add(others_of_capture(number, survey));
     }
     count
 }
