@@ -74,6 +74,7 @@ mod chosen_station;
 mod count_lines;
 mod dating;
 mod few_phases;
+mod held_messages;
 mod joining;
 mod kept;
 mod known_lines;

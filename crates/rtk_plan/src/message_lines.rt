@@ -5,7 +5,9 @@
 ghost use Rattle.std.specs.Prelude.{◌≡◌, ◌≤◌, ◌+◌, ◌++◌, OnOk};
 ghost use Rattle.rtk_plan.specs.Lists as spec;
 
-use crate::values::{held_in_captures, messages_in_captures, others_in_captures, sbas_in_captures};
+use crate::held_messages::{
+    held_in_captures, messages_in_captures, others_in_captures, sbas_in_captures,
+};
 use rtk_message::{Accepted, MsmKind, put_named};
 use rtk_survey::CaptureSurvey;
 use std::alloc::AllocError;

@@ -3,7 +3,7 @@ use Rattle.std.specs.BTreeMap.{values}
 use Rattle.std.specs.List.{sum_by}
 use Rattle.rtk_survey.specs.Counting.{shown_count}
 use Rattle.rtk_plan.specs.Values.{read_of_station}
-use Rattle.rtk_plan.proofs.values.read_in_capture.Given as goal
+use Rattle.rtk_plan.proofs.held_messages.read_in_capture.Given as goal
 
 -- the count so far and those of the stations that are left are that of all
 abbrev pub invariant-loop-station : goal.invariant-loop-station
