@@ -133,6 +133,7 @@ pub(crate) fn put_glonass_words(
 // ---- slots without a channel
 
 /// The captures of a station, and the channels of its slots.
+#[derive(Clone, Copy)]
 struct SlotCaptures<'s> {
     surveys: &'s [CaptureSurvey],
     station: u16,
