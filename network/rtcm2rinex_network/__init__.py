@@ -2,9 +2,10 @@
 
 A script has the words of its command and one call. Each module has one subject, and imports only those that stand above it here:
 
-- `ends`, `settings`, `times`, `names`, `program`: statuses, settings, times, the names of files, and the program
+- `ends`, `systems`, `settings`, `times`, `names`, `program`: statuses, systems of satellites, settings, times, the names of files, and the
+  program
 - `table`, `labels`, `sources`: the tables
-- `captures`, `lists`, `rinex`, `placing`, `places`: what a run reads and writes
+- `captures`, `lists`, `rinex`, `placing`, `places`, `before`: what a run reads and writes, and what it finds
 - `comparison`, `guards`: whether a new file is worse than the old one
 - `making`, `after`, `span`, `spans`, `parallel`: the file of a span, and the files of many
 - `checking`, `stations`, `reporting`, `deleting`: what is wrong with tables and settings, what is there, how it is told, and what may go

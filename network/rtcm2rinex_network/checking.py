@@ -36,7 +36,7 @@ def run_table(words: Sequence[str]) -> int:
 def columns_of(row: Row, settings: Settings) -> str:
     """A row as --rows prints it."""
     return "\t".join([row.name9, row.station, row.marker, row.interval, str(row.interval_ms), row.codes, row.window, row.msm(settings),
-        str(row.directory)])
+        str(row.directory), *(row.glonass.get(name, "-") for name in ("channels", "leap_seconds"))])
 
 
 def print_rows(settings: Settings) -> int:
@@ -73,12 +73,13 @@ def faults_of_rows(settings: Settings) -> Iterator[Tuple[Row, str]]:
     path = labels_beside(settings.stations)
     if program is None and path.exists():
         raise Refused("there is no program rtcm2rinex")
-    codes: Dict[str, str] = {}
+    known: Dict[Tuple[str, ...], str] = {}
     for row, fault in rows_with_faults(settings.stations):
         if not fault and program:
-            if row.codes not in codes:
-                codes[row.codes] = program.fault_of_codes(row.codes)
-            fault = codes[row.codes] or fault_of_label(program, settings, row)
+            options = tuple(row.codes_and_channels)
+            if options not in known:
+                known[options] = program.fault_of_codes(options)
+            fault = known[options] or fault_of_label(program, settings, row)
         yield row, fault
 
 

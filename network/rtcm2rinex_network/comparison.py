@@ -62,7 +62,7 @@ def unpacked(path: Path, plain: Path) -> Path:
 def lost_first_slips(old: Path, new: Path) -> List[str]:
     """Where slips of the old file stand that the new one has no more, at the first phase of their satellite and code in both files."""
     now = first_phases(new)
-    return [f"{key[2:]} {satellite} {code}" for (satellite, code), (key, is_slip) in first_phases(old).items()
+    return [f"{key[2:]} {satellite} {code[-2:]}" for (satellite, code), (key, is_slip) in first_phases(old).items()
         if is_slip and now.get((satellite, code)) == (key, False)]
 
 
@@ -72,7 +72,7 @@ def first_phases(path: Path) -> Dict[Tuple[str, str], Tuple[str, bool]]:
     found: Dict[Tuple[str, str], Tuple[str, bool]] = {}
     for key, satellites in epochs_of(path):
         for satellite, line in satellites.items():
-            for rank, code in enumerate(codes):
+            for rank, code in enumerate(codes.get(satellite[0], [])):
                 if (satellite, code) not in found and (cell := cell_of(line, rank)).has_phase:
                     found[satellite, code] = (key, cell.is_slip)
     return found

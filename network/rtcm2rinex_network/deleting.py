@@ -104,14 +104,18 @@ def spans_of(hour: int, lengths: Sequence[str]) -> List[Span]:
 
 
 def fault_of_span(folder: Folder, row: Row, span: Span, options: Options) -> str:
-    """Why a span is not final for a row; nothing if it is."""
+    """Why a span is not final for a row; nothing if it is. If a file has lists of two types of data, a run that gives it another one was
+    ended, so both must be final."""
     if span.end > options.before:
         return "it is young"
-    lists = [it for it in folder.lists.get(span, []) if it.startswith(f"{row.name9}_")]
-    faults = [fault_of_file(folder, span, it, options) for it in lists]
+    faults: Dict[str, str] = {}
+    for it in folder.lists.get(span, []):
+        if it.startswith(f"{row.name9}_"):
+            interval = it.split("_")[4]
+            faults[interval] = faults.get(interval) or fault_of_file(folder, span, it, options)
     if not faults:
         return "there is no file" if folder.captures_of(span.own_hours) else ""
-    return "" if "" in faults else faults[0]
+    return "" if "" in faults.values() else next(iter(faults.values()))
 
 
 def fault_of_file(folder: Folder, span: Span, list_name: str, options: Options) -> str:

@@ -13,14 +13,16 @@ from .captures import Sum
 from .comparison import Unlike, differences, lost_first_slips
 from .lists import Made, Record
 from .labels import fields_of_options, options_of
+from .names import read_name
 from .places import form_of, is_compact
 from .program import Program
-from .rinex import Header, codes_with_values, count_epochs, count_values, read_header
+from .rinex import Header, codes_with_values, count_epochs, count_values, counts_of_systems, read_header
+from .systems import kinds_of, systems_of
 
 MOST_METRES = 1.0  # of a position that comes from the same antenna
 MOST_CONFLICTS = 0.01  # of the messages that were taken
 CONFLICT = re.compile(r"(?m)^link \d+ conflict \d+ (?:-|\S+ \S+)", re.ASCII)
-OF_OTHER_GUARDS = re.compile(r"lost code \S+|(lost|changed) position", re.ASCII)  # lines of `compare`
+OF_OTHERS = re.compile(r"lost code \S+|(lost|changed) (position|channel \d+)|changed leap-seconds", re.ASCII)  # lines of `compare`
 OF_WHOLE_FILE = re.compile(r"lost slip .*", re.ASCII)  # also a line of `compare`
 
 
@@ -33,6 +35,11 @@ class MadeBy:
     msm: Optional[str]
     codes: Tuple[str, ...]
     fields: Dict[str, str]
+
+    @property
+    def kinds(self) -> Dict[str, str]:
+        """The kind of MSM of each system, if it is known."""
+        return kinds_of(self.msm, self.codes) if self.msm is not None else {}
 
 
 @dataclass(frozen=True)
@@ -48,6 +55,11 @@ class Old:
     by: MadeBy
     header: Header
     report: str
+
+    def name_of(self, new: str) -> str:
+        """The name of before of a new file, which may have another type of data."""
+        name, before = read_name(new), read_name(self.path.name)
+        return str(name.with_kind(before.kind)) if name and before else new
 
     def file(self, name: str) -> Optional[Path]:
         """Where a file lies, if it and that of the span are there and can be read."""
@@ -65,9 +77,10 @@ class Old:
 
 @dataclass(frozen=True)
 class New:
-    """The new files: what was made, where that of the span lies now, the text of the report, whether all is as in the list of before from
-    which they were made, and whether captures lost bytes."""
+    """The new files: what they were made by, what was made, where that of the span lies now, the text of the report, whether all is as in
+    the list of before from which they were made, and whether captures lost bytes."""
 
+    by: MadeBy
     made: Dict[str, Made]
     path: Path
     report: str
@@ -86,7 +99,7 @@ def old_files(path: Path, record: Record, intact: FrozenSet[str]) -> Old:
     fields = {**header.fields, "marker": header.marker} if header.marker else {}
     if used and not (is_there and path.name in intact):
         fields.update({**fields_of_options(options_of(used.label) or []), "marker": used.marker})
-    by = MadeBy(used.station if used else None, used.msm if used else None, used.codes if used else header.codes, fields)
+    by = MadeBy(used.station if used else None, used.msm if used else None, used.codes if used else header.all_codes, fields)
     return Old(record.made, intact, path, is_there, by, header, text)
 
 
@@ -104,15 +117,19 @@ def guard_captures(before: Dict[str, Sum], found: Dict[str, Sum], unread: Set[st
         yield f"captures that the file was made from are gone: {' '.join(sorted(gone))}"
 
 
-def guard_words(name: str, old: Old, new: MadeBy) -> Iterator[str]:
+def guard_words(old: Old, new: MadeBy) -> Iterator[str]:
     """A table that was edited says how the station is now, and the file may be of the time before. Another number is another station,
     and another MSM has other values of the same codes. A code that the row names no more, and a field of the label that is another one
-    now, belong to another receiver or antenna. A field that was blank may be filled, and a code without a value may go."""
+    now, belong to another receiver or antenna. A field that was blank may be filled, and a code without a value may go. Codes of another
+    system may come."""
+    name = old.path.name
     by, path = old.by, old.file(name)
     if by.station not in (None, new.station):
         yield f"{name} is of station {by.station}, and the table has {new.station}"
-    if by.msm not in (None, new.msm):
-        yield f"{name} is of MSM{by.msm}, and would be of MSM{new.msm}"
+    for system, kind in by.kinds.items():
+        if (now := new.kinds.get(system, kind)) != kind:
+            of = f" of {system}" if len(by.kinds) > 1 else ""
+            yield f"{name} is of MSM{kind}{of}, and would be of MSM{now}{of}"
     dropped = [code for code in by.codes if code not in new.codes]
     if dropped and path and name in old.intact:
         there = codes_with_values(path)
@@ -121,8 +138,8 @@ def guard_words(name: str, old: Old, new: MadeBy) -> Iterator[str]:
         yield f"{name} has the codes {','.join(dropped)}, and the row has them no more"
     for field, text in sorted(by.fields.items()):
         if not is_same_field(text, new.fields.get(field, "")):
-            now = repr(new.fields[field]) if field in new.fields else "nothing"
-            yield f"{name} has the {field} {text!r}, and would have {now}: dates in the tables say from when until when they hold"
+            filled = repr(new.fields[field]) if field in new.fields else "nothing"
+            yield f"{name} has the {field} {text!r}, and would have {filled}: dates in the tables say from when until when they hold"
 
 
 def is_same_field(old: str, new: str) -> bool:
@@ -132,26 +149,31 @@ def is_same_field(old: str, new: str) -> bool:
 
 def guard_compact(old: Old, made: Dict[str, Made]) -> Iterator[str]:
     """A file that can't be read here can't be compared with a new one."""
-    for name, it in made.items():
+    for name, it in ((old.name_of(new), it) for new, it in made.items()):
         form = form_of(old.path.with_name(name))
         if is_compact(form) and not old.is_same(name, it) and not old.is_cut(name):
             yield f"{form.name} can't be read here, so nobody knows whether the new file is worse"
 
 
-def guard_counts(name: str, listed: Made, new: Made) -> Iterator[str]:
-    """A file that was moved away is compared by what its list counts."""
-    if new.epochs < listed.epochs:
-        yield f"{name} had {listed.epochs} epochs, and would have {new.epochs}"
-    if new.values < listed.values:
-        yield f"{name} had {listed.values} values, and would have {new.values}"
+def guard_counts(name: str, old: Old, new: New, file: str) -> Iterator[str]:
+    """A file that was moved away is compared by what its list counts. Of a new file with other systems those count that it had."""
+    listed, made, systems = old.made[name], new.made[file], systems_of(old.by.codes)
+    epochs, values = made.epochs, made.values
+    if systems != systems_of(new.by.codes):
+        epochs, values = counts_of_systems(new.path.with_name(file), systems)
+    if epochs < listed.epochs:
+        yield f"{name} had {listed.epochs} epochs, and would have {epochs}"
+    if values < listed.values:
+        yield f"{name} had {listed.values} values, and would have {values}"
 
 
-def guard_records(program: Program, name: str, old: Old, new: New) -> Iterator[str]:
+def guard_records(program: Program, name: str, old: Old, new: New, now: Path) -> Iterator[str]:
     """A loss in one hour of a day may hide behind a gain in another, so `compare` looks at each value and mark. Codes and position have
-    guards of their own. A file that is made once more from the same heals what a disk or a hand changed, so only what is lost counts.
-    A slip of a thinned file is one of the file of the span, which has the phases that explain it. `compare` explains values in other steps
-    by messages that came, which have finer ones; but those that went may have had them."""
-    path, now = old.file(name), new.path.with_name(name)
+    guards of their own, and channels and leap seconds that were wrong show in phases and epochs. A file that is made once more from the
+    same heals what a disk or a hand changed, so only what is lost counts. A slip of a thinned file is one of the file of the span, which
+    has the phases that explain it. `compare` explains values in other steps by messages that came, which have finer ones; but those that
+    went may have had them."""
+    path = old.file(name)
     if path is None:
         return
     try:
@@ -161,7 +183,7 @@ def guard_records(program: Program, name: str, old: Old, new: New) -> Iterator[s
             yield f"{name} was changed, and can't be compared: {fault}"
         return
     is_thin = name != old.path.name
-    others = [it for it in found.lines if OF_OTHER_GUARDS.fullmatch(it) or (is_thin and OF_WHOLE_FILE.fullmatch(it))]
+    others = [it for it in found.lines if OF_OTHERS.fullmatch(it) or (is_thin and OF_WHOLE_FILE.fullmatch(it))]
     lines = [it for it in found.lines if it not in others]
     lost, changed = (count - sum(it.startswith(kind) for it in others) for kind, count in found.counts.items())
     if lost or (changed and not new.is_of_list):
@@ -197,6 +219,11 @@ def guard_conflicts(name: str, old: str, new: str) -> Iterator[str]:
         yield f"{name} would have conflicts in {conflicts} messages, where {taken} were taken, and had none: a link may be of another station"
 
 
+def may_be_fewer(old: Old, by: MadeBy, report: str) -> bool:
+    """Whether fewer messages may be there than before. Messages of other systems count too, so then nobody knows."""
+    return systems_of(old.by.codes) != systems_of(by.codes) or count_of(report, "taken") < count_of(old.report, "taken")
+
+
 def count_of(report: str, word: str) -> int:
     """A count of a report; 0 if it has none."""
     match = re.search(rf"(?m)^{word} (\d+)$", report, re.ASCII)
@@ -208,11 +235,12 @@ def faults_of(program: Program, old: Old, new: New) -> Iterator[str]:
     if old.is_there:
         yield from guard_position(old.path.name, old.header, read_header(new.path))
         yield from guard_conflicts(old.path.name, old.report, new.report)
-    for name, it in new.made.items():
-        if listed := old.made.get(name):
-            yield from guard_counts(name, listed, it)
+    for file, it in new.made.items():
+        name = old.name_of(file)
+        if name in old.made:
+            yield from guard_counts(name, old, new, file)
         if not old.is_same(name, it) and not old.is_cut(name):
-            yield from guard_records(program, name, old, new)
+            yield from guard_records(program, name, old, new, new.path.with_name(file))
 
 
 def captures_that_differ(before: Record, now: Record) -> List[str]:

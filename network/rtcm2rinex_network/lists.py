@@ -6,26 +6,29 @@ later is the same. Then come these lines:
     unread CAPTURE                      a capture that could not be read, and was left out
     made FILE SIZE EPOCHS VALUES SUM    a file that was made; a thinned file without epochs is none, and its sum is -
     report SIZE SUM                     the report of the first of them
-    used msm N window N codes LIST every INTERVALS    what the conversion was told
+    used msm KINDS window N codes LIST every INTERVALS    what the conversion was told, with channels and leap_seconds behind the codes
     deleted CAPTURE                     a capture that `delete-captures` deleted since
     seen FILE SIZE INODE TIME TIME      what `stat` said of a capture or file before its sum was taken
 
-The list of an older version may lack values, sums of files and the line `used`, and may have a line `every`.
+Behind the columns of the row stand msm KINDS if it isn't 4, channels LIST, leap_seconds N, and label OPTIONS. The list of an older version
+may lack values, sums of files and the line `used`, and may have a line `every`.
 """
 
 from __future__ import annotations
 
 import re
-from dataclasses import dataclass, field
+from dataclasses import dataclass, field, replace
 from pathlib import Path
-from typing import Dict, List, Optional, Set, Tuple
+from typing import Dict, List, Mapping, Optional, Sequence, Set, Tuple
 
 from .captures import Sum
+from .systems import DEFAULT_KIND, LETTERS
 
 SUM = r"(\d+) ([0-9a-f]{64})"
 MADE = re.compile(r"made ([A-Z0-9_]+\.rnx) (\d+) (\d+)(?: (\d+) ([0-9a-f]{64}|-))?", re.ASCII)
 CAPTURE = r"link\d+/\d{11}\.rtcm"
-ROW = re.compile(r"row (\S+) (\S+) (\S+) (\S+) (\S+) (\S+) (.*?)(?: msm ([5-7]))?(?: label (.*))?", re.ASCII)
+ROW = re.compile(r"row (\S+) (\S+) (\S+) (\S+) (\S+) (\S+) (.*?)"
+    rf"(?: msm ([4-7](?:,[{LETTERS}][4-7])*))?(?: channels ([0-9:,-]+|none))?(?: leap_seconds (\d+))?(?: label (.*))?", re.ASCII)
 
 
 @dataclass(frozen=True)
@@ -54,12 +57,14 @@ class Made:
 
 @dataclass(frozen=True)
 class Used:
-    """What a row of a list says: the number of the station, the marker, the codes, the MSM, and the options of the label."""
+    """What a row of a list says: the number of the station, the marker, the codes, the MSM, the channels of GLONASS, and the options of the
+    label."""
 
     station: str
     marker: str
     codes: Tuple[str, ...]
     msm: str
+    channels: Optional[str]
     label: str
 
 
@@ -94,8 +99,22 @@ class Record:
         """What its row says, if it has one."""
         for line in self.head:
             if match := ROW.fullmatch(line):
-                return Used(match[1], match[2], tuple(match[5].split(",")), match[8] or "4", match[9] or "")
+                return Used(match[1], match[2], tuple(match[5].split(",")), match[8] or DEFAULT_KIND, match[9], match[11] or "")
         return None
+
+
+def row_line(text: str, msm: str, glonass: Mapping[str, str], label: str) -> str:
+    """The line of a row: its columns, and the words that stand behind them."""
+    words = {"msm": "" if msm == DEFAULT_KIND else msm, **glonass, "label": label}
+    return f"row {text}" + "".join(f" {name} {it}" for name, it in words.items() if it)
+
+
+def joined(own: Record, others: Sequence[Record]) -> Record:
+    """The list of a file with the files of the lists that it has under other names. If it has no list of its own, the first of these is its
+    list."""
+    first = own if own.head or not others else others[0]
+    made = {name: it for record in (first, *others) for name, it in record.made.items()}
+    return replace(first, made=made)
 
 
 def read_list(path: Path) -> Record:

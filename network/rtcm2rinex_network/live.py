@@ -16,7 +16,7 @@ from typing import BinaryIO, Callable, Iterator, List, NoReturn, Optional, Seque
 from .captures import Unread, pieces_of
 from .ends import DONE, REFUSED, Again, Ended, Refused, Usage, say
 from .keeping import PIECE, Keeper, gps_hour, keep_input, write_all
-from .names import LINK, Name, capture_name, read_name
+from .names import LINK, capture_name, read_name
 from .places import folder_with, form_of
 from .placing import write_whole
 from .program import find_program
@@ -54,15 +54,12 @@ class LiveJob:
 
     def live_file(self, span: Span) -> Path:
         """The live file of a span."""
-        name = Name(self.row.name9, span, self.row.interval)
-        return self.out / (f"{name}" + (f".link{self.link}" if self.link > 1 else "") + ".live")
+        return self.out / (f"{self.row.name(span)}" + (f".link{self.link}" if self.link > 1 else "") + ".live")
 
     def words(self, span: Span) -> List[str]:
         """The words of `convert`. A number of epochs by which it is behind the stream stands for the window of the row."""
-        msm = self.row.msm(self.settings)
-        return ["convert", "--station", self.row.station, "--near", span.start, "--made", text_of(time.time()), "--marker",
-            self.row.marker, "--codes", self.row.codes, "--window", self.settings.word("WINDOW", "4"),
-            *([] if msm == "4" else ["--msm", msm]), "stdin"]
+        return ["convert", *self.row.options(self.row.msm(self.settings)), "--near", span.start, "--made", text_of(time.time()),
+            "--window", self.settings.word("WINDOW", "4"), "stdin"]
 
 
 class Live(threading.Thread):
@@ -158,12 +155,11 @@ class Live(threading.Thread):
         return [path for folder in folders for path in (folder / name, folder / f"{name}.gz") if path.is_file()]
 
     def remove_old(self, span: Span) -> None:
-        """Removes the live files of other spans whose file is made."""
-        now = str(Name(self.job.row.name9, span, self.job.row.interval))
+        """Removes the live files of other spans whose file is made, perhaps with another type of data."""
+        now = self.job.row.name(span)
         for live in self.job.out.glob("*.live"):
-            file = re.sub(r"(\.link\d+)?\.live$", "", live.name)
-            name = read_name(file)
-            if name and file != now and form_of(folder_with(self.job.out, name) / file).is_file():
+            name = read_name(re.sub(r"(\.link\d+)?\.live$", "", live.name))
+            if name and name != now and any(form_of(folder_with(self.job.out, it) / str(it)).is_file() for it in (name, *name.others)):
                 live.unlink()
                 live.with_name(f"{live.name}.report").unlink(missing_ok=True)
 

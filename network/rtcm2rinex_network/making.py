@@ -7,11 +7,12 @@ from dataclasses import dataclass, field
 from pathlib import Path
 from typing import BinaryIO, Dict, List, Sequence
 
+from .before import Before
 from .captures import Capture, Unread, pieces_of, sum_of
 from .ends import Again, Refused
 from .guards import count_of
 from .labels import fields_of_options
-from .lists import Made, Record
+from .lists import Made, row_line
 from .names import Name, read_name
 from .places import folder_of, form_of, has_list, plain_name
 from .program import Program
@@ -40,7 +41,7 @@ class Job:
     @property
     def name(self) -> Name:
         """The name of the file."""
-        return Name(self.row.name9, self.span, self.row.interval)
+        return self.row.name(self.span)
 
     @property
     def folder(self) -> Path:
@@ -60,8 +61,12 @@ class Job:
 
     def head(self) -> List[str]:
         """The lines of the list before the captures. If the row, the MSM or the label changes, the file is made anew."""
-        msm = "" if self.msm == "4" else f" msm {self.msm}"
-        return [self.version, f"row {self.row.text}{msm}" + (f" label {self.label}" if self.label else "")]
+        return [self.version, row_line(self.row.text, self.msm, self.row.glonass, self.label)]
+
+    def used(self, thins: Sequence[str]) -> str:
+        """What the conversion is told, as the list notes it, with the intervals of the thinned files."""
+        told = {"msm": self.msm, "window": self.row.window, "codes": self.row.codes, **self.row.glonass, "every": ",".join(thins) or "-"}
+        return " ".join(f"{name} {it}" for name, it in told.items())
 
     def fields(self) -> Dict[str, str]:
         """The fields of the header that the tables fill."""
@@ -89,12 +94,14 @@ def check_every(settings: Settings) -> None:
         raise Refused(f"EVERY={every} is no interval in whole seconds")
 
 
-def thins_of(job: Job, before: Record) -> List[Name]:
-    """The thinned files: the one that is asked for, and those that are there. A list that was lost or cut off does not name them."""
-    texts = [*before.made, *(it for it in os.listdir(job.folder) if it.startswith(job.name.begin))]
+def thins_of(job: Job, before: Before) -> List[Name]:
+    """The thinned files: the one that is asked for, and those that are there, also under a name of before. A list that was lost or cut off
+    does not name them."""
+    texts = [*before.record.made, *(it for it in os.listdir(job.folder) if it.startswith(job.name.begin))]
     wanted = [job.every] if job.every else []
     for name in sorted(filter(None, map(read_name, map(plain_name, texts))), key=str):
-        is_thin = name == job.name.with_interval(name.interval) and seconds_of_thin(name.interval) * 1000 > job.row.interval_ms
+        is_of_span = name in (it.with_interval(name.interval) for it in before.names)
+        is_thin = is_of_span and seconds_of_thin(name.interval) * 1000 > job.row.interval_ms
         if is_thin and name.interval not in wanted and form_of(job.folder / str(name)).exists() and not has_list(job.folder, name):
             wanted.append(name.interval)
     return [job.name.with_interval(it) for it in wanted]
@@ -137,13 +144,12 @@ def time_of_making(job: Job, captures: Sequence[Capture], is_made: bool) -> str:
     return made
 
 
-def convert(job: Job, captures: Sequence[Capture], before: Record, work: Path, is_made: bool, done: Conversion) -> None:
+def convert(job: Job, captures: Sequence[Capture], before: Before, work: Path, is_made: bool, done: Conversion) -> None:
     """Converts the captures, and cuts the file and its thinned files out of what comes."""
     row = job.row
     links = join_links(captures, work)
     made = time_of_making(job, captures, is_made)
-    words = ["convert", "--station", row.station, "--near", job.span.start, "--made", made, "--marker", row.marker, "--codes", row.codes,
-        "--window", row.window, *([] if job.msm == "4" else ["--msm", job.msm]), *map(str, links)]
+    words = ["convert", *row.options(job.msm), "--near", job.span.start, "--made", made, "--window", row.window, *map(str, links)]
     done.report = job.program.write(work / "whole", words)
     for link in links:
         link.unlink()

@@ -4,15 +4,15 @@ from __future__ import annotations
 
 import re
 from dataclasses import dataclass, replace
-from typing import Optional
+from typing import List, Optional
 
 from .settings import DAY
+from .systems import TYPES
 from .times import LENGTHS, Span, ms_of, stamp_of, time_of_stamp
 
 LINKS = range(1, 17)
 LINK = r"[1-9]|1[0-6]"
-KINDS = "GO|RO|EO|CO|JO|SO|IO|MO"  # GPS, GLONASS, Galileo, BeiDou, QZSS, SBAS, NavIC, mixed
-FORM = re.compile(rf"([A-Z0-9]{{4}}\d\d[A-Z]{{3}})_S_(\d{{11}})_({'|'.join(LENGTHS)})_([0-9]{{2}}[A-Z])_({KINDS})\.rnx", re.ASCII)
+FORM = re.compile(rf"([A-Z0-9]{{4}}\d\d[A-Z]{{3}})_S_(\d{{11}})_({'|'.join(LENGTHS)})_([0-9]{{2}}[A-Z])_({'|'.join(TYPES)})\.rnx", re.ASCII)
 CAPTURE = re.compile(rf"link({LINK})/(\d{{9}}00)\.rtcm", re.ASCII)
 
 
@@ -23,7 +23,7 @@ class Name:
     name9: str
     span: Span
     interval: str
-    kind: str = "GO"
+    kind: str
 
     def __str__(self) -> str:
         return f"{self.name9}_S_{stamp_of(self.span.begin)}_{self.span.length}_{self.interval}_{self.kind}.rnx"
@@ -41,6 +41,15 @@ class Name:
     def with_interval(self, interval: str) -> Name:
         """The name of the same data in other steps."""
         return replace(self, interval=interval)
+
+    def with_kind(self, kind: str) -> Name:
+        """The name of data of another type."""
+        return replace(self, kind=kind)
+
+    @property
+    def others(self) -> List[Name]:
+        """The names that the file has if its row names codes of other systems."""
+        return [self.with_kind(it) for it in TYPES if it != self.kind]
 
 
 def read_name(text: str) -> Optional[Name]:

@@ -7,7 +7,7 @@ import os
 import re
 import time
 from pathlib import Path
-from typing import BinaryIO, Iterator, List, Optional
+from typing import BinaryIO, Iterator, List
 
 from .names import Name, read_name
 from .placing import lock, make_folder
@@ -30,6 +30,11 @@ def has_list(folder: Path, name: Name) -> bool:
     """Whether a file has a list, as a thinned one never has. An empty one is a lock alone."""
     path = folder / f"{name}.captures"
     return path.is_file() and path.stat().st_size > 0
+
+
+def names_before(folder: Path, name: Name) -> List[Name]:
+    """The names of other types of data under which a file has a list, because its row named codes of other systems."""
+    return [it for it in name.others if has_list(folder, it)]
 
 
 def folder_with(rinex: Path, name: Name) -> Path:
@@ -60,10 +65,14 @@ def compact_forms(path: Path) -> List[Path]:
     return [*(path.with_name(path.name[:-len(".rnx")] + end) for end in COMPACT), path.with_name(f"{path.name}.crx.gz")]
 
 
+def forms_of(path: Path) -> List[Path]:
+    """All names that a file has if it is plain, as NAME.gz, or compact."""
+    return [path, path.with_name(f"{path.name}.gz"), *compact_forms(path)]
+
+
 def form_of(path: Path) -> Path:
     """A file as it is there: plain, as NAME.gz, or compact; else its plain name."""
-    forms = [path, path.with_name(f"{path.name}.gz"), *compact_forms(path)]
-    return next((it for it in forms if it.is_file()), path)
+    return next((it for it in forms_of(path) if it.is_file()), path)
 
 
 def is_compact(path: Path) -> bool:
@@ -71,11 +80,11 @@ def is_compact(path: Path) -> bool:
     return path.name.endswith(COMPACT)
 
 
-def adopt(rinex: Path, folder: Path, name: Name) -> Optional[BinaryIO]:
+def adopt(rinex: Path, folder: Path, name: Name) -> List[BinaryIO]:
     """Moves what lies of a span in the folder of the other layout to its place, so that it is never made twice. The list of `folder` is
-    locked. If the list comes from the other folder, it is locked before it gets its name, and answered open."""
+    locked. A list that comes from the other folder is locked before it gets its name, and answered open."""
     other = dated(rinex, name.span.begin) if folder == rinex else rinex
-    held: Optional[BinaryIO] = None
+    held: List[BinaryIO] = []
     for path in sorted(other.glob(f"{name.begin}*")):
         target = folder / path.name
         is_empty = target.name.endswith(".captures") and target.is_file() and target.stat().st_size == 0
@@ -84,7 +93,7 @@ def adopt(rinex: Path, folder: Path, name: Name) -> Optional[BinaryIO]:
         if os.path.lexists(target) and not is_empty:
             continue
         make_folder(folder)
-        if path.name == f"{name}.captures":
-            held = lock(path)
+        if path.name.endswith(".captures"):
+            held.append(lock(path))
         os.replace(path, target)
     return held

@@ -154,13 +154,18 @@ def is_at(file: IO[Any], path: Path) -> bool:
         return False
 
 
-@contextmanager
-def work_folder(folder: Path, name: str) -> Iterator[Path]:
-    """A folder for the files of a run, beside their places. It is removed at the end, and so is what a run left that was killed."""
+def remove_left(folder: Path, name: str) -> None:
+    """Removes what a run left beside the place of a file that was killed."""
     for left in folder.glob(f".{name}.*"):
         shutil.rmtree(left, ignore_errors=True)
         if left.is_file():
             left.unlink()
+
+
+@contextmanager
+def work_folder(folder: Path, name: str) -> Iterator[Path]:
+    """A folder for the files of a run, beside their places. It is removed at the end, and so is what a run left that was killed."""
+    remove_left(folder, name)
     try:
         work = Path(tempfile.mkdtemp(prefix=f".{name}.", dir=folder))
     except OSError as fault:

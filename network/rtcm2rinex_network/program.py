@@ -97,11 +97,13 @@ class Program:
             raise Again(f"{end}: no space left in {output.parent.parent}")
         raise end
 
-    def fault_of_codes(self, codes: str) -> str:
-        """Why the program does not take these codes; nothing if it does."""
+    def fault_of_codes(self, options: Sequence[str]) -> str:
+        """Why `convert` does not take these options, which begin with codes; nothing if it does. A second line says which codes a system
+        has."""
         ran = self.ran(["convert", "--station", "0", "--near", "2024-05-17T00:00:00", "--made", "2024-05-17T00:00:00", "--marker", "M",
-            "--codes", codes, "--window", "2", os.devnull])
-        return f"codes {codes!r} are not those of `convert`: {of_program(ran)}" if ran.status == 2 else ""
+            *options, "--window", "2", os.devnull])
+        more = ran.told.rstrip("\n").partition("\n\n")[0].split("\n")[1:]
+        return f"codes {options[1]!r} are not those of `convert`: {'; '.join([of_program(ran), *more])}" if ran.status == 2 else ""
 
 
 def fault_of(command: str, ran: Ran) -> Ended:

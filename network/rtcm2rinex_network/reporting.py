@@ -13,7 +13,7 @@ from .ends import ALARM, DONE, Ended, Refused, Usage
 from .placing import write_whole
 from .settings import Settings, read_settings
 from .sources import live_links
-from .stations import COUNTED, KINDS, Clock, File, Station
+from .stations import COUNTED, KINDS, NAMED, Clock, File, Station
 from .table import Row, find_row, read_table, rows_with_faults
 from .times import age_of
 
@@ -66,7 +66,8 @@ def for_programs(stations: Sequence[Station], faults: Sequence[str], clock: Cloc
     for it in stations:
         links = [{"link": link.number, "capture": link.capture, "age": None if link.age is None else round(link.age)} for link in it.links]
         files = [{"name": str(file.name), "span": file.name.span.length, "end": file.name.span.end, "epochs": file.epochs,
-            "expected": file.name.epochs, "position": file.has_position, "counts": file.counts, "links": file.links,
+            "expected": file.name.epochs, "position": file.has_position, "counts": file.counts,
+            **{word.replace("-", "_"): list(file.named.get(word, ())) for word in NAMED}, "links": file.links,
             "unread": list(file.unread)} for file in it.files]
         windows = [{"window": window.window, "span": window.length, "due": window.due, "made": window.made, "epochs": window.epochs,
             "expected": window.expected, "missing": [span.start for span in window.missing],
@@ -118,6 +119,9 @@ def add_files(metrics: Metrics, it: Station, clock: Clock) -> None:
         metrics.add("file_has_position", "1 if the newest file has a position, else 0.", int(file.has_position), **labels)
         for word, count in file.counts.items():
             metrics.add("file_messages", "Messages that the report of the newest file counts.", count, **labels, kind=word)
+        for word in NAMED:
+            metrics.add("file_named", "Slots of GLONASS, or systems, that the report of the newest file names.",
+                len(file.named.get(word, ())), **labels, kind=word)
     for window in it.windows:
         labels = {"station": it.row.name9, "span": window.length, "window": window.window.replace(" ", "")}
         metrics.add("window_files", "Files that are made of the last time.", window.made, **labels)

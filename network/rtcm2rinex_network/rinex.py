@@ -9,9 +9,10 @@ from contextlib import contextmanager
 from dataclasses import dataclass, field
 from itertools import islice
 from pathlib import Path
-from typing import Dict, Iterator, Optional, Set, TextIO, Tuple
+from typing import Dict, Iterator, List, Optional, Set, TextIO, Tuple
 
 from .ends import Again
+from .systems import GPS
 
 MOST_HEADER_LINES = 60
 KEY = 29  # columns of an epoch's line up to the end of its seconds
@@ -37,15 +38,27 @@ FIELDS = {  # by the options of `label`: the label of the line, and the columns
 class Header:
     """What a header says.
 
-    `fields` has what a label fills, by the names of the options of `label`. An offset counts only with the sign that `label` gives it,
-    since a station tells its height without one. `position` is in metres, and None if it is zeros. `made` is as `--made` takes it.
+    `codes` has the codes of each system by its letter, as `--codes` of `convert` names them. `fields` has what a label fills, by the names
+    of the options of `label`. An offset counts only with the sign that `label` gives it, since a station tells its height without one.
+    `position` is in metres, and None if it is zeros. `made` is as `--made` takes it.
     """
 
     marker: str = ""
     made: str = ""
     position: Optional[Tuple[float, ...]] = None
-    codes: Tuple[str, ...] = ()
+    codes: Dict[str, List[str]] = field(default_factory=dict)
     fields: Dict[str, str] = field(default_factory=dict)
+
+    @property
+    def all_codes(self) -> Tuple[str, ...]:
+        """The codes of all systems, in the order of the file."""
+        return tuple(code for codes in self.codes.values() for code in codes)
+
+    def put_codes(self, line: str) -> None:
+        """Adds the codes of a line of types. A line that begins with a blank goes on with the system of the line before."""
+        system = line[0] if line[0] != " " else next(reversed(list(self.codes)), GPS)
+        names = [word[1:] for word in line[6:60].split() if word[0] == "C"]
+        self.codes.setdefault(system, []).extend(names if system == GPS else [system + it for it in names])
 
 
 @contextmanager
@@ -67,7 +80,7 @@ def read_header(path: Path) -> Header:
             label = line[60:].strip()
             lines.setdefault(label, line[:60])
             if label == "SYS / # / OBS TYPES":
-                found.codes += tuple(word[1:] for word in line[6:60].split() if word[0] == "C")
+                found.put_codes(line)
             if label == "END OF HEADER":
                 break
     found.marker = lines.get("MARKER NAME", "").strip()
@@ -117,16 +130,30 @@ def count_values(path: Path) -> int:
     return sum(line.count(".") - (line[0] == ">") for line in records_of(path))
 
 
+def counts_of_systems(path: Path, systems: str) -> Tuple[int, int]:
+    """How many epochs have satellites of these systems, and how many numbers these have."""
+    epochs = values = 0
+    is_new = False
+    for line in records_of(path):
+        if line[0] == ">":
+            is_new = True
+        elif line[0] in systems:
+            epochs, is_new = epochs + is_new, False
+            values += line.count(".")
+    return epochs, values
+
+
 def codes_with_values(path: Path) -> Set[str]:
     """The codes of a file of which at least one satellite has a value."""
-    codes = read_header(path).codes
-    found: Set[int] = set()
+    header = read_header(path)
+    left = set(header.all_codes)
     for line in records_of(path):
-        if line[0] != ">":
-            found |= {rank for rank in set(range(len(codes))) - found if any(cell_of(line, rank).values)}
-        if len(found) == len(codes):
+        for rank, code in enumerate(header.codes.get(line[0], [])):
+            if code in left and any(cell_of(line, rank).values):
+                left.remove(code)
+        if not left:
             break
-    return {codes[rank] for rank in found}
+    return set(header.all_codes) - left
 
 
 def most_frequent_step(path: Path) -> Optional[int]:
@@ -164,7 +191,7 @@ class Cell:
 
 
 def cell_of(line: str, rank: int) -> Cell:
-    """The cell of the code with this rank in the header, the first one being 0."""
+    """The cell of the code with this rank among those of its system in the header, the first one being 0."""
     begins = [FIRST_CELL + CELL * (TYPES * rank + it) for it in range(TYPES)]
     values = [line[at : at + 14] if line[at + 10 : at + 11] == "." else "" for at in begins]
     return Cell((values[0], values[1], values[2]), line[begins[1] + 14 : begins[1] + 15])

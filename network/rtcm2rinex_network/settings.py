@@ -12,13 +12,14 @@ from pathlib import Path
 from typing import Dict, Iterator, Mapping
 
 from .ends import Refused
+from .systems import DEFAULT_KIND, KINDS, NO_KINDS
 
 HERE = Path(__file__).resolve().parent.parent  # the folder of the scripts
 SYSTEM = Path("/etc/rtcm2rinex")
 DAY, HOUR = 86_400, 3_600  # seconds
 NUMBER = (r"-?[0-9]{1,10}", "no number of seconds")
 FORMS = {  # of a setting: how it is written, and what it is else
-    "MSM": ("[4-7]", "not 4, 5, 6 or 7"),
+    "MSM": (KINDS, NO_KINDS),
     "LAYOUT": ("flat|year/day", "not flat or year/day"),
     "SPAN": ("01H|01D", "not 01H or 01D"),
     "WINDOW": ("[2-9]|[1-9][0-9]{1,2}|[1-3][0-9]{3}|40[0-8][0-9]|409[0-6]", "no number from 2 to 4096"),
@@ -67,6 +68,11 @@ class Settings:
     def with_word(self, name: str, value: str) -> Settings:
         """The same settings but for one."""
         return replace(self, words={**self.words, name: value})
+
+    @property
+    def msm(self) -> str:
+        """The kinds of MSM of the rows that name none, in the words of `--msm` of `convert`."""
+        return self.word("MSM", DEFAULT_KIND)
 
     @property
     def stations(self) -> Path:

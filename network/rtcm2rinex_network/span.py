@@ -8,18 +8,20 @@ import time
 from contextlib import contextmanager
 from dataclasses import dataclass
 from pathlib import Path
-from typing import BinaryIO, Dict, Iterator, List, Optional, Sequence
+from typing import Dict, Iterator, List, Optional, Sequence
 
 from .after import call_after, note_after
+from .before import Before
 from .captures import Capture, Sum, Unread, find_captures, has_grown, is_old, look_at, sum_of
 from .ends import Again, Ended, NoCaptures, Refused, Stopped, Usage, say
-from .guards import (MadeBy, New, captures_that_differ, count_of, faults_of, guard_captures, guard_compact, guard_words, old_files,
-    without_bytes)
+from .guards import (MadeBy, New, Old, captures_that_differ, faults_of, guard_captures, guard_compact, guard_words, may_be_fewer,
+    old_files, without_bytes)
 from .labels import checked_options, find_label, labels_beside
-from .lists import Record, read_list
+from .lists import Record
 from .making import Conversion, Job, check_every, convert, label_files
+from .names import Name
 from .places import adopt, compact_forms, dated, form_of, has_list, is_compact
-from .placing import NOTES, UNREAD, give_to_owner, locked, make_folder, note_end, put, sync, work_folder, write_whole
+from .placing import NOTES, UNREAD, failures, give_to_owner, locked, make_folder, note_end, put, sync, work_folder, write_whole
 from .program import Program, find_program
 from .settings import Settings
 from .table import find_row
@@ -62,7 +64,7 @@ def convert_span(settings: Settings, words: Sequence[str]) -> str:
     with locked(record), noted(job):
         if not os.access(job.folder, os.W_OK):
             raise Refused(f"can't write to {job.folder}: no permission")
-        run = Run(job, record, adopt(job.row.directory / "rinex", job.folder, job.name))
+        run = Run(job, record, Before(job.folder, job.name, adopt(job.row.directory / "rinex", job.folder, job.name)))
         told = run.made()
         run.note_unread()
         call_after(settings, [job.folder / name for name in run.now.made or run.before.made])
@@ -77,26 +79,34 @@ def noted(job: Job) -> Iterator[None]:
     except NoCaptures:
         raise
     except Ended as end:
-        note_end(job.path, end)
+        note_failure(job, end)
         raise
     except OSError as fault:
         again = Again(f"{fault.filename or job.folder}: {fault.strerror}")
-        note_end(job.path, again)
+        note_failure(job, again)
         raise again from None
     drop_notes_of_span(job)
 
 
-def drop_notes_of_span(job: Job) -> None:
-    """Removes the notes of the span, also those under another interval, which stood in the row when the runs failed."""
+def note_failure(job: Job, end: Ended) -> None:
+    """Notes why a run failed, so that the span has notes under one name alone."""
+    note_end(job.path, end)
+    if failures(job.path)[0]:
+        drop_notes_of_span(job, str(job.name))
+
+
+def drop_notes_of_span(job: Job, but: Optional[str] = None) -> None:
+    """Removes the notes of the span, but for those of a name. Other names have the interval or the type of data that the row had when their
+    runs failed."""
     for name in os.listdir(job.folder):
-        if name.startswith(job.name.begin) and name.endswith(NOTES):
+        if name.startswith(job.name.begin) and name.endswith(NOTES) and name.rpartition(".")[0] != but:
             (job.folder / name).unlink(missing_ok=True)
 
 
 def is_listed(job: Job) -> bool:
-    """Whether there is a list of the file, in the folder of either layout."""
+    """Whether there is a list of the file, in the folder of either layout, perhaps under a name of before."""
     rinex = job.row.directory / "rinex"
-    return any(has_list(folder, job.name) for folder in (rinex, dated(rinex, job.span.begin)))
+    return any(has_list(folder, it) for folder in (rinex, dated(rinex, job.span.begin)) for it in (job.name, *job.name.others))
 
 
 def has_own(job: Job, captures: Sequence[Capture]) -> bool:
@@ -114,15 +124,14 @@ class Found:
 
 
 class Run:
-    """A run over a span, whose list is locked."""
+    """A run over a span, whose lists are locked."""
 
-    def __init__(self, job: Job, record: Path, held: Optional[BinaryIO]) -> None:
-        self.job, self.record = job, record
-        self.before = read_list(record)
+    def __init__(self, job: Job, record: Path, lists: Before) -> None:
+        self.job, self.record, self.lists = job, record, lists
+        self.before = lists.record
         self.captures = find_captures(job.row.directory, job.span)  # now, since the lock may have come late
         self.now = Record(head=job.head())
         self.faults: List[str] = []  # of captures that can't be read
-        self.held = held  # the list that came in the place of the one that was locked
         self.found = self.look()
 
     # ------------------------------------------------------------ what is there
@@ -171,9 +180,9 @@ class Run:
         return name in self.before.made and self.is_as_made(name, self.before.made[name].sum)
 
     def is_made(self) -> bool:
-        """Whether the file and its report are there, made from what is there now."""
+        """Whether the file and its report are there, made from what is there now, and none under a name of before."""
         name = str(self.job.name)
-        return self.now.source() == self.before.source() and self.is_intact(name) and \
+        return not self.lists.others and self.now.source() == self.before.source() and self.is_intact(name) and \
             self.is_as_made(f"{name}.report", self.before.report)
 
     def are_thins_made(self) -> bool:
@@ -189,13 +198,17 @@ class Run:
         be made. A file that is there was not changed."""
         gone = [name for name in self.before.captures if name not in self.now.captures]
         is_known = all(self.before.captures.get(name) == it for name, it in self.now.captures.items())
-        is_kept = not self.form(str(self.job.name)).exists() or self.is_intact(str(self.job.name))
+        is_kept = all(map(self.is_intact, self.there()))
         return bool(gone) and is_known and not self.now.unread and set(gone) <= self.before.deleted and is_kept
 
-    def has_lost_bytes(self, has_fewer: bool) -> bool:
-        """Whether the bytes of a capture of the list are there no more, and it has no more of them now. If there are fewer messages than
+    def there(self) -> List[str]:
+        """The names under which the file is there."""
+        return [name for name in map(str, self.lists.names) if self.form(name).exists()]
+
+    def has_lost_bytes(self, record: Record, has_fewer: bool) -> bool:
+        """Whether the bytes of a capture of a list are there no more, and it has no more of them now. If there are fewer messages than
         before, more bytes count only behind those that it had."""
-        known, now = self.before.captures, self.now.captures
+        known, now = record.captures, self.now.captures
         paths = {it.name: it.path for it in self.found.captures}
         return any(name not in paths or now[name].size <= known[name].size or (has_fewer and not has_grown(paths[name], known[name]))
             for name in without_bytes(known, now))
@@ -209,9 +222,9 @@ class Run:
             self.note_seen()
             return f"unchanged {job.name}"
         if not job.settings.is_forced and self.are_deleted():
-            if not self.form(str(job.name)).exists():
+            if not self.there():
                 raise NoCaptures(f"no captures for {job.name}")
-            return f"unchanged {job.name}, whose captures were deleted"
+            return f"unchanged {self.there()[0]}, whose captures were deleted"
         done = Conversion()
         try:
             with work_folder(job.folder, str(job.name)) as work:
@@ -233,20 +246,27 @@ class Run:
         if not has_own(job, self.found.captures):
             raise Again("; ".join(self.faults))
         name = str(job.name)
-        old = old_files(job.path, self.before, frozenset(filter(self.is_intact, self.before.made)))
-        by = MadeBy(job.row.station, job.msm, tuple(job.row.codes.split(",")), job.fields())
-        self.judge(guard_words(name, old, by), done, False)
-        convert(job, self.found.captures, self.before, work, is_made, done)
+        by = MadeBy(job.row.station, job.msm, job.row.code_names, job.fields())
+        olds = [(self.old_files(it), self.lists.lists[it]) for it in self.lists.names]
+        for old, _ in olds:
+            self.judge(guard_words(old, by), done, False)
+        convert(job, self.found.captures, self.lists, work, is_made, done)
         label_files(job, work, done)
-        self.judge(guard_compact(old, done.made), done, False)
-        lost_bytes = self.has_lost_bytes(count_of(done.report, "taken") < count_of(old.report, "taken"))
-        new = New(done.made, work / name, done.report, self.now.source() == self.before.source(), lost_bytes)
-        self.judge(faults_of(job.program, old, new), done)
+        for old, _ in olds:
+            self.judge(guard_compact(old, done.made), done, False)
+        for old, record in olds:
+            lost_bytes = self.has_lost_bytes(record, may_be_fewer(old, by, done.report))
+            new = New(by, done.made, work / name, done.report, self.now.source() == record.source(), lost_bytes)
+            self.judge(faults_of(job.program, old, new), done)
         self.now.made = done.made
         self.now.report = sum_of(work / f"{name}.report")
-        every = [file.split("_")[4] for file in list(done.made)[1:]]
-        self.now.used = f"msm {job.msm} window {job.row.window} codes {job.row.codes} every {','.join(every) or '-'}"
+        self.now.used = job.used([file.split("_")[4] for file in list(done.made)[1:]])
         self.put_in_place(work)
+
+    def old_files(self, name: Name) -> Old:
+        """What is known of the files of before under a name."""
+        record = self.lists.lists[name]
+        return old_files(self.job.folder / str(name), record, frozenset(filter(self.is_intact, record.made)))
 
     def judge(self, faults: Iterator[str], done: Conversion, may_be_excused: bool = True) -> None:
         """Refuses a worse file, or with FORCE says why it is worse. The lists of both are shown where they differ, and noted whole. A
@@ -282,7 +302,7 @@ class Run:
         held = open(path, "ab")
         fcntl.flock(held, fcntl.LOCK_EX | fcntl.LOCK_NB)
         os.replace(path, self.record)
-        self.held = held
+        self.lists.held.append(held)
 
     def seen_now(self, names: Sequence[str]) -> Dict[str, str]:
         """What the list notes of these files."""
@@ -313,7 +333,8 @@ class Run:
 
     def put_in_place(self, work: Path) -> None:
         """Gives the files their names, the list first. So whatever ends this run, the list has at least the captures of the file that is
-        there, and the next run finds that the sum of the file is another one, and makes it. A compact file stays where nothing changed."""
+        there, and the next run finds that the sum of the file is another one, and makes it. A compact file stays where nothing changed. At
+        last the files go that have other names."""
         folder, name, made = self.job.folder, str(self.job.name), self.now.made
         self.now.seen = self.seen_now([capture.seen_name for capture in self.captures])
         new = [file for file, it in made.items() if not (self.before.made.get(file) == it and self.is_intact(file))]
@@ -326,11 +347,14 @@ class Run:
             if file not in stay:
                 self.put_file(work, file)
         sync(folder)
+        self.lists.remove_others(made)
 
     def put_file(self, work: Path, file: str) -> None:
-        """Gives a file its name in the form in which it is there, but plain in the place of a compact one. One without epochs goes."""
-        form, plain = self.form(file), self.job.folder / file
-        place = plain if is_compact(form) else form
+        """Gives a file its name in the form in which it is there, perhaps under a name of before, but plain in the place of a compact one.
+        One without epochs goes."""
+        plain = self.job.folder / file
+        form = next((it for it in map(self.form, self.lists.names_of(file)) if it.is_file()), plain)
+        place = plain.with_name(f"{file}.gz") if form.name.endswith(".rnx.gz") else plain
         if self.now.made[file].is_none:
             place.unlink(missing_ok=True)
         else:

@@ -14,6 +14,7 @@ from .names import LINKS, Name, capture_name, hour_of_capture, read_name
 from .places import folder_with, names_below
 from .placing import NOTES, UNREAD, failures
 from .settings import DAY, HOUR, Settings
+from .systems import NO_CHANNELS
 from .table import Row
 from .times import LENGTHS, Span, age_of
 
@@ -24,7 +25,8 @@ UNUSED = 10 * DAY  # a length whose newest file is so much older than that of an
 OFTEN = 2  # runs of a file that failed, after which it is an alarm
 CAPTURE = re.compile(r"(?m)^(?:unread )?(link\d+/\d{11}\.rtcm)\b", re.ASCII)
 COUNTED = ("late", "conflict", "refused", "foreign")
-KINDS = ("capture", "file", "missing", "epochs", "unread", *COUNTED, "repeat", "position", "not-made", "table")
+NAMED = ("other-channel", "no-channel", "no-message")  # lines of a report that name slots of GLONASS or systems
+KINDS = ("capture", "file", "missing", "epochs", "unread", *COUNTED, "repeat", *NAMED, "position", "not-made", "table")
 
 
 @dataclass(frozen=True)
@@ -46,14 +48,15 @@ class Link:
 
 @dataclass(frozen=True)
 class File:
-    """A file that was made: its name, its epochs, whether it has a position, how many links it is of, the counts of its report, and the
-    captures that could not be read."""
+    """A file that was made: its name, its epochs, whether it has a position, how many links it is of, the counts of its report, the slots
+    or systems that lines of the report name, and the captures that could not be read."""
 
     name: Name
     epochs: int
     has_position: bool
     links: int
     counts: Dict[str, int]
+    named: Dict[str, Tuple[str, ...]]
     unread: Tuple[str, ...]
 
 
@@ -96,6 +99,7 @@ class Station:
         self.settings, self.row, self.clock = settings, row, clock
         self.links: List[Link] = []
         self.captures: Set[str] = set()
+        self.names: Dict[Span, List[Name]] = {}  # with lists, that of the type of data of the row first
         self.files: List[File] = []
         self.windows: List[Window] = []
         self.not_made: List[str] = []
@@ -140,44 +144,47 @@ class Station:
         texts = [it for it in names_below(folder) if it.startswith(f"{self.row.name9}_S_")]
         known = [read_name(text[:-len(".captures")]) for text in texts if text.endswith(".captures")]
         listed = [it for it in known if it and it.interval == self.row.interval]  # and no thinned file
+        for it in sorted(listed, key=lambda it: it != self.row.name(it.span)):
+            self.names.setdefault(it.span, []).append(it)
         found = {}
         for length in LENGTHS:
-            names = [it for it in listed if it.span.length == length]
-            newest = self.newest(folder, names)
+            spans = sorted(it for it in self.names if it.length == length)
+            newest = self.newest(folder, spans)
             if newest:
-                found[length] = (newest, names)
+                found[length] = (newest, spans)
         last = max((it.name.span.end for it, _ in found.values()), default=0)
-        for length, (newest, names) in found.items():
+        for length, (newest, spans) in found.items():
             if newest.name.span.end > last - UNUSED:
                 self.files.append(newest)
                 for kind, text in self.faults(newest):
                     self.alarm(kind, text)
-                self.look_back(folder, length, names, newest)
+                self.look_back(folder, length, spans, newest)
         if not self.files:
             self.alarm("file", "there is no file")
         self.look_at_unread(folder, texts)
         self.look_at_notes(folder, texts)
 
-    def newest(self, folder: Path, names: List[Name]) -> Optional[File]:
+    def newest(self, folder: Path, spans: List[Span]) -> Optional[File]:
         """The newest file that is made and whose span is over."""
-        ended = (it for it in reversed(names) if it.span.end <= self.clock.gps)
+        ended = (it for it in reversed(spans) if it.end <= self.clock.gps)
         return next(filter(None, (self.file(folder, it) for it in ended)), None)
 
-    def file(self, folder: Path, name: Name) -> Optional[File]:
+    def file(self, folder: Path, span: Span) -> Optional[File]:
+        """What is told of the file of a span. If it has lists of two types of data, the first one counts in which it is made."""
+        return next(filter(None, (self.file_of(folder, it) for it in self.names.get(span, []))), None)
+
+    def file_of(self, folder: Path, name: Name) -> Optional[File]:
         """What the list and the report of a file tell; None if it is not made."""
         folder = folder_with(folder, name)
         record = list_of(text_if_there(folder / f"{name}.captures"))
         made = record.made.get(str(name))
         if made is None:
             return None
-        lines = text_if_there(folder / f"{name}.report").split("\n")
-        counts = {words[0]: int(words[1]) for words in map(str.split, lines) if len(words) == 2 and words[1].isdecimal()}
+        lines = [line.split() for line in text_if_there(folder / f"{name}.report").split("\n")]
+        counts = {words[0]: int(words[1]) for words in lines if len(words) == 2 and words[1].isdecimal()}
         counts.pop("epochs", None)
-        return File(name, made.epochs, "position none" not in lines, links_of(record), counts, tuple(sorted(record.unread)))
-
-    def name(self, span: Span) -> Name:
-        """The name of the file of a span."""
-        return Name(self.row.name9, span, self.row.interval)
+        return File(name, made.epochs, ["position", "none"] not in lines, links_of(record), counts, named_by(lines, record),
+            tuple(sorted(record.unread)))
 
     def faults(self, it: File) -> Iterator[Tuple[str, str]]:
         """What is to look at in a file: the kind of the alarm, and the text."""
@@ -196,14 +203,16 @@ class Station:
         repeats, taken = it.counts.get("repeat", 0), it.counts.get("taken", 0)
         if it.links > 1 and 4 * repeats < repeats + taken:
             yield "repeat", f"{it.name}: repeat {repeats} and taken {taken}, of {it.links} links"
+        for word, names in it.named.items():
+            yield word, f"{it.name}: {word} {' '.join(names)}"
         if not it.has_position:
             yield "position", f"{it.name}: no position"
 
     # ------------------------------------------------------------ the last days
 
-    def look_back(self, folder: Path, length: str, names: List[Name], newest: File) -> None:
+    def look_back(self, folder: Path, length: str, spans: List[Span], newest: File) -> None:
         """Counts the files of the last day and week, and tells once of each kind what is to look at in those of the last day."""
-        first = min(it.span.begin for it in names)
+        first = spans[0].begin
         lists: Dict[Span, Optional[Listed]] = {}
         for window in WINDOWS:
             self.windows.append(self.count(folder, window, length, first, lists))
@@ -225,12 +234,12 @@ class Station:
         for begin in found.begins:
             span = Span(begin, length)
             if span not in lists:
-                lists[span] = list_if_made(folder, self.name(span))
+                lists[span] = next(filter(None, (list_if_made(folder, name) for name in self.names.get(span, []))), None)
             it = lists[span]
             found.due += 1
             found.made += it is not None
             found.epochs += it.epochs if it else 0
-            found.expected += self.name(span).epochs
+            found.expected += self.row.name(span).epochs
             if it is None and self.has_captures(span):
                 found.missing.append(span)
             if it and size >= HOUR and self.has_captures(span, it.captures):
@@ -247,7 +256,7 @@ class Station:
         day = next(it for it in self.windows if it.length == length)
         found: Dict[str, List[str]] = {}
         for span in sorted(it for it in lists if it.begin in day.begins and it != newest.name.span):
-            it = self.file(folder, self.name(span))
+            it = self.file(folder, span)
             for kind, text in self.faults_of_report(it) if it else []:
                 found.setdefault(kind, []).append(text)
         lacking = day.expected - day.epochs
@@ -257,16 +266,18 @@ class Station:
             self.alarm(kind, f"{len(texts)} earlier files of the last 24 h, as {texts[0]}")
 
     def look_at_unread(self, folder: Path, texts: List[str]) -> None:
-        """Looks at the files, however old, that lack a capture which could not be read. A capture that is gone is none to look at."""
-        found = []
+        """Looks at the files, however old, that lack a capture which could not be read. A capture that is gone is none to look at. A file
+        counts once, under whichever names it has notes."""
+        found: Dict[Tuple[Span, str], str] = {}
         for text in texts:
             known = read_name(text[:-len(UNREAD)]) if text.endswith(UNREAD) else None
-            it = self.file(folder, known) if known else None
+            it = self.file_of(folder, known) if known else None
             there = [name for name in it.unread if is_capture(self.row.directory / name)] if it else []
             if it and there:
-                found.append(f"{it.name}: {' '.join(there)} can't be read")
+                found.setdefault((it.name.span, it.name.interval), f"{it.name}: {' '.join(there)} can't be read")
         if found:
-            self.alarm("unread", found[0] if len(found) == 1 else f"{len(found)} files, the first is {found[0]}")
+            first = next(iter(found.values()))
+            self.alarm("unread", first if len(found) == 1 else f"{len(found)} files, the first is {first}")
 
     def look_at_notes(self, folder: Path, texts: List[str]) -> None:
         """Looks at the notes of runs that failed. One that may be mended by another run counts when it failed again."""
@@ -291,6 +302,13 @@ def list_if_made(folder: Path, name: Name) -> Optional[Listed]:
     line, is_whole, _ = text[at:].partition("\n")
     made = MADE.fullmatch(line) if is_whole else None
     return Listed(int(made[3]), frozenset(CAPTURE.findall(text, 0, at))) if made else None
+
+
+def named_by(lines: List[List[str]], record: Record) -> Dict[str, Tuple[str, ...]]:
+    """The slots or systems that lines of a report name. A row whose word is channels=none wants no channels."""
+    row = record.row()
+    wanted = [it for it in NAMED if not (it == "no-channel" and row and row.channels == NO_CHANNELS)]
+    return {words[0]: tuple(words[1:]) for words in lines if words and words[0] in wanted and words[1:] != ["-"]}
 
 
 def captures_in(folder: Path) -> List[str]:

@@ -9,8 +9,11 @@ from pathlib import Path
 from typing import Dict, Iterator, List, Optional, Tuple
 
 from .ends import Refused
+from .names import Name
 from .settings import Settings
-from .times import ms_of, text_of, time_of
+from .systems import (DEFAULT_KIND, KINDS, NO_KINDS, by_slots, fault_of_channels, fault_of_codes, kinds_of, type_of_data,
+    words_of_kinds)
+from .times import Span, ms_of, text_of, time_of
 
 COLUMNS = "station marker name9 interval codes window directory"
 NAME9 = r"[A-Z0-9]{4}[0-9]{2}[A-Z]{3}"
@@ -37,7 +40,8 @@ class Dates:
 class Row:
     """A row of the table of stations, with the number of its line.
 
-    `text` has its seven columns as the list of a file keeps them. `fault` says what is wrong with the row, and is empty if nothing is.
+    `text` has its seven columns as the list of a file keeps them. `glonass` has its words channels= and leap_seconds=. `fault` says what is
+    wrong with the row, and is empty if nothing is.
     """
 
     number: int
@@ -50,6 +54,7 @@ class Row:
     window: str
     directory: Path
     own_msm: Optional[str]
+    glonass: Dict[str, str]
     dates: Dates
     fault: str
 
@@ -67,9 +72,29 @@ class Row:
         """Whether this is its number or its name."""
         return word in (self.station, self.name9)
 
+    @property
+    def code_names(self) -> Tuple[str, ...]:
+        """Its codes, one by one."""
+        return tuple(self.codes.split(","))
+
+    def name(self, span: Span) -> Name:
+        """The name of the file of a span."""
+        return Name(self.name9, span, self.interval, type_of_data(self.code_names))
+
     def msm(self, settings: Settings) -> str:
-        """Which MSM is converted beside 1004: the number in the row, else that of the settings."""
-        return self.own_msm if self.own_msm is not None else settings.word("MSM", "4")
+        """Which MSM is converted of each system, beside 1004: what the row says, else what the settings say."""
+        words = self.own_msm if self.own_msm is not None else settings.msm
+        return words_of_kinds(kinds_of(words, self.code_names))
+
+    @property
+    def codes_and_channels(self) -> List[str]:
+        """Its codes as options of `convert`, and what is told of GLONASS."""
+        return ["--codes", self.codes, *(word for name, it in self.glonass.items() for word in (f"--{name.replace('_', '-')}", it))]
+
+    def options(self, msm: str) -> List[str]:
+        """Its options of `convert`, but for the window, with this MSM."""
+        return ["--station", self.station, "--marker", self.marker, *self.codes_and_channels,
+            *([] if msm == DEFAULT_KIND else ["--msm", msm])]
 
 
 def lines_of_table(path: Path) -> Iterator[Tuple[int, str]]:
@@ -92,24 +117,27 @@ def read_table(path: Path) -> List[Row]:
 def read_row(number: int, line: str, beside: Path) -> Row:
     """A row. A directory that does not begin with / lies beside the table."""
     columns = re.split(r"[ \t]+", line, maxsplit=6) + [""] * 7
-    directory, words = split_words(columns[6], "msm", "from", "until")
+    directory, words, twice = split_words(columns[6], "msm", "channels", "leap_seconds", "from", "until")
     dates, fault = read_dates(words)
     station, marker, name9, interval, codes, window = columns[:6]
-    fault = fault_of(columns[:6], directory) or fault
-    if not fault and not re.fullmatch("[4-7]", words.get("msm", "4")):
-        fault = f"msm={words['msm']} is not msm=4, 5, 6 or 7"
+    fault = fault_of(columns[:6], directory) or (f"{twice}= is there twice" if twice else "") or fault or fault_of_words(words, codes)
+    glonass = {name: words[name] for name in ("channels", "leap_seconds") if name in words}
+    if "channels" in glonass and not fault:
+        glonass["channels"] = by_slots(glonass["channels"])
     return Row(number, " ".join([*columns[:6], directory]), station, marker, name9, interval, codes, window, beside / directory,
-        words.get("msm"), dates, fault)
+        words.get("msm"), glonass, dates, fault)
 
 
-def split_words(text: str, *names: str) -> Tuple[str, Dict[str, str]]:
-    """A text that may have blanks, and the words NAME=VALUE with these names at its end."""
+def split_words(text: str, *names: str) -> Tuple[str, Dict[str, str], str]:
+    """A text that may have blanks, the words NAME=VALUE with these names at its end, and a name that is there twice, if one is."""
     words: Dict[str, str] = {}
+    twice = ""
     form = re.compile(rf"(?s)(?:(.*?)[ \t]+|)({'|'.join(names)})=([^ \t]*)")
     while match := form.fullmatch(text):
         text = match[1] or ""
-        words.setdefault(match[2], match[3])
-    return text, words
+        twice = match[2] if match[2] in words else twice
+        words[match[2]] = match[3]
+    return text, words, twice
 
 
 def read_dates(words: Dict[str, str]) -> Tuple[Dates, str]:
@@ -137,13 +165,22 @@ def fault_of(columns: List[str], directory: str) -> str:
         return f"name9 {name9!r} is not like BASE00XXX"
     if ms_of(interval) is None:
         return f"interval {interval!r} is not like 01S, 30S or 10Z"
-    if not re.fullmatch("[0-9A-Z,]+", codes):
-        return f"codes {codes!r} are not like 1C,2W,5X"
+    if fault := fault_of_codes(codes):
+        return fault
     if not re.fullmatch("[0-9]{1,4}", window) or not 2 <= int(window) <= 4096:
         return f"window {window!r} is no number from 2 to 4096"
     if re.search("[\x00-\x1f\x7f]", directory):
         return "the directory has control characters"
     return "the directory is not UTF-8" if re.search("[\ud800-\udfff]", directory) else ""
+
+
+def fault_of_words(words: Dict[str, str], codes: str) -> str:
+    """What is wrong with the words msm=, channels= and leap_seconds= of a row with these codes; nothing if they are good."""
+    if not re.fullmatch(KINDS, words.get("msm", DEFAULT_KIND)):
+        return f"msm={words['msm']} is {NO_KINDS}"
+    if not re.fullmatch("[1-9]?[0-9]", words.get("leap_seconds", "0")):
+        return f"leap_seconds={words['leap_seconds']} is no number from 0 to 99"
+    return fault_of_channels(words.get("channels"), codes.split(","))
 
 
 def find_row(path: Path, word: str, at: float) -> Row:

@@ -10,8 +10,8 @@ from msm import type_of
 from systems import BEIDOU, GLONASS
 from wire import WEEK_MS, BitReader, Message
 
-MOST_CLOCKS = 64  # so many clocks of a chain are compared
-MOST_OFFSETS = 16  # so many offsets of a system are counted
+MOST_CLOCKS = 32  # so many clocks of a chain are compared
+MOST_OFFSETS = 8  # so many offsets of a system are counted
 
 # The systems whose clocks others are compared with, and those with a line, both in their order.
 TIMING = "GEJSI"
@@ -61,7 +61,8 @@ def _line_of(letter: str, counted: Counter[int]) -> list[str]:
     told = [ahead for ahead in counted if ahead]
     if not told:
         return []
-    ahead = min(told, key=lambda ahead: (-counted[ahead], min(ahead, WEEK_MS - ahead), ahead))
+    # of two that are as frequent and as near to 0, the one behind
+    ahead = min(told, key=lambda ahead: (-counted[ahead], min(ahead, WEEK_MS - ahead), -ahead))
     sign, ms = ("+", ahead) if ahead <= WEEK_MS // 2 else ("-", WEEK_MS - ahead)
     return [f" clock {letter} {sign}{ms // 1000}.{ms % 1000:03} {counted[ahead]} of {sum(counted.values())}"]
 

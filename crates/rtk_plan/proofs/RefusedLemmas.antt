@@ -1,10 +1,10 @@
 -- Why captures have no plan.
-use Rattle.std.proofs.Common.{◌≡◌, ◌∙◌, ℕ, List, [], Option, None, Result, IsErrAnd, IfErr, sym, ap, subst}
+use Rattle.std.proofs.Common.{◌≡◌, ◌∙◌, ℕ, List, [], None, Result, IsErrAnd, IfErr, sym, ap, subst}
 use Rattle.std.proofs.lemmas.Result.{err_from_is_err_and}
 use Rattle.rtk_setup.specs.declared.system_kinds.SystemKinds.{SystemKinds}
 use Rattle.rtk_survey.specs.declared.survey.CaptureSurvey.{CaptureSurvey}
 use Rattle.rtk_plan.specs.Causes.{IfRefused, IsSetupCause}
-use Rattle.rtk_plan.specs.Plan.{kinds_found, codes_chosen}
+use Rattle.rtk_plan.specs.Plan.{kinds_found}
 use Rattle.rtk_plan.specs.Values.{codes_in_captures}
 use Rattle.rtk_plan.specs.declared.refusal.PlanFault.{PlanFault}
 use Rattle.rtk_plan.specs.declared.refusal.PlanFault.TheVariants.{Refused, OutOfMemory}

@@ -87,9 +87,30 @@ fn put_unread_glonass_to_sbas(
 ) -> Result<(), AllocError>
     ensures { OnOk result (lines.new.items ≡ lines.old.items ++ spec.unread_glonass_to_sbas taken surveys.now) }
 {
-    put_numbered(lines, surveys, b" not in the file: GLONASS ", taken, 1009, 4)?;
-    put_numbered(lines, surveys, b" not in the file: GLONASS ", taken, 1081, 7)?;
-    put_numbered(lines, surveys, b" not in the file: Galileo ", taken, 1091, 7)?;
+    put_numbered(
+        lines,
+        surveys,
+        b" not in the file: GLONASS ",
+        taken,
+        1009,
+        4,
+    )?;
+    put_numbered(
+        lines,
+        surveys,
+        b" not in the file: GLONASS ",
+        taken,
+        1081,
+        7,
+    )?;
+    put_numbered(
+        lines,
+        surveys,
+        b" not in the file: Galileo ",
+        taken,
+        1091,
+        7,
+    )?;
     put_numbered(lines, surveys, b" not in the file: SBAS ", taken, 1101, 7)?;
     Ok(())
 }

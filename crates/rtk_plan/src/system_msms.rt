@@ -188,11 +188,7 @@ fn put_exceptions_among(
 }
 
 // Appends the exceptions.
-fn put_exceptions(
-    line: &mut Vec<u8>,
-    first: MsmKind,
-    kinds: SystemKinds,
-) -> Result<(), AllocError>
+fn put_exceptions(line: &mut Vec<u8>, first: MsmKind, kinds: SystemKinds) -> Result<(), AllocError>
     ensures { OnOk result (line.new.items ≡ line.old.items ++ spec.exceptions_text first kinds) }
 {
     put_exceptions_among(line, first, kinds, &SYSTEMS)
@@ -212,11 +208,7 @@ fn put_first_and_exceptions(
 }
 
 // Appends the option of kinds, of which this is the first.
-fn put_msm_option(
-    line: &mut Vec<u8>,
-    first: MsmKind,
-    kinds: SystemKinds,
-) -> Result<(), AllocError>
+fn put_msm_option(line: &mut Vec<u8>, first: MsmKind, kinds: SystemKinds) -> Result<(), AllocError>
     ensures { OnOk result (line.new.items ≡ line.old.items ++ spec.msm_option_text first kinds) }
 {
     if has_exception(first, kinds) {

@@ -168,7 +168,14 @@ fn msm_of_links(
 ) -> MsmKind
     ensures { result ≡ proposal.proposed (spec.most_epochs surveys.now (places_of links.now) station system) }
 {
-    let first = better_of(surveys, links, station, system, MsmKind::Msm4, MsmKind::Msm5);
+    let first = better_of(
+        surveys,
+        links,
+        station,
+        system,
+        MsmKind::Msm4,
+        MsmKind::Msm5,
+    );
     let second = better_of(surveys, links, station, system, first, MsmKind::Msm6);
     better_of(surveys, links, station, system, second, MsmKind::Msm7)
 }

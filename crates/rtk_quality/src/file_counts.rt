@@ -97,13 +97,15 @@ fn ms_of(moment: Option<GpsMs>) -> Option<u64>
 }
 
 // Counts one more epoch of each satellite, of which no row came so far.
+#[inline(never)]
 fn note_satellites(satellites: &mut Vec<SatelliteCounts>)
     ensures size { length satellites.new.items ≡ length satellites.old.items }
     ensures satellites { (most : ℕ) (interval : Option ℕ) (time : ℕ) (es : List EpochTableView) → StandForSatellites satellites.old.items most interval es
         → StandForSatellites satellites.new.items most interval (without_rows time ∷ es) }
 {
-    for place in 0..satellites.len() {
-        satellites[place].note_epoch();
+    let all = satellites.as_mut_slice();
+    for place in 0..all.len() {
+        all[place].note_epoch();
     }
 }
 

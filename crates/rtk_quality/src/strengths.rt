@@ -1,11 +1,11 @@
 //! The strengths of bands.
 
 ghost use Rattle.std.specs.Prelude.{◌≡◌, Option};
-ghost use Rattle.rtk_quality.specs.Strengths.{band_named, band_in_name, bands_of_system, system_of_codes, shown_bands, number_of, of_band};
+ghost use Rattle.rtk_quality.specs.Strengths.{band_in_name, bands_of_system, system_of_codes, shown_bands, number_of, of_band};
 ghost use Rattle.rtk_quality.specs.Steps.Noted.{no_strengths, all_without, with_one, with_strength, with_row, with_rows};
 
 use rtk_message::System;
-use rtk_obs::AnyCode;
+use rtk_obs::{AnyCode, Carrier};
 use rtk_rinex::{Observed, SatelliteRow};
 
 /// The band of a code, by the first character of its name.
@@ -37,25 +37,18 @@ pub(crate) struct Strengths {
     pub(crate) b8: BandStrengths,
 }
 
-// The band with this character.
-fn band_named(character: u8) -> CodeBand
-    ensures { result ≡ band_named character }
-{
-    match character {
-        b'1' => CodeBand::B1,
-        b'2' => CodeBand::B2,
-        b'5' => CodeBand::B5,
-        b'6' => CodeBand::B6,
-        b'7' => CodeBand::B7,
-        _ => CodeBand::B8,
-    }
-}
-
-/// The band of a code.
+/// The band of a code. Its carrier has the band of its name, and is found sooner: each strength asks for it.
 pub(crate) fn band_of(code: AnyCode) -> CodeBand
     ensures { result ≡ band_in_name code }
 {
-    band_named(code.name()[0])
+    match code.carrier() {
+        Carrier::L1 | Carrier::G1 => CodeBand::B1,
+        Carrier::L2 | Carrier::G2 | Carrier::B1 => CodeBand::B2,
+        Carrier::L5 => CodeBand::B5,
+        Carrier::B3 | Carrier::E6 => CodeBand::B6,
+        Carrier::E5b => CodeBand::B7,
+        Carrier::E5 => CodeBand::B8,
+    }
 }
 
 /// The bands that have columns in the hours of a table.

@@ -92,10 +92,10 @@ abbrev pub new_offset : ℕ → ClockOffset
 new_offset ahead = record { ahead_ms = ahead; count = 1 }
 
 -- constant
--- an offset that is known counts there; the first 16 that differ are kept
+-- an offset that is known counts there; the first 8 that differ are kept
 abbrev pub with_counted_at : Option ℕ → ℕ → ArrayVec ClockOffset → ArrayVec ClockOffset
 with_counted_at (Some k) ahead list = record { items = set list.items k (counted_offset (get_or list.items k (new_offset ahead))) }
-with_counted_at None ahead list = if nat_lt (length list.items) 16 then record { items = list.items ++ new_offset ahead ∷ [] } else list
+with_counted_at None ahead list = if nat_lt (length list.items) 8 then record { items = list.items ++ new_offset ahead ∷ [] } else list
 
 abbrev pub with_counted : ℕ → ArrayVec ClockOffset → ArrayVec ClockOffset
 with_counted ahead list = with_counted_at (offset_place 0 ahead list.items) ahead list
@@ -160,9 +160,9 @@ abbrev pub no_clocks : ClockSurvey
 no_clocks = record { waiting = record { items = [] }; offsets = no_offsets }
 
 -- constant
--- a clock more of the chain that has not ended; 64 are kept, and others are passed over
+-- a clock more of the chain that has not ended; 32 are kept, and others are passed over
 abbrev pub with_open : ClockTold → ClockSurvey → ClockSurvey
-with_open c s = if nat_lt (length s.waiting.items) 64 then record s { waiting = record { items = s.waiting.items ++ c ∷ [] } } else s
+with_open c s = if nat_lt (length s.waiting.items) 32 then record s { waiting = record { items = s.waiting.items ++ c ∷ [] } } else s
 
 -- the chain ends
 abbrev pub chain_ended : ClockSurvey → ClockSurvey

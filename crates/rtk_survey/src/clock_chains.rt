@@ -13,10 +13,10 @@ use rtk_obs::WEEK_MS;
 use std::alloc::AllocError;
 
 /// How many clocks of a chain are kept. Others are passed over.
-const MOST_WAITING: usize = 64;
+const MOST_WAITING: usize = 32;
 
 /// How many offsets of a system that differ are kept.
-const MOST_OFFSETS: usize = 16;
+const MOST_OFFSETS: usize = 8;
 
 /// The clock of a message.
 #[derive(Clone, Copy, Debug, PartialEq, Eq)]
@@ -53,7 +53,7 @@ pub struct ClockOffset {
     pub count: u64,
 }
 
-/// The offsets of each system: the first 16 that differ, in the order in which they came.
+/// The offsets of each system: the first 8 that differ, in the order in which they came.
 #[derive(Clone, Drop)]
 pub struct ClockOffsets {
     pub gps: ArrayVec<ClockOffset, MOST_OFFSETS>,

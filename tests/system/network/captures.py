@@ -18,6 +18,10 @@ that of its end. Kinds:
     steady    no slip at 12:03:30, at which G08 has one
     gap       no epoch from 12:16:30 to 12:29:00, longer than a 1074 tells of lock
     1077      a 1077 after each 1074, of the same cells, whose phases are greater by a quarter of a step of the 1074
+    R10, E11  and other names of tests/model/worked_rows.py: an MSM of this satellite in each epoch, with the cell of its row, whose
+              values were worked by hand. R10:15 tells 15 in place of the channel + 7, and R26 is another slot with the cell of R10
+    until=H   no MSM of other systems from the hour H of the day on
+    alone     no messages of GPS
 
 The epochs of jump, steady and gap are those of captures from 11:00 on, every 30 s. A 1004 and a 1074 of an epoch have the same ranges,
 phases and slips of the code 1C, in their own units.
@@ -27,6 +31,7 @@ from __future__ import annotations
 
 import calendar
 import os
+import re
 import sys
 import time
 from collections.abc import Iterator
@@ -34,8 +39,12 @@ from pathlib import Path
 
 sys.path.insert(0, str(Path(__file__).resolve().parents[2] / "model"))
 
+from clocks import clock_of  # noqa: E402
+from msm import payload_of_msm, type_of  # noqa: E402
 from streams import SATELLITES, STATION, legacy, msm, point  # noqa: E402
+from tested import message_of_row, row_named  # noqa: E402
 from wire import WEEK_MS, Message, frame_of, payload_of  # noqa: E402
+from worked_rows import ROWS  # noqa: E402
 
 GPS_BEGIN = calendar.timegm((1980, 1, 6, 0, 0, 0))
 LEAP_SECONDS = 18
@@ -47,6 +56,7 @@ ROLL = 732_631  # 1,500 cycles of L2 in units of DF018
 DRIFT = 31_000  # of a phase from epoch to epoch, in the same units
 LONGEST_LOCK = 704  # DF407
 STEADY, JUMP, GAP = 127, 130, range(153, 179)  # numbers of epochs
+OTHER = r"[RECJSI]\d\d(:\d+)?"  # a word of a satellite of another system
 
 
 def fine_phase(at: int, rank: int) -> int:
@@ -67,6 +77,22 @@ def finer(newer: Message, finest: Message) -> Message:
         new.update(fine_range=32 * old["fine_range"], fine_phase=4 * old["fine_phase"] + 1, cnr=16 * old["cnr"])
         new["lock"] = LONGEST_LOCK if old["lock"] else 0
     return finest
+
+
+def of_other_system(word: str, seconds: int, station: int) -> bytes:
+    """The MSM of a satellite of another system, by a word like R10 or R10:15."""
+    name, _, told = word.partition(":")
+    row = next((it for it in ROWS if it.name == name), row_named("R10"))
+    message = message_of_row(row._replace(name=name), int(told) if told else None)
+    message.header.update(station=station, tow=clock_of(type_of(message)[0], (seconds - GPS_BEGIN) * 1000))
+    return payload_of_msm(message)
+
+
+def others_of(kinds: set[str], seconds: int, station: int) -> list[bytes]:
+    """The MSM of other systems in an epoch."""
+    ends = [int(it.partition("=")[2]) for it in kinds if it.startswith("until=")]
+    words = [] if ends and seconds // 3600 % 24 >= ends[0] else sorted(it for it in kinds if re.fullmatch(OTHER, it))
+    return [of_other_system(it, seconds, station) for it in words]
 
 
 def frames(begin: int, count: int, interval: int, kinds: set[str]) -> Iterator[tuple[float, bytes]]:
@@ -102,10 +128,10 @@ def frames(begin: int, count: int, interval: int, kinds: set[str]) -> Iterator[t
             is_first = seconds % 3600 == 0 and hour % len(newer.cells) == rank
             if (is_first or at % 37 == rank) if is_5x else older.satellites[rank // 2]["l1_lock"] == 0:
                 cell["lock"] = 0
-        messages = ([reference] if at % 20 == 0 else []) + [older, newer]
+        messages = ([reference] if at % 20 == 0 else []) + ([] if "alone" in kinds else [older, newer])
         messages += [finer(newer, msm(tow, seen, number=1077))] if "1077" in kinds else []
-        for message in messages:
-            yield seconds + DELAY, frame_of(payload_of(message))
+        for payload in [*map(payload_of, messages), *others_of(kinds, seconds, station)]:
+            yield seconds + DELAY, frame_of(payload)
 
 
 def is_lost(place: int, link: int) -> bool:

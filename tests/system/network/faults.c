@@ -1,5 +1,5 @@
 // Preloaded under a script: looks at the calls of one kind for paths that have a text, and fails one of them or each, or kills the
-// process and its group there. The variables of the environment are FAULT_CALL (rename, stat or open), FAULT_PATH (the text),
+// process and its group there. The variables of the environment are FAULT_CALL (rename, unlink, stat or open), FAULT_PATH (the text),
 // FAULT_AT (which of these calls; 0 is each), FAULT_ERRNO (the fault; 0 kills), and FAULT_COUNT (a file that gets a byte for each).
 // It needs no header, so that the toolchain's own compiler builds it.
 
@@ -48,6 +48,10 @@ static int fails(const char *kind, const char *path) {
 int rename(const char *old, const char *path) {
     if (fails("rename", path)) return -1;
     return ((int (*)(const char *, const char *))dlsym(NEXT, "rename"))(old, path);
+}
+
+int unlink(const char *path) {
+    return fails("unlink", path) ? -1 : ((int (*)(const char *))dlsym(NEXT, "unlink"))(path);
 }
 
 int stat(const char *path, void *found) {

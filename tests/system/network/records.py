@@ -1,8 +1,9 @@
 """What the scripts read in the records of files themselves: which slips at first phases a new file lacks, and the step from epoch to epoch;
 and what they take from an answer of `compare`.
 
-A file is written as cells: a time in seconds, a satellite, and for each of its codes 1C and 2W the phase with its loss-of-lock digit, or a
-- for a code without a phase. What is due was worked out by hand. The last line is 'N passed, M failed'.
+A file is written as cells: a time in seconds, a satellite, and for each of the codes of its system (1C and 2W, R2P, E8X and E1C) the phase
+with its loss-of-lock digit, or a - for a code without a phase, or nothing for one without any value. What is due was worked out by hand.
+The last line is 'N passed, M failed'.
 """
 
 from __future__ import annotations
@@ -18,9 +19,10 @@ sys.path.insert(0, str(Path(__file__).resolve().parents[3] / "network"))
 from rtcm2rinex_network.comparison import Unlike, differences, lost_first_slips  # noqa: E402
 from rtcm2rinex_network.ends import Again, Refused  # noqa: E402
 from rtcm2rinex_network.program import Program, Ran  # noqa: E402
-from rtcm2rinex_network.rinex import most_frequent_step  # noqa: E402
+from rtcm2rinex_network.rinex import codes_with_values, counts_of_systems, most_frequent_step, read_header  # noqa: E402
 
-HEADER = "G    6 C1C L1C S1C C2W L2W S2W ".ljust(60) + "SYS / # / OBS TYPES\n" + " " * 60 + "END OF HEADER\n"
+TYPES = ["G    6 C1C L1C S1C C2W L2W S2W", "R    3 C2P L2P S2P", "E    6 C8X L8X S8X", "       C1C L1C S1C"]
+HEADER = "".join(f"{it:60}SYS / # / OBS TYPES\n" for it in TYPES) + " " * 60 + "END OF HEADER\n"
 
 
 def line_of(cell: str) -> str:
@@ -55,6 +57,17 @@ ROWS = [
     ("a first phase in a later epoch", {0: ["G05 - 30_"], 7: [FIRST]}, {0: ["G05 - 30_"], 7: [NONE]}, ["7 G05 1C"]),
     ("a first phase with a phase before it now", {7: [FIRST]}, {0: [NONE], 7: [NONE]}, []),
     ("a phase that is gone is told elsewhere", {0: [FIRST], 1: [NONE]}, {1: [NONE]}, []),
+    ("a slip of GLONASS", {0: [NONE, "R10 201"]}, {0: [NONE, "R10 20_"]}, ["0 R10 2P"]),
+    ("a slip of the second code of Galileo", {0: ["R10 201", "E11 20_ 301"]}, {0: ["R10 201", "E11 20_ 30_"]}, ["0 E11 1C"]),
+    ("of the first one", {0: ["E11 203 301"]}, {0: ["E11 202 301"]}, ["0 E11 8X"]),
+]
+
+# Of each row: the cells of the epochs of a file, the codes that have a value, and of the systems G, RE and E the epochs and the values.
+KEPT = [
+    ([[NONE]], "1C 2W", (1, 4), (0, 0), (0, 0)),
+    ([["G05"], ["R10 20_"]], "R2P", (1, 0), (1, 2), (0, 0)),
+    ([["R10 -"], [NONE, "R10 20_", "E11"]], "1C 2W R2P", (1, 4), (2, 3), (1, 0)),
+    ([["E11 20_ 30_"], ["E12 -"], ["G05 -"]], "1C E1C E8X", (1, 1), (2, 5), (2, 5)),
 ]
 
 # Of each row: the seconds of a file's epochs, and its step in ms.
@@ -127,6 +140,11 @@ def rows(folder: Path) -> Iterator[tuple[str, object, object]]:
     yield "a broken file", slips(path, file_of(folder, "new", {0: [NONE]}))[:len(f"can't read {path}")], f"can't read {path}"
     for seconds, step in STEPS:
         yield f"the step of {seconds}", most_frequent_step(file_of(folder, "steps", {it: [NONE] for it in seconds})), step
+    for epochs, codes, *counts in KEPT:
+        path = file_of(folder, "kept", dict(enumerate(epochs)))
+        yield f"the codes of {epochs}", " ".join(sorted(codes_with_values(path))), codes
+        yield f"the counts of {epochs}", [counts_of_systems(path, it) for it in ("G", "RE", "E")], counts
+    yield "the codes of a header", read_header(path).all_codes, ("1C", "2W", "R2P", "E8X", "E1C")
 
 
 def main() -> int:
