@@ -122,10 +122,10 @@ one-channels ss n kind a b is also =
     let count = is.good.count in
     let as_many = also.good.count in
     same-list a b (omega (arith, count, as_many)) (λ k lt.
-        let slot : IsSlot (k + 1) = (omega arith, omega (arith, lt, count)) in
-        let same : channel_at a (k + 1) ≡ channel_at b (k + 1) = one-channel ss n kind (k + 1) (channel_at a (k + 1)) (channel_at b (k + 1)) (is.each (k + 1) slot) (also.each (k + 1) slot) in
-        let place : (k + 1) - 1 ≡ k = omega arith in
-        ap (λ (p : ℕ). slice_index_or a p None) (sym place) ∙ same ∙ ap (λ (p : ℕ). slice_index_or b p None) place)
+    let slot : IsSlot (k + 1) = (omega arith, omega (arith, lt, count)) in
+    let same : channel_at a (k + 1) ≡ channel_at b (k + 1) = one-channel ss n kind (k + 1) (channel_at a (k + 1)) (channel_at b (k + 1)) (is.each (k + 1) slot) (also.each (k + 1) slot) in
+    let place : (k + 1) - 1 ≡ k = omega arith in
+    ap (λ (p : ℕ). slice_index_or a p None) (sym place) ∙ same ∙ ap (λ (p : ℕ). slice_index_or b p None) place)
 
 one-row : (Begun : ℕ → Type 0) (m n : ℕ) → IsLastRow Begun m → IsLastRow Begun n → m ≡ n
 one-row Begun m n is also = elim (cases_order m n) [

@@ -157,17 +157,10 @@ fn lacks_channel(
     slot < 28 && is_slot_given(surveys, station, kind, slot) && !slot_has_channel(channels, slot)
 }
 
-fn have_none(
-    surveys: &[CaptureSurvey],
-    station: u16,
-    kind: MsmKind,
-    channels: &Channels,
-) -> bool
+fn have_none(surveys: &[CaptureSurvey], station: u16, kind: MsmKind, channels: &Channels) -> bool
     ensures { result ≡ spec.have_none surveys.now station kind channels.now }
 {
-    SLOTS
-        .iter()
-        .any(|slot| lacks_channel(surveys, station, kind, channels, *slot))
+    SLOTS.iter().any(|slot| lacks_channel(surveys, station, kind, channels, *slot))
 }
 
 // Appends the name of the satellite of a slot, if it has a value and no channel.
@@ -247,9 +240,7 @@ fn put_no_channel_if(
     ensures { OnOk result (lines.new.items ≡ lines.old.items ++ spec.no_channel_lines surveys.now station kind glonass) }
 {
     match glonass {
-        Some(glonass) => {
-            put_no_channel_line(lines, surveys, station, kind, &glonass.channels())
-        }
+        Some(glonass) => { put_no_channel_line(lines, surveys, station, kind, &glonass.channels()) }
         None => Ok(()),
     }
 }
@@ -264,6 +255,12 @@ pub(crate) fn put_no_channel_in(
         ++ spec.no_channel_lines surveys.now setup.now.station setup.now.kinds.glonass setup.now.head.glonass) }
 {
     let kind = setup.kinds().glonass;
-    put_no_channel_if(lines, surveys, setup.station(), kind, setup.head().glonass())?;
+    put_no_channel_if(
+        lines,
+        surveys,
+        setup.station(),
+        kind,
+        setup.head().glonass(),
+    )?;
     Ok(())
 }

@@ -52,7 +52,12 @@ fn gives_slot(station: u16, kind: MsmKind, slot: u8, survey: &CaptureSurvey) -> 
 }
 
 /// Has it one in some capture?
-pub(crate) fn is_slot_given(surveys: &[CaptureSurvey], station: u16, kind: MsmKind, slot: u8) -> bool
+pub(crate) fn is_slot_given(
+    surveys: &[CaptureSurvey],
+    station: u16,
+    kind: MsmKind,
+    slot: u8,
+) -> bool
     requires { slot < 28 }
     ensures { result ≡ spec.is_slot_given surveys.now station kind slot }
 {
@@ -86,7 +91,11 @@ fn own_count(surveys: &[CaptureSurvey], station: u16, slot: u8, field: u8) -> u6
 fn fields_of_1020(slot: u8, field: u8, survey: &CaptureSurvey) -> u64
     ensures { result ≡ spec.fields_of_1020 slot field survey.now }
 {
-    count_of_field(survey.contents.system_tellings.channels.as_slice(), slot, field)
+    count_of_field(
+        survey.contents.system_tellings.channels.as_slice(),
+        slot,
+        field,
+    )
 }
 
 fn count_of_1020(surveys: &[CaptureSurvey], slot: u8, field: u8) -> u64
@@ -213,11 +222,7 @@ fn channels_told(surveys: &[CaptureSurvey], station: u16, kind: MsmKind) -> Chan
 }
 
 /// The channels of the slots of which the station has a value, as messages tell them.
-pub(crate) fn channels_found(
-    surveys: &[CaptureSurvey],
-    station: u16,
-    kind: MsmKind,
-) -> Channels
+pub(crate) fn channels_found(surveys: &[CaptureSurvey], station: u16, kind: MsmKind) -> Channels
     ensures { spec.AreChannelsFound surveys.now station kind result }
 {
     channels_told(surveys, station, kind)

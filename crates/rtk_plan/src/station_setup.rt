@@ -125,12 +125,7 @@ fn table_seconds(near: GpsMs) -> u8
 }
 
 // What the file tells of GLONASS.
-fn glonass_of(
-    surveys: &[CaptureSurvey],
-    station: u16,
-    kind: MsmKind,
-    near: GpsMs,
-) -> Glonass
+fn glonass_of(surveys: &[CaptureSurvey], station: u16, kind: MsmKind, near: GpsMs) -> Glonass
     ensures found { IsGlonassOf surveys.now station kind near result }
     ensures good { IsGlonassView result }
 {
