@@ -10,7 +10,7 @@ use Rattle.rtk_plan.proofs.values.codes_in_captures.Goals as goal
 
 pub loop-code-preserved : goal.loop-code-preserved
 loop-code-preserved c =
-    let found : AnyCode → Bool = is_found c.args.surveys.now c.args.station c.args.kinds in
+    let found : AnyCode → Bool = is_found c.args.surveys.now c.args.station c.args.systems c.args.kinds in
     elim c.if-is_found.branch [
       | then-is_found+in_ok-push w ↦
           rw (w.codes-is, w.in_ok-push.ensures.items)
