@@ -53,7 +53,7 @@ told-same counts n None none le = λ f within. elim (cases_lt f n) [
   | inr past ↦ let same : counts f ≡ counts n = ap counts (omega (arith, within, past)) in omega (arith, same, le)
 ]
 told-same counts n (Some field) is le = record {
-  few = let few = is.few in omega (arith, few);
+  few = let before = is.few in omega (arith, before);
   some = is.some;
   most = λ f within. elim (cases_lt f n) [
     | inl before ↦ is.most f before

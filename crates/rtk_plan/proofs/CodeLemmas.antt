@@ -103,16 +103,16 @@ all-in-order i j d below lt = record {
 -- some of all codes
 some-mixed : (p : AnyCode → Bool) → filter p all_any_codes ≢ [] → IsMixedList (filter p all_any_codes)
 some-mixed p some = record {
-  count = within (filter p all_any_codes) some count;
+  count = within (filter p all_any_codes) some few;
   order = AllPairs-filter AreInOrder p all_any_codes all-in-order;
 }
   where
-    count : length (filter p all_any_codes) ≤ 69
-    count = let is = length-filter p all_any_codes in let few : count_by p all_any_codes ≤ 69 = count_by-le-length p all_any_codes in omega (arith, is, few)
+    few : length (filter p all_any_codes) ≤ 69
+    few = let is = length-filter p all_any_codes in let fewer : count_by p all_any_codes ≤ 69 = count_by-le-length p all_any_codes in omega (arith, is, fewer)
 
     within : (cs : List AnyCode) → cs ≢ [] → length cs ≤ 69 → IsInRange 1 69 (length cs)
-    within [] some count = absurd (some refl)
-    within (c ∷ cs) some count = omega arith
+    within [] some few = absurd (some refl)
+    within (c ∷ cs) some few = omega arith
 
 -- the same, of a list that `is_empty` calls not empty
 pub mixed-found : (p : AnyCode → Bool) (cs : List AnyCode) (n : ℕ) (b : Bool) → cs ≡ filter p all_any_codes → n ≡ length cs → b ≡ (n == 0) → b ≡ false → IsMixedList cs
