@@ -1,5 +1,6 @@
 #!/usr/bin/env python3
-"""Converts captures of several systems that are made from a seed, and compares file, report and status with the slow model's.
+"""Converts captures of several systems that are made from a seed, and compares file, report and status with the slow model's; and so
+the summary of their bytes.
 
     mixed_hostile.py --program PATH [--captures N] [--seed N] [--first N] [--jobs N] [--to-first-failure] [--keep FOLDER]
                      [--systems LETTERS]
@@ -15,13 +16,17 @@ import sys
 from random import Random
 
 import mixed_marks
+from chains import WEEKS
 from messages import frames_of
 from mixed_captures import mixed_capture
 from mixed_model import convert_mixed
 from program import Program
-from properties import HOLDS, MOST_LINKS, NOT_MET, Answer, Case, Property, as_modelled, difference, file_is_valid, is_clean
-from properties import same_dealt_to_two, same_in_any_order, same_on_standard_input, same_with_link_again, same_with_link_before
+from properties import HOLDS, MOST_LINKS, NOT_MET, Answer, Case, Property, as_modelled, difference, ends_with, file_is_valid, is_clean
+from properties import pieces_of, same_dealt_to_two, same_in_any_order, same_on_standard_input, same_with_link_again
+from properties import same_with_link_before, with_dates
+from summaries import summary_of
 from systems import LETTERS
+from wire import frame_of
 from workers import Looked, Task, counts_of_all, keep, parser_of, tally_of, tasks_of
 
 CAPTURES = 1000
@@ -59,7 +64,24 @@ def same_however_dealt(case: Case) -> Answer:
     return HOLDS
 
 
-FREE = (Property(as_modelled, 100), Property(file_is_valid, 100), Property(same_however_dealt, 8))
+def with_weeks(rng: Random, text: bytes) -> bytes:
+    """Up to three messages that name weeks of Galileo or BeiDou among the frames of a capture, of which some are cut short."""
+    pieces = pieces_of(text)
+    for _ in range(rng.choice((0, 0, 1, 3))):
+        number = rng.choice([*WEEKS])
+        size = (WEEKS[number][0] + 7) // 8 + rng.choice((-1, 0, 0, 2))
+        payload = (number << 20 | rng.choice((0x2F3A5, rng.getrandbits(20)))).to_bytes(4, "big") + rng.randbytes(size - 4)
+        pieces.insert(rng.randrange(len(pieces)), frame_of(payload))
+    return b"".join(pieces)
+
+
+def summarized_with_systems(case: Case) -> Answer:
+    """`summary` tells of the bytes of all links, with dates and weeks among them, what the slow model counts of each system."""
+    text = with_weeks(case.rng, with_dates(case.rng, case.capture.setup, b"".join(case.links)))
+    return ends_with(case.program.on(text, "summary"), 0, summary_of(text).encode(), b"")
+
+
+FREE = (Property(as_modelled, 100), Property(file_is_valid, 100), Property(same_however_dealt, 8), Property(summarized_with_systems, 100))
 # Each capture has one more: of those whose premises it seldom meets, and else of the others.
 SELDOM = (Property(same_in_any_order, 10), Property(same_dealt_to_two, 5), Property(same_with_link_before, 2))
 OFTEN = (Property(same_with_link_again, 10), Property(same_on_standard_input, 10))

@@ -1,13 +1,14 @@
 -- The channels that messages tell, one message after another.
-use Rattle.std.proofs.Common.{◌≡◌, ◌≢◌, ◌<◌, ◌≤◌, ◌+◌, ◌∙◌, ◌&&◌, ℕ, Bool, true, false, List, [], ◌∷◌, Option, None, Some, length, set, get_or, replicate, refl, sym, ap, subst, inl, inr, get_or-set_same, get_or-set_other, arith}
+use Rattle.std.proofs.Common.{◌≡◌, ◌≢◌, ◌<◌, ◌∙◌, ◌&&◌, ℕ, Bool, true, false, List, [], ◌∷◌, Option, None, Some, length, get_or, refl, sym, ap, subst, inl, inr, arith}
 use Rattle.std.proofs.lemmas.Bool.{cases_Bool}
 use Rattle.std.proofs.lemmas.List.{get_or-replicate}
 use Rattle.rtk_message.specs.declared.any_message.AnyMessage.{AnyMessage}
 use Rattle.rtk_message.specs.declared.any_message.AnyMessage.TheVariants.{Message, Msm}
 use Rattle.rtk_message.specs.declared.message.Message as four
 use Rattle.rtk_message.specs.declared.msm.Msm as msm
-use Rattle.rtk_survey.specs.Channels.{tells_field_of, is_glonass, tells_field, place_of_field, IsChannelTold, CountsFields, TakesFields, CountsTold, IsTableMade, CountsChannels, tells_slot_channel, slot_channel_in, tells_slot_if, tells_slot_of_1020, CountsSlots}
-use Rattle.rtk_survey.specs.Counting.{shown_count, count_of}
+use Rattle.rtk_survey.specs.Channels.{tells_field_of, is_glonass, tells_field, place_of_field, IsChannelTold, CountsFields, CountsTold, CountsChannels, tells_slot_channel, slot_channel_in, tells_slot_if, tells_slot_of_1020, CountsSlots}
+use Rattle.rtk_survey.specs.Steps.Fields.{TakesFields, IsTableMade}
+use Rattle.rtk_survey.specs.Counting.{count_of}
 use Rattle.rtk_survey.specs.declared.system_message.SlotChannel.{SlotChannel}
 use Rattle.rtk_survey.specs.declared.system_message.SystemMessage.{SystemMessage}
 use Rattle.rtk_survey.proofs.FreshLemmas.{as-many}
@@ -44,12 +45,12 @@ pub fields-made : {X : Type 0} (tells : ℕ → ℕ → X → Bool) (old new : L
 fields-made {X} tells old new xs made counts = elim made [
   | inl there ↦ subst (λ (t : List ℕ). CountsFields tells t xs) (sym there.1) (sized tells old xs there.0 counts)
   | inr fresh ↦ record {
-      size = as-many new 392 0 fresh.1;
-      counts = λ slot field is.
-          ap (λ (t : List ℕ). get_or t (place_of_field slot field) 0) fresh.1
-          ∙ get_or-replicate 392 (place_of_field slot field) 0 0 (field-within slot field is.last is.few)
-          ∙ sym (unsized tells old xs fresh.0 counts slot field is);
-    }
+    size = as-many new 392 0 fresh.1;
+    counts = λ slot field is.
+        ap (λ (t : List ℕ). get_or t (place_of_field slot field) 0) fresh.1
+        ∙ get_or-replicate 392 (place_of_field slot field) 0 0 (field-within slot field is.last is.few)
+        ∙ sym (unsized tells old xs fresh.0 counts slot field is);
+  }
 ]
 
 pub no-channels-yet : {X : Type 0} (tells : ℕ → ℕ → X → Bool) (table : List ℕ) → table ≡ [] → CountsTold tells table []

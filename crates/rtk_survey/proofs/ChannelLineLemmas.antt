@@ -3,7 +3,8 @@ use Rattle.std.proofs.Common.{◌≡◌, ◌<◌, ◌≤◌, ◌+◌, ◌-◌, �
 use Rattle.std.specs.Prelude.{filter, codes}
 use Rattle.std.specs.List.{range_with_len}
 use Rattle.rtk_message.specs.declared.any_message.AnyMessage.{AnyMessage}
-use Rattle.rtk_survey.specs.Channels.{tells_field, place_of_field, IsChannelTold, CountsChannels, place_is_told, place_is_counted}
+use Rattle.rtk_survey.specs.Channels.{tells_field, place_of_field, IsChannelTold, CountsChannels, place_is_told}
+use Rattle.rtk_survey.specs.Steps.Tables.{place_is_counted}
 use Rattle.rtk_survey.specs.Counting.{count_of}
 use Rattle.rtk_survey.specs.SummaryText.{told_channel_text, joined_channels, told_channels_text, line_if_some, channel_line}
 

@@ -4,7 +4,6 @@ use Rattle.std.specs.Prelude.{flat_map, filter, codes}
 use Rattle.std.specs.List.{AllByRecursion}
 use Rattle.rtk_obs.specs.declared.any_code.AnyCode.{AnyCode}
 use Rattle.rtk_obs.specs.declared.code.Code.{Code}
-use Rattle.rtk_obs.specs.declared.signal_cells.SignalEntry.{SignalEntry}
 use Rattle.rtk_obs.specs.AnyCode.{text_of, number_of, all_any_codes}
 use Rattle.rtk_obs.specs.Code.{name_of, place_of, all_codes}
 use Rattle.rtk_obs.specs.SatelliteIndex.{index_name}
@@ -12,7 +11,7 @@ use Rattle.rtk_message.specs.declared.msm_kind.MsmKind.{MsmKind}
 use Rattle.rtk_message.specs.declared.any_message.AnyMessage.{AnyMessage}
 use Rattle.rtk_survey.specs.BesideGps.{cells_beside, has_index, has_any_code}
 use Rattle.rtk_survey.specs.Chains.{clocks_of, clocks_at}
-use Rattle.rtk_survey.specs.Channels.{place_is_told, place_is_counted}
+use Rattle.rtk_survey.specs.Channels.{place_is_told}
 use Rattle.rtk_survey.specs.ClockLines.{clock_lines}
 use Rattle.rtk_survey.specs.Counting.{count_of}
 use Rattle.rtk_survey.specs.Look.{look_of, look_name}
@@ -23,10 +22,10 @@ use Rattle.rtk_survey.specs.FrameDates.{proposed_date}
 use Rattle.rtk_survey.specs.FrameEquipment.{told_lines}
 use Rattle.rtk_survey.specs.Proposal.{epochs_with_value, entries_with}
 use Rattle.rtk_survey.specs.Summary.{all_numbers, epochs_beside, station_lines}
-use Rattle.rtk_survey.specs.SummaryText.{look_line, number_line, numbered_line, message_numbers, message_lines, system_epoch_lines, channel_line, list_line, time_lines, near_text, untaken_numbers, listed_satellite, satellites_text, listed_index, indices_text, joined_names, joined_texts, codes_text, all_codes_text, words_text, auto_line, next_lines, signal_lines, proposal_lines}
+use Rattle.rtk_survey.specs.SummaryText.{look_line, number_line, numbered_line, message_numbers, message_lines, system_epoch_lines, channel_line, list_line, time_lines, near_text, untaken_numbers, listed_satellite, satellites_text, listed_index, indices_text, joined_names, joined_texts, all_codes_text, words_text, auto_line, next_lines, signal_lines, proposal_lines}
 use Rattle.std.specs.BTreeMap.{BTreeMap}
-use Rattle.rtk_survey.specs.Contents.{count_at, HasCodes, HasSignals, HasSystemSignals, IsStationOf, HasMsms, equipment_at, epochs_held, codes_held, any_codes_held, messages_held, system_epochs_held}
-use Rattle.rtk_survey.specs.Steps.Tables.{counts_text, untaken_text, look_lines}
+use Rattle.rtk_survey.specs.Contents.{count_at, HasCodes, HasSignals, HasSystemSignals, IsStationOf, HasMsms, equipment_at, epochs_held, codes_held}
+use Rattle.rtk_survey.specs.Steps.Tables.{counts_text, untaken_text, look_lines, messages_held, system_epochs_held, place_is_counted}
 use Rattle.rtk_survey.specs.Tracing.{is_numbered, entries_in, has_satellite, has_code, times_of_week}
 use Rattle.rtk_survey.specs.declared.station_dates.StationDates.{StationDates}
 use Rattle.rtk_survey.specs.declared.msm_parts.MsmParts.{MsmParts}
@@ -38,7 +37,7 @@ use Rattle.rtk_survey.specs.declared.system_signals.SystemSignals.{SystemSignals
 use Rattle.rtk_survey.proofs.ChannelLineLemmas.{channel-line-is}
 use Rattle.rtk_survey.proofs.ListLemmas.{lines-agree}
 use Rattle.rtk_survey.proofs.MsmLemmas.{codes-marked, epochs-are, codes-held-are}
-use Rattle.rtk_survey.proofs.SystemLemmas.{any-codes-marked, epochs-beside-are, counts-held}
+use Rattle.rtk_survey.proofs.SystemLemmas.{any_codes_held, any-codes-marked, epochs-beside-are, counts-held}
 
 -- ---- counts
 

@@ -25,7 +25,8 @@ use Rattle.rtk_obs.specs.SignalCells.{unless_other, channel_in, bit_of_row, fiel
 use Rattle.rtk_obs.specs.Signals.{code_in}
 use Rattle.rtk_obs.proofs.PublicLaws.{number_below}
 use Rattle.rtk_survey.specs.BesideGps.{no_channels, is_beside_numbered, messages_beside, gives_index, gives_number, has_any_code, told_time_of, gives_value_beside, times_beside}
-use Rattle.rtk_survey.specs.Contents.{count_at, CountsBeside, CountsMessages, HasMsms, HasSystemSignals, any_codes_held, HasSystemMsm, IsMsmKept, HasSystems, messages_of_msm, epochs_of_msm, messages_held, system_epochs_held}
+use Rattle.rtk_survey.specs.Contents.{count_at, CountsBeside, CountsMessages, HasMsms, HasSystemSignals, HasSystemMsm, IsMsmKept, HasSystems, messages_of_msm, epochs_of_msm}
+use Rattle.rtk_survey.specs.Steps.Tables.{messages_held, system_epochs_held}
 use Rattle.rtk_survey.specs.Counting.{shown_count, count_of}
 use Rattle.rtk_survey.specs.Proposal.{epochs_in}
 use Rattle.rtk_survey.specs.Summary.{epochs_beside}
@@ -77,6 +78,10 @@ signals-more s xs es i d within stands = record {
   codes_size = stands.codes_size;
   codes = λ n lt. stands.codes n lt ∙ sym (any-more (gives_number n) xs es i d within);
 }
+
+-- whether a code of another system than GPS has a value
+abbrev pub any_codes_held : SystemSignals → AnyCode → Bool
+any_codes_held s c = get_or s.codes (any_code.number_of c) false
 
 pub any-codes-marked : (s : SystemSignals) (es : List SignalEntry) → HasSystemSignals s es → any_codes_held s ≡ has_any_code es
 any-codes-marked s es stands = fun_ext (λ code.

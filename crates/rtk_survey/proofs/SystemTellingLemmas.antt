@@ -1,5 +1,5 @@
 -- What 1042, 1045, 1046, 1020 and 1013 tell, one message after another.
-use Rattle.std.proofs.Common.{◌≡◌, ◌≢◌, ◌==◌, ◌∙◌, ◌+◌, ℕ, Bool, true, false, cond, List, [], ◌∷◌, Option, None, Some, min, max, inl, inr, refl, sym, ap, subst, ne_eqb, arith}
+use Rattle.std.proofs.Common.{◌≡◌, ◌≢◌, ◌==◌, ◌∙◌, ◌+◌, ℕ, Bool, true, false, cond, List, [], ◌∷◌, Option, None, Some, min, max, inl, inr, refl, sym, ap, ne_eqb, arith}
 use Rattle.std.proofs.lemmas.Bool.{cases_eq, eq-eqb}
 use Rattle.std.specs.BTreeMap.{BTreeMap, get, is_at, Updates}
 use Rattle.std.specs.Map.{lookup}
@@ -7,7 +7,7 @@ use Rattle.std.specs.Option.{unwrap_or}
 use Rattle.std.specs.Ordering.{nat_cmp}
 use Rattle.rtk_survey.specs.Channels.{is_field}
 use Rattle.rtk_survey.specs.Contents.{count_at, CountsSystemWeeks}
-use Rattle.rtk_survey.specs.Counting.{shown_count, count_of}
+use Rattle.rtk_survey.specs.Counting.{shown_count}
 use Rattle.rtk_survey.specs.SystemTellings.{system_week_of, names_week, leap_in, widened, leap_with, leap_with_if, leap_range, HasLeapRanges}
 use Rattle.rtk_survey.specs.declared.system_message.LeapSeconds.{LeapSeconds}
 use Rattle.rtk_survey.specs.declared.system_message.SystemMessage.{SystemMessage}

@@ -1,12 +1,12 @@
 -- How often messages tell each frequency channel of each slot of GLONASS. Lists of messages are newest first.
 -- Source: RTCM 10403.3, DF038, DF040, DF394 and DF419
-use Rattle.std.specs.Prelude.{◌≡◌, ◌≢◌, ℕ, ◌+◌, ◌-◌, ◌*◌, ◌/◌, ◌%◌, ◌^◌, ◌==◌, ◌<◌, ◌≤◌, Bool, true, false, ◌&&◌, ◌⊎◌, List, [], ◌∷◌, length, get_or, slice_get, replicate, count_ones, nat_lt, Option, None, Some, if◌then◌else◌}
+use Rattle.std.specs.Prelude.{◌≡◌, ℕ, ◌+◌, ◌-◌, ◌*◌, ◌/◌, ◌%◌, ◌^◌, ◌==◌, ◌<◌, ◌≤◌, Bool, true, false, ◌&&◌, List, [], ◌∷◌, length, get_or, slice_get, count_ones, nat_lt, Option, None, Some, if◌then◌else◌}
 use Rattle.rtk_message.specs.declared.any_message.AnyMessage.{AnyMessage}
 use Rattle.rtk_message.specs.declared.any_message.AnyMessage.TheVariants as any
 use Rattle.rtk_message.specs.declared.msm.Msm.{Msm}
 use Rattle.rtk_message.specs.declared.system.System.{System}
 use Rattle.rtk_message.specs.declared.system.System.TheVariants.{Gps, Glonass, Galileo, Beidou, Qzss, Sbas, Navic}
-use Rattle.rtk_survey.specs.Counting.{shown_count, count_of}
+use Rattle.rtk_survey.specs.Counting.{count_of}
 use Rattle.rtk_survey.specs.declared.system_message.SlotChannel.{SlotChannel}
 use Rattle.rtk_survey.specs.declared.system_message.SystemMessage.{SystemMessage}
 use Rattle.rtk_survey.specs.declared.system_message.SystemMessage.TheVariants.{Week, Slot, Leap}
@@ -64,30 +64,15 @@ pub record CountsFields {X : Type 0} (tells : ℕ → ℕ → X → Bool) (table
   pub size : length table ≡ 392
   pub counts : (slot field : ℕ) → IsChannelTold slot field → get_or table (place_of_field slot field) 0 ≡ count_of (tells slot field) xs
 
--- a message more, which tells these fields: before, after
-pub record TakesFields (tells : ℕ → ℕ → Bool) (old new : List ℕ) : Type 0 where
-  pub size : length new ≡ 392
-  pub told : (slot field : ℕ) → IsChannelTold slot field → tells slot field ≡ true
-      → get_or new (place_of_field slot field) 0 ≡ shown_count (get_or old (place_of_field slot field) 0 + 1)
-  pub others : (slot field : ℕ) → IsChannelTold slot field → tells slot field ≡ false
-      → get_or new (place_of_field slot field) 0 ≡ get_or old (place_of_field slot field) 0
-
 -- formula
 -- some message tells the slot and the field of a place
 abbrev pub place_is_told : List AnyMessage → ℕ → Bool
 place_is_told ms place = nat_lt 0 (count_of (tells_field (place / 14) (place % 14)) ms)
 
-abbrev pub place_is_counted : List ℕ → ℕ → Bool
-place_is_counted table place = nat_lt 0 (get_or table place 0)
-
 -- as long as there is no table, none of these tells a channel
 abbrev pub CountsTold : {X : Type 0} → (ℕ → ℕ → X → Bool) → List ℕ → List X → Type 0
 CountsTold tells [] xs = (slot field : ℕ) → IsChannelTold slot field → count_of (tells slot field) xs ≡ 0
 CountsTold tells (y ∷ ys) xs = CountsFields tells (y ∷ ys) xs
-
--- a table is there, or one was made: before, after
-abbrev pub IsTableMade : List ℕ → List ℕ → Type 0
-IsTableMade old new = ((length old ≡ 392) × (new ≡ old)) ⊎ ((length old ≢ 392) × (new ≡ replicate 392 0))
 
 -- how many messages tell each field of each slot
 abbrev pub CountsChannels : List ℕ → List AnyMessage → Type 0

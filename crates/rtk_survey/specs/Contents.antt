@@ -1,6 +1,6 @@
 -- What is held of a capture and of each station that was heard in it, tied to the frames that came so
 -- far. Lists of frames, messages, dates and entries are newest first.
-use Rattle.std.specs.Prelude.{◌≡◌, ℕ, ◌<◌, ◌+◌, ◌==◌, Bool, false, cond, List, [], length, get_or, Option, None, Some, unwrap_or, if◌then◌else◌}
+use Rattle.std.specs.Prelude.{◌≡◌, ℕ, ◌<◌, ◌+◌, Bool, false, cond, List, [], length, get_or, Option, None, Some, unwrap_or}
 use Rattle.std.specs.BTreeMap.{BTreeMap, get}
 use Rattle.std.specs.List.{list_any}
 use Rattle.std.specs.Ordering.{nat_cmp}
@@ -11,10 +11,8 @@ use Rattle.rtk_message.specs.declared.msm_kind.MsmKind.{MsmKind}
 use Rattle.rtk_message.specs.declared.msm_kind.MsmKind.TheVariants.{Msm4, Msm5, Msm6, Msm7}
 use Rattle.rtk_message.specs.Systems.{number_of_kind}
 use Rattle.rtk_obs.specs.declared.cell.CellEntry.{CellEntry}
-use Rattle.rtk_obs.specs.declared.any_code.AnyCode.{AnyCode}
 use Rattle.rtk_obs.specs.declared.code.Code.{Code}
 use Rattle.rtk_obs.specs.declared.signal_cells.SignalEntry.{SignalEntry}
-use Rattle.rtk_obs.specs.AnyCode as any_code
 use Rattle.rtk_obs.specs.Code.{place_of}
 use Rattle.rtk_survey.specs.BesideGps.{is_beside_numbered, messages_beside, cells_beside, gives_index, gives_number, times_beside}
 use Rattle.rtk_survey.specs.Chains.{clocks_of, clocks_at}
@@ -137,10 +135,6 @@ pub record HasSystemSignals (s : SystemSignals) (es : List SignalEntry) : Type 0
   pub codes_size : length s.codes ≡ 69
   pub codes : MarksOfSignals gives_number s.codes es
 
--- whether a code of another system than GPS has a value
-abbrev pub any_codes_held : SystemSignals → AnyCode → Bool
-any_codes_held s c = get_or s.codes (any_code.number_of c) false
-
 -- what is held of messages of one number
 pub record HasSystemMsm (p : SystemMsm) (own : List AnyMessage) : Type 0 where
   pub messages : p.messages ≡ shown_count (length own)
@@ -163,10 +157,6 @@ messages_of_msm (Some p) = p.messages
 abbrev pub epochs_of_msm : Option SystemMsm → ℕ
 epochs_of_msm None = 0
 epochs_of_msm (Some p) = p.epochs.count
-
--- how many epochs of the messages of a number have a value
-abbrev pub system_epochs_held : StationSurvey → ℕ → ℕ
-system_epochs_held s n = epochs_of_msm (get nat_cmp s.system_msm n)
 
 -- ---- a station
 
@@ -195,18 +185,6 @@ pub record IsStationOf (ms : List AnyMessage) (d : StationDates) (e : Equipment)
   pub far : s.far_point ≡ far_point ms
   pub dates : s.dates ≡ d
   pub equipment : equipment_at s.equipment ≡ e
-
--- table
--- how many messages of a number a station has
-abbrev pub messages_held : StationSurvey → ℕ → ℕ
-messages_held s n =
-    if n == 1004 then s.counts.obs_1004 else
-    if n == 1005 then s.counts.arp_1005 else
-    if n == 1006 then s.counts.arp_1006 else
-    if n == 1074 then s.msm.msm4.messages else
-    if n == 1075 then s.msm.msm5.messages else
-    if n == 1076 then s.msm.msm6.messages else
-    if n == 1077 then s.msm.msm7.messages else messages_of_msm (get nat_cmp s.system_msm n)
 
 -- of a station without an entry nothing came
 abbrev pub IsHeard : List AnyMessage → StationDates → Equipment → Option StationSurvey → Type 0

@@ -1,6 +1,6 @@
 -- Laws of the numbers of a summary: equal lines tell equal numbers, as far as a u64 holds them. Lists
 -- of frames, messages, faults and times are newest first.
-use Rattle.std.specs.Prelude.{◌≡◌, ◌≢◌, ◌≤◌, ◌<◌, ◌^◌, ℕ, Bool, List, [], ◌∷◌, length}
+use Rattle.std.specs.Prelude.{◌≡◌, ◌≢◌, ◌≤◌, ◌<◌, ◌^◌, ℕ, Bool, List, [], length}
 use Rattle.std.specs.List.{AllByRecursion, count_by}
 use Rattle.rtk_survey.specs.declared.equipment.Equipment.{Equipment}
 use Rattle.rtk_message.specs.declared.any_message.AnyMessage.{AnyMessage}

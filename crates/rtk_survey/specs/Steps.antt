@@ -1,3 +1,4 @@
 -- Definitions that only private clauses use.
+pub mod Fields
 pub mod Looking
 pub mod Tables

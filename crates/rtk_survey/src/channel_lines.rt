@@ -3,7 +3,7 @@
 //! If memory is refused, a first part of what is put may stand there.
 
 ghost use Rattle.std.specs.Prelude.{◌≡◌, ◌<◌, ◌++◌, IfOk, OnOk};
-ghost use Rattle.rtk_survey.specs.Channels.{place_is_counted};
+ghost use Rattle.rtk_survey.specs.Steps.Tables.{place_is_counted};
 ghost use Rattle.rtk_survey.specs.SummaryText as spec;
 
 use crate::channels::{FIELDS, PLACES};

@@ -5,6 +5,7 @@ ghost use Rattle.rtk_message.specs.declared.any_message.AnyMessage.{AnyMessage};
 ghost use Rattle.rtk_message.specs.declared.any_message.AnyMessage.TheVariants as any;
 ghost use Rattle.rtk_survey.specs.Channels as spec;
 ghost use Rattle.rtk_survey.specs.Counting.{shown_count};
+ghost use Rattle.rtk_survey.specs.Steps.Fields.{TakesFields, IsTableMade};
 ghost use Rattle.rtk_survey.specs.declared.system_message.SystemMessage.{SystemMessage};
 
 use crate::system_message::{SlotChannel, SystemMessage};
@@ -99,7 +100,7 @@ fn take_slot(table: &mut Vec<u64>, message: &Msm, slot: u8)
 // Counts the fields of all slots.
 fn take_slots(table: &mut Vec<u64>, message: &Msm)
     requires { length table.old.items ≡ 392 }
-    ensures { spec.TakesFields (spec.tells_field_of message.now) table.old.items table.new.items }
+    ensures { TakesFields (spec.tells_field_of message.now) table.old.items table.new.items }
 {
     for slot in 1u8..SLOTS {
         take_slot(table, message, slot);
@@ -108,7 +109,7 @@ fn take_slots(table: &mut Vec<u64>, message: &Msm)
 
 // Makes a table, unless it is there.
 fn make_table(alloc: Global, table: &mut Vec<u64>) -> Result<(), AllocError>
-    ensures made { OnOk result (spec.IsTableMade table.old.items table.new.items) }
+    ensures made { OnOk result (IsTableMade table.old.items table.new.items) }
     ensures size { OnOk result (length table.new.items ≡ 392) }
 {
     if table.len() != PLACES {
@@ -154,7 +155,7 @@ pub(crate) fn take_channels(
 // Counts the channel that a 1020 tells.
 fn take_told(table: &mut Vec<u64>, told: SlotChannel)
     requires { length table.old.items ≡ 392 }
-    ensures { spec.TakesFields (spec.tells_slot_channel told) table.old.items table.new.items }
+    ensures { TakesFields (spec.tells_slot_channel told) table.old.items table.new.items }
 {
     if told.slot < SLOTS {
         count_field(table, told.slot, told.field);

@@ -155,7 +155,12 @@ fn put_told(
 fn put_clock(lines: &mut Vec<u8>, letter: u8, offsets: &[ClockOffset]) -> Result<(), AllocError>
     ensures { OnOk result (lines.new.items ≡ lines.old.items ++ spec.clock_line letter offsets.now) }
 {
-    put_told(lines, letter, compared_clocks(offsets), told_offset(offsets))
+    put_told(
+        lines,
+        letter,
+        compared_clocks(offsets),
+        told_offset(offsets),
+    )
 }
 
 // Appends a line for each system whose clocks differ from those of their chains.

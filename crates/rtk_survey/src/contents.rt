@@ -122,10 +122,7 @@ fn take_tellings_in(
 }
 
 // Counts a message of another system than GPS.
-fn count_beside(
-    counts: &mut BTreeMap<u16, u64>,
-    message: &AnyMessage,
-) -> Result<(), AllocError>
+fn count_beside(counts: &mut BTreeMap<u16, u64>, message: &AnyMessage) -> Result<(), AllocError>
     ensures { OnOk result ((ms : List AnyMessage) → CountsBeside counts.old ms → CountsBeside counts.new (message.now ∷ ms)) }
 {
     if is_beside_gps(message) {
@@ -184,14 +181,7 @@ impl Contents {
         self.codes.join(&codes);
         self.system_signals.mark_entries(signals);
         count_beside(&mut self.beside, message)?;
-        take_message(
-            alloc,
-            &mut self.stations,
-            message,
-            entries,
-            &codes,
-            signals,
-        )?;
+        take_message(alloc, &mut self.stations, message, entries, &codes, signals)?;
         take_target_message(alloc, &mut self.target, message, entries, frame)
     }
 

@@ -3,7 +3,7 @@
 //! If memory is refused, a first part of what is put may stand there.
 
 ghost use Rattle.std.specs.Prelude.{◌≡◌, ◌++◌, OnOk};
-ghost use Rattle.rtk_survey.specs.Contents as spec;
+ghost use Rattle.rtk_survey.specs.Steps.Tables as spec;
 ghost use Rattle.rtk_survey.specs.SummaryText.{message_lines, system_epoch_lines};
 
 use crate::line::put_numbered;

@@ -55,11 +55,7 @@ pub(crate) fn codes_text(alloc: Global, marks: &[bool; CODES]) -> Result<Vec<u8>
 }
 
 // A satellite of another system than GPS after a blank, if it has a value.
-fn put_index(
-    text: &mut Vec<u8>,
-    marks: &[bool; INDICES],
-    index: u8,
-) -> Result<(), AllocError>
+fn put_index(text: &mut Vec<u8>, marks: &[bool; INDICES], index: u8) -> Result<(), AllocError>
     requires { (1 ≤ index) × (index < 222) }
     ensures { OnOk result (text.new.items ≡ text.old.items ++ spec.listed_index (λ n. get_or marks.now n false) index) }
 {

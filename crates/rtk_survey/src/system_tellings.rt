@@ -90,10 +90,7 @@ fn widened(range: LeapRange, seconds: u8) -> LeapRange
 }
 
 // Takes the leap seconds of a station.
-fn take_seconds(
-    ranges: &mut BTreeMap<u16, LeapRange>,
-    leap: LeapSeconds,
-) -> Result<(), AllocError>
+fn take_seconds(ranges: &mut BTreeMap<u16, LeapRange>, leap: LeapSeconds) -> Result<(), AllocError>
     ensures own { OnOk result (get nat_cmp ranges.new leap.station ≡ Some (spec.leap_with (get nat_cmp ranges.old leap.station) leap.seconds)) }
     ensures others { OnOk result ((n : ℕ) → n ≢ leap.station → get nat_cmp ranges.new n ≡ get nat_cmp ranges.old n) }
 {

@@ -1,4 +1,5 @@
-use Rattle.std.proofs.Common.{Bool, ◌∙◌, sym}
+use Rattle.std.proofs.Common.{◌++◌, Bool, List, ℕ, drop, ◌≡◌, ◌∙◌, sym, ap, arith}
+use Rattle.std.proofs.lemmas.List.{append-nil}
 use Rattle.std.specs.Prelude.{filter}
 use Rattle.rtk_obs.specs.declared.any_code.AnyCode.{AnyCode}
 use Rattle.rtk_obs.specs.declared.any_code.AnyCode.TheVariants.{G1C}
@@ -21,3 +22,10 @@ loop-code-preserved c =
           (any-code-left found c.loop-code.codes.items c.loop-code.code-index G1C (filter found all_any_codes) c.loop-code-test.true
           (sym c.is_found.ensures ∙ w.if-is_found.false) c.loop-code.invariant)
     ]
+
+pub returns : goal.returns
+returns c =
+    let found : AnyCode → Bool = is_found c.args.surveys.now c.args.station c.args.kinds in
+    let codes : List AnyCode = c.loop-code.codes.items in
+    let end : c.loop-code.code-index ≡ 69 = omega (arith, c.loop-code.auto.code-index-end, c.loop-code-test.false) in
+    sym (append-nil codes) ∙ ap (λ (k : ℕ). codes ++ filter found (drop k all_any_codes)) (sym end) ∙ c.loop-code.invariant

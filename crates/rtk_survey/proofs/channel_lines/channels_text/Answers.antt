@@ -2,7 +2,7 @@ use Rattle.std.proofs.Common.{◌≡◌, ◌-◌, ◌++◌, ◌∙◌, ℕ, Bool
 use Rattle.std.proofs.lemmas.List.{append-nil}
 use Rattle.std.specs.Prelude.{filter}
 use Rattle.std.specs.List.{range_with_len}
-use Rattle.rtk_survey.specs.Channels.{place_is_counted}
+use Rattle.rtk_survey.specs.Steps.Tables.{place_is_counted}
 use Rattle.rtk_survey.specs.SummaryText.{joined_channels, told_channels_text}
 use Rattle.rtk_survey.proofs.ChannelLineLemmas.{channel-named, channel-passed}
 use Rattle.rtk_survey.proofs.channel_lines.channels_text.Goals.{then-is_counted+in_ok-push+in_ok-put_told_channel, else-is_counted}

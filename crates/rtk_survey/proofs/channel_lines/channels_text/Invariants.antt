@@ -1,7 +1,7 @@
 use Rattle.std.proofs.Common.{◌≡◌, ◌-◌, ◌++◌}
 use Rattle.std.specs.Prelude.{filter}
 use Rattle.std.specs.List.{range_with_len}
-use Rattle.rtk_survey.specs.Channels.{place_is_counted}
+use Rattle.rtk_survey.specs.Steps.Tables.{place_is_counted}
 use Rattle.rtk_survey.specs.SummaryText.{joined_channels}
 use Rattle.rtk_survey.proofs.channel_lines.channels_text.Given as goal
 

@@ -2,8 +2,14 @@ use Rattle.std.proofs.Common.{◌∷◌, sym, subst}
 use Rattle.rtk_message.specs.declared.any_message.AnyMessage.{AnyMessage}
 use Rattle.rtk_survey.specs.Channels.{CountsChannels}
 use Rattle.rtk_survey.proofs.ChannelLemmas.{no-msm}
+use Rattle.rtk_survey.proofs.ResultLemmas.{on-ok}
 use Rattle.rtk_survey.proofs.channels.take_channels.Goals as goal
 
 pub returns-in-Message : goal.returns-in-Message
 returns-in-Message c = λ ms counts.
     subst (λ (m : AnyMessage). CountsChannels c.args.table.now.items (m ∷ ms)) (sym c.in-Message.is) (no-msm c.args.table.now.items _ ms counts)
+
+pub returns-in-Msm : goal.returns-in-Msm
+returns-in-Msm c = on-ok c.take_msm.result
+    (λ took ms counts. subst (λ (m : AnyMessage). CountsChannels c.take_msm.new.table.items (m ∷ ms)) (sym c.in-Msm.is) (took ms counts))
+    c.take_msm.ensures

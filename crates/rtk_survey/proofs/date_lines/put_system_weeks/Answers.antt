@@ -1,4 +1,4 @@
-use Rattle.std.proofs.Common.{◌++◌, ◌∙◌, append_assoc, List, ℕ, ap, sym}
+use Rattle.std.proofs.Common.{◌++◌, List, ℕ}
 use Rattle.rtk_survey.specs.Summary.{weeks_text_of}
 use Rattle.rtk_survey.proofs.ListLemmas.{and-then}
 use Rattle.rtk_survey.proofs.ResultLemmas.{on-ok}

@@ -4,13 +4,13 @@ use Rattle.rtk_obs.specs.AnyCode.{number_of}
 use Rattle.rtk_obs.specs.Code.{place_of}
 use Rattle.rtk_survey.specs.declared.equipment.Equipment.{Equipment}
 use Rattle.rtk_survey.specs.Chains.{no_clocks, clocks_at}
-use Rattle.rtk_survey.specs.Channels.{place_is_counted}
 use Rattle.rtk_survey.specs.ClockLines.{clock_lines}
 use Rattle.rtk_survey.specs.FrameDates.{proposed_date}
 use Rattle.rtk_survey.specs.FrameEquipment.{told_lines}
 use Rattle.rtk_survey.specs.Summary.{station_lines}
 use Rattle.rtk_survey.specs.SummaryText.{number_line, message_lines, system_epoch_lines, channel_line, time_lines, near_text, signal_lines, proposal_lines}
-use Rattle.rtk_survey.specs.Contents.{equipment_at, epochs_held, codes_held, messages_held, system_epochs_held}
+use Rattle.rtk_survey.specs.Contents.{equipment_at, epochs_held, codes_held}
+use Rattle.rtk_survey.specs.Steps.Tables.{messages_held, system_epochs_held, place_is_counted}
 use Rattle.rtk_survey.specs.Tracing.{times_of_week}
 use Rattle.rtk_survey.specs.declared.clock_chains.ClockSurvey.{ClockSurvey}
 use Rattle.rtk_survey.specs.declared.station_dates.StationDates.{StationDates}

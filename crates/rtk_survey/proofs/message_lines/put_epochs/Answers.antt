@@ -1,6 +1,6 @@
 use Rattle.std.proofs.Common.{◌≡◌, ◌++◌, ℕ, List, take, sym, ap, ◌∙◌, arith}
 use Rattle.std.specs.Prelude.{flat_map, codes}
-use Rattle.rtk_survey.specs.Contents.{system_epochs_held}
+use Rattle.rtk_survey.specs.Steps.Tables.{system_epochs_held}
 use Rattle.rtk_survey.specs.SummaryText.{numbered_line, beside_numbers, system_epoch_lines}
 use Rattle.rtk_survey.proofs.ListLemmas.{put-taken}
 use Rattle.rtk_survey.proofs.message_lines.put_epochs.Goals as goal

@@ -1,6 +1,6 @@
 use Rattle.std.proofs.Common.{◌≡◌, ◌++◌, take}
 use Rattle.std.specs.Prelude.{flat_map, codes}
-use Rattle.rtk_survey.specs.Contents.{system_epochs_held}
+use Rattle.rtk_survey.specs.Steps.Tables.{system_epochs_held}
 use Rattle.rtk_survey.specs.SummaryText.{numbered_line, beside_numbers}
 use Rattle.rtk_survey.proofs.message_lines.put_epochs.Given as goal
 

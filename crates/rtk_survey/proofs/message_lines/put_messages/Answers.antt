@@ -1,6 +1,6 @@
 use Rattle.std.proofs.Common.{◌≡◌, ◌++◌, ℕ, List, take, sym, ap, ◌∙◌, arith}
 use Rattle.std.specs.Prelude.{flat_map, codes}
-use Rattle.rtk_survey.specs.Contents.{messages_held}
+use Rattle.rtk_survey.specs.Steps.Tables.{messages_held}
 use Rattle.rtk_survey.specs.SummaryText.{numbered_line, message_numbers, message_lines}
 use Rattle.rtk_survey.proofs.ListLemmas.{put-taken}
 use Rattle.rtk_survey.proofs.message_lines.put_messages.Goals as goal

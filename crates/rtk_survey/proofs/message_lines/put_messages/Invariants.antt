@@ -1,6 +1,6 @@
 use Rattle.std.proofs.Common.{◌≡◌, ◌++◌, take}
 use Rattle.std.specs.Prelude.{flat_map, codes}
-use Rattle.rtk_survey.specs.Contents.{messages_held}
+use Rattle.rtk_survey.specs.Steps.Tables.{messages_held}
 use Rattle.rtk_survey.specs.SummaryText.{numbered_line, message_numbers}
 use Rattle.rtk_survey.proofs.message_lines.put_messages.Given as goal
 

@@ -1,6 +1,6 @@
-use Rattle.std.proofs.Common.{◌≡◌, ◌∙◌, ℕ, Bool, false, List, length, take, nat_lt, sym, ap, arith}
+use Rattle.std.proofs.Common.{◌≡◌, ◌∙◌, ℕ, Bool, false, List, length, nat_lt, sym, ap, arith}
 use Rattle.std.proofs.lemmas.Grind.{common_steps}
-use Rattle.rtk_bits.specs.Bits.{bits, unsigned}
+use Rattle.rtk_bits.specs.Bits.{bits}
 use Rattle.rtk_survey.specs.DateMessages.{unsigned_at}
 use Rattle.rtk_survey.specs.SystemMessages.{system_message_numbered}
 use Rattle.rtk_survey.proofs.system_message.system_message_in.Goals as goal
