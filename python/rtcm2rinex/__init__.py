@@ -17,7 +17,7 @@ from .files import Check, Part, check, cut, label
 from .headers import Header
 from .live import Converter
 from .program import find_program, version
-from .qualities import Burst, CodeQuality, Fall, Gap, HalfRun, Hour, MissingCode, Outage, Pass, Quality, SlipsTogether, Tracked, quality
+from .qualities import Burst, CodeQuality, Fall, Gap, HalfRun, Hour, MissingCode, Outage, Pass, Quality, SlipsTogether, SystemQuality, Tracked, quality
 from .reports import Conflict, Counts, LateMessage, RefusedMessage, Report
 from .rinex import Epoch, Observation, epochs, header, observations
 from .tables import arrays, frame
@@ -27,6 +27,6 @@ __all__ = [
     "AutoConversion", "Burst", "CapturesError", "Check", "ClockOffset", "CodeQuality", "Conflict", "Conversion", "Converter", "Counts", "Date", "Epoch",
     "Error", "Fall", "FileError", "FormError", "Found", "Gap", "HalfRun", "Header", "Hour", "LateMessage", "MissingCode", "NoRecordError", "Observation", "Outage",
     "Part", "Pass", "ProgramError", "ProgramNotFound", "Quality", "RefusedMessage", "Report", "SlipsTogether", "StationSummary",
-    "Summary", "Tracked", "WordsError", "WorkError", "Written", "arrays", "auto", "check", "convert", "cut", "epochs", "find_program", "frame", "header",
+    "Summary", "SystemQuality", "Tracked", "WordsError", "WorkError", "Written", "arrays", "auto", "check", "convert", "cut", "epochs", "find_program", "frame", "header",
     "label", "observations", "quality", "summary", "version",
 ]

@@ -71,9 +71,10 @@ class WordsError(ProgramError):
 
 
 class FileError(ProgramError):
-    """Status 3 of `quality`, `cut` and `label`: they read a file that is not as the program writes it.
+    """Status 3 of `quality`, `cut` and `label`: they read a file that is not as the program writes it, or that lacks a system.
 
-    `number` is the number of the first wrong line, and `fault` what is wrong with it, such as `C3 Value`.
+    `number` is the number of the first wrong line, and `fault` what is wrong with it, such as `C3 Value`. Where no line is wrong,
+    `number` is 0, and `line` says what the file lacks.
     """
 
     def __init__(self, status: int, told: str) -> None:

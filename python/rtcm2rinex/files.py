@@ -58,16 +58,19 @@ def check(file: Input, *, program: Optional[Location] = None) -> Check:
 
 
 def cut(file: Input, *, from_: Optional[Time] = None, until: Optional[Time] = None, every: Optional[int] = None,
-        output: Optional[Name] = None, force: bool = False, program: Optional[Location] = None) -> Part:
-    """Copies a span of time, or every Nth second. Such a second also shows the slips since the one before.
+        systems: Optional[str] = None, output: Optional[Name] = None, force: bool = False,
+        program: Optional[Location] = None) -> Part:
+    """Copies a span of time, every Nth second, or some systems. Such a second also shows the slips since the one before.
 
     Records from the GPS time `from_` on and before the GPS time `until` are copied, and with `every` those at whole multiples of so
-    many seconds. A time is a `datetime` or a text such as `2024-05-17T12:00:00`. The part goes to `output`, or else into `text` of the
-    result. A file that is there is replaced only with `force`.
+    many seconds. A time is a `datetime` or a text such as `2024-05-17T12:00:00`. With `systems`, which has their letters, as in `GE`,
+    only their codes and satellites are copied. The part goes to `output`, or else into `text` of the result. A file that is there is
+    replaced only with `force`.
 
-    Raises `FileError` if the file is not as the program writes it, and `WorkError` or `WordsError` for other faults.
+    Raises `FileError` if the file is not as the program writes it or has no code of one of `systems`, and `WorkError` or `WordsError`
+    for other faults.
     """
-    words = ["cut", *option_words({"from": gps_word(from_), "until": gps_word(until), "every": every})]
+    words = ["cut", *option_words({"from": gps_word(from_), "until": gps_word(until), "every": every, "systems": systems})]
     with output_of(output, force, [file]) as written:
         ran = run(program, words, [file], out=written, third=FileError)
         match = CUT.fullmatch(ran.told)

@@ -155,6 +155,38 @@ class Fall:
 
 
 @dataclass(frozen=True)
+class SystemQuality:
+    """The numbers of one system in a file with other systems than GPS, by the letter of the system (`system`). The others are as in
+    `Quality`, but of the satellites and codes of this system alone."""
+
+    system: str
+    satellites: int
+    least_satellites: int
+    mean_satellites: float
+    greatest_satellites: int
+    slips: int
+    moments: int
+    outages: int
+    outage_time: float
+    slips_together: int
+    bursts: int
+    half_runs: int
+    missing_codes: int
+    codes: Tuple[CodeQuality, ...]
+    satellite_codes: Tuple[CodeQuality, ...]
+    tracked: Tuple[Tracked, ...]
+    never: Tuple[Tuple[str, str], ...]
+    passes: Tuple[Pass, ...]
+    hours: Tuple[Hour, ...]
+    falls: Tuple[Fall, ...]
+    longest_outages: Tuple[Outage, ...]
+    most_slips_together: Tuple[SlipsTogether, ...]
+    largest_bursts: Tuple[Burst, ...]
+    longest_half_runs: Tuple[HalfRun, ...]
+    longest_missing_codes: Tuple[MissingCode, ...]
+
+
+@dataclass(frozen=True)
 class Quality:
     """The numbers of a file.
 
@@ -171,6 +203,9 @@ class Quality:
     strength of each band. `longest_outages` has up to ten outages, the longest first, and `most_slips_together` up to ten of the
     records in which several satellites slip, the one with most of them first. `largest_bursts`, `longest_half_runs` and `longest_missing_codes`
     have up to ten bursts, runs and times for which a code is missing, the largest first.
+
+    `systems` is empty for a file of GPS alone. A file with other systems has `marker`, the numbers from `records` to `gaps`, and
+    `longest_gaps`. All else is None or empty, and `systems` has the numbers of each system of which the file has codes.
     """
 
     marker: str
@@ -205,6 +240,7 @@ class Quality:
     largest_bursts: Tuple[Burst, ...]
     longest_half_runs: Tuple[HalfRun, ...]
     longest_missing_codes: Tuple[MissingCode, ...]
+    systems: Tuple[SystemQuality, ...] = ()
 
 
 def quality(file: Input, *, program: Optional[Location] = None) -> Quality:
@@ -219,15 +255,13 @@ def read_quality(text: str) -> Quality:
     """Reads the JSON of `quality`."""
     try:
         rows: Dict[str, Any] = json.loads(text)
-        codes, satellite_codes = (tuple(map(code_of, rows[it])) for it in ("codes", "satellites"))
-        never = tuple((row["satellite"], row["code"]) for row in rows["never"])
-        return Quality(**file_of(rows["file"]), codes=codes, satellite_codes=satellite_codes, never=never,
-            tracked=tuple(map(tracked_of, rows["tracked"])), passes=tuple(map(pass_of, rows["passes"])),
-            hours=tuple(map(hour_of, rows["hours"])), longest_gaps=tuple(map(gap_of, rows["gaps"])),
-            falls=tuple(map(fall_of, rows["falls"])), longest_outages=tuple(map(outage_of, rows["outages"])),
-            most_slips_together=tuple(map(slips_together_of, rows["slips_together"])),
-            largest_bursts=tuple(map(burst_of, rows["bursts"])), longest_half_runs=tuple(map(half_run_of, rows["half_runs"])),
-            longest_missing_codes=tuple(map(missing_code_of, rows["missing_codes"])))
+        whole: Dict[str, Any] = rows["file"]
+        gaps = tuple(map(gap_of, rows["gaps"]))
+        if "systems" in rows:
+            systems = tuple(map(system_of, rows["systems"]))
+            return Quality(**file_of(whole), **none_of(TOTALS, None), **none_of(LISTS, ()), longest_gaps=gaps, systems=systems)
+        totals = totals_of(whole) if whole["records"] > 0 else none_of(TOTALS, None)
+        return Quality(**file_of(whole), **totals, **lists_of(rows), longest_gaps=gaps)
     except (ValueError, KeyError, TypeError) as fault:
         raise FormError(1, f"the JSON of quality has another form: {fault!r}") from fault
 
@@ -237,17 +271,50 @@ def part_of(number: Optional[int], parts: int) -> Optional[float]:
     return None if number is None else number / parts
 
 
+# What a file of GPS and a system have: numbers, and lists.
+TOTALS = ("satellites", "least_satellites", "mean_satellites", "greatest_satellites", "slips", "moments", "outages", "outage_time",
+    "slips_together", "bursts", "half_runs", "missing_codes")
+LISTS = ("codes", "satellite_codes", "tracked", "never", "passes", "hours", "falls", "longest_outages", "most_slips_together",
+    "largest_bursts", "longest_half_runs", "longest_missing_codes")
+
+
+def none_of(names: Tuple[str, ...], it: Any) -> Dict[str, Any]:
+    """The same for each of these names."""
+    return dict.fromkeys(names, it)
+
+
 def file_of(row: Dict[str, Any]) -> Dict[str, Any]:
-    """The numbers of the whole file. Without records there are only two."""
+    """The numbers of the whole file, without those of satellites. Without records there are only two."""
     if row["records"] == 0:
-        absent = ("first", "last", "interval", "missing", "gaps", "satellites", "least_satellites", "mean_satellites", "greatest_satellites",
-            "slips", "moments", "outages", "outage_time", "slips_together", "bursts", "half_runs", "missing_codes")
-        return {"marker": row["marker"], "records": 0, **dict.fromkeys(absent)}
-    same = ("marker", "records", "missing", "gaps", "satellites", "least_satellites", "greatest_satellites", "slips", "moments", "outages",
-        "slips_together", "bursts", "half_runs", "missing_codes")
-    return {**{name: row[name] for name in same}, "first": moment_of(row["from"]), "last": moment_of(row["until"]),
-        "interval": part_of(row["interval_ms"], 1000), "mean_satellites": part_of(row["mean_satellites_tenths"], 10),
+        return {"marker": row["marker"], "records": 0, **dict.fromkeys(("first", "last", "interval", "missing", "gaps"))}
+    return {**{name: row[name] for name in ("marker", "records", "missing", "gaps")}, "first": moment_of(row["from"]),
+        "last": moment_of(row["until"]), "interval": part_of(row["interval_ms"], 1000)}
+
+
+def totals_of(row: Dict[str, Any]) -> Dict[str, Any]:
+    """The numbers over all satellites of a file of GPS or of a system."""
+    same = (name for name in TOTALS if name not in ("mean_satellites", "outage_time"))
+    return {**{name: row[name] for name in same}, "mean_satellites": part_of(row["mean_satellites_tenths"], 10),
         "outage_time": row["outage_time_ms"] / 1000}
+
+
+def lists_of(rows: Dict[str, Any]) -> Dict[str, Any]:
+    """The lists of a file of GPS or of a system."""
+    readers = (code_of, code_of, tracked_of, never_of, pass_of, hour_of, fall_of, outage_of, slips_together_of, burst_of, half_run_of,
+        missing_code_of)
+    keys = ("codes", "satellites", "tracked", "never", "passes", "hours", "falls", "outages", "slips_together", "bursts", "half_runs",
+        "missing_codes")
+    return {name: tuple(map(read, rows[key])) for name, read, key in zip(LISTS, readers, keys)}
+
+
+def system_of(rows: Dict[str, Any]) -> SystemQuality:
+    """The numbers of a system."""
+    return SystemQuality(system=rows["totals"]["system"], **totals_of(rows["totals"]), **lists_of(rows))
+
+
+def never_of(row: Dict[str, Any]) -> Tuple[str, str]:
+    """A satellite and a code of which it has no phase."""
+    return row["satellite"], row["code"]
 
 
 def code_of(row: Dict[str, Any]) -> CodeQuality:

@@ -1,7 +1,8 @@
-"""`check`, `label` and `cut` on mixed files that chance makes, and `show` on such captures, beside the model.
+"""`check`, `label`, `cut` and `quality` on mixed files that chance makes, and `show` on such captures, beside the model.
 
     mixed_commands.py PROGRAM COUNT    so many changed files, a third as many labelled ones, and a tenth as many parts, as many
-                                       with lines of their records, as many with some systems alone, and as many captures
+                                       with lines of their records, as many with some systems alone, as many whose numbers are
+                                       told, and as many captures
 
 The last line is 'N passed, M failed'.
 """
@@ -20,6 +21,7 @@ import mixed_cases
 import mixed_damages
 import mixed_labels
 import mixed_parts
+import mixed_qualities
 import mixed_shown
 import time_lines
 from mixed_checker import mixed_fault
@@ -129,6 +131,16 @@ def kept(count: int) -> Iterator[Due]:
             yield Due(words, text, 0, time_lines.with_lines(due, *asked).encode(), told)
 
 
+def numbers(count: int) -> Iterator[Due]:
+    """In the three forms, of files without and with lines of their records, and of one in which each satellite has a row."""
+    rng = Random(mixed_qualities.SEED)
+    files = [*(mixed_parts.some_file(rng)[0] for _ in range(count)), mixed_parts.all_satellites(rng)[0]]
+    for text in files:
+        told = rng.choice((text, time_lines.with_lines(text, True, True)))
+        for words, due in (([], mixed_qualities.table), (["--lines"], mixed_qualities.lines), (["--json"], mixed_qualities.in_json)):
+            yield Due(["quality", *words], told.encode(), 0, due(text).encode(), b"")
+
+
 def shows(count: int) -> Iterator[Due]:
     rng = Random(mixed_shown.SEED)
     for _ in range(count):
@@ -142,7 +154,7 @@ def main() -> None:
     with tempfile.TemporaryDirectory() as folder:
         chdir(folder)
         program = Program(path)
-        files = (*checks(count), *labels(count // 3), *cuts(count // 10), *lines(count // 10), *kept(count // 10))
+        files = (*checks(count), *labels(count // 3), *cuts(count // 10), *lines(count // 10), *kept(count // 10), *numbers(count // 10))
         for number, due in enumerate((*files, *shows(count // 10))):
             differs = ends_with(program.on(due.text, *due.words), due.status, due.out, due.err)
             passed, failed = passed + (not differs), failed + bool(differs)

@@ -223,11 +223,6 @@ class Station:
             *(Field(f"mean-strength-{band}", f"mean_strength_{band}_centidbhz", self.mean(places, band), 2) for band in self.bands),
         ]) for hour, places in self.places.items()]
 
-    def longest_gaps(self) -> list[tuple[str, list[Field]]]:
-        """The ten longest; a sort keeps the order of those alike."""
-        longest = sorted(self.gaps, key=lambda it: -it[2])[:10]
-        return [("gap", [text("from", "from", moment(a)), text("until", "until", moment(b)), counted("missing", count)]) for a, b, count in longest]
-
     def longest_outages(self, interval: int | None) -> list[tuple[str, list[Field]]]:
         """The ten longest; of those alike the one that ends first, and then the satellite with the lower number."""
         all_of_them = [(-ms, until, it.name, since) for it in self.satellites for since, until, ms in it.outages(interval)]
@@ -336,36 +331,30 @@ class Station:
         return lines
 
 
-def entries_of(file: str) -> tuple[list[Field], list[tuple[str, list[Field]]]]:
-    """The numbers of the whole file, and the lines after them, each with its keyword."""
-    header, body = file.split(END)
-    lines = header.splitlines()
-    codes = [it[1:] for it in "".join(line[6:60] for line in lines if "SYS / # / OBS TYPES" in line).split()[::3]]
-    marker = text("marker", "marker", lines[2][:60].rstrip())
-    records = records_of(body)
-    if not records:
-        return [marker, counted("records", 0)], []
-    times = [(it.time - START) // MS for it in records]
-    interval = interval_of(times)
+class Part(NamedTuple):
+    """The numbers of satellites and codes: their totals, the lines of codes, of satellites and of passes, and those of times, without the
+    gaps."""
+
+    totals: list[Field]
+    signals: list[tuple[str, list[Field]]]
+    times: list[tuple[str, list[Field]]]
+
+
+def part_of(records: list, times: list[int], interval: int | None, codes: list[str], letter: str = "") -> Part:
+    """The numbers of satellites with these codes. `letter` stands before a code in lines that name no satellite."""
     names = sorted({name for it in records for name in it.lines})
     satellites = [Satellite(name, records, times, len(codes), interval) for name in names]
     seen = [it for it in satellites if any(it.has(c) for c in range(len(codes)))]
     counts = [len(it.lines) for it in records]
     sums = {it.name: it.sums(it.spans, interval) for it in satellites}
     station = Station(records, times, interval, codes, satellites)
-    heading = [
-        marker,
-        text("from", "from", moment(times[0])),
-        text("until", "until", moment(times[-1])),
-        Field("interval", "interval_ms", interval, 3),
-        counted("records", len(records)),
-        counted("missing", missing_in(times, interval)),
-        counted("gaps", len(station.gaps)),
+    none = [counted("slips", 0), counted("moments", 0), counted("outages", 0), Field("outage-time", "outage_time_ms", 0, 3)]
+    totals = [
         counted("satellites", len(seen)),
         counted("least-satellites", min(counts)),
         Field("mean-satellites", "mean_satellites_tenths", whole(Fraction(10 * sum(counts), len(records))), 1),
         counted("greatest-satellites", max(counts)),
-        *(one[0]._replace(value=sum(it.value for it in one)) for one in list(zip(*sums.values()))[1:]),
+        *(one[0]._replace(value=sum(it.value for it in one)) for one in list(zip(*(it[1:] for it in sums.values()))) or zip(none)),
         counted("slips-together", len(station.slips_together())),
         counted("bursts", len(station.bursts())),
         counted("half-runs", len(station.half_runs())),
@@ -376,7 +365,7 @@ def entries_of(file: str) -> tuple[list[Field], list[tuple[str, list[Field]]]]:
         having = [it for it in satellites if it.has(c)]
         rows, knows = [row for it in having for row in it.rows(c)], [k for it in having for k in it.knows(c)]
         on = [counted("satellites", len(having)), Field("of", "tracked", len(seen))]
-        out.append(("code", [text("", "code", code), *numbers(rows, knows, sum(it.possible for it in having or satellites), on)]))
+        out.append(("code", [text("", "code", letter + code), *numbers(rows, knows, sum(it.possible for it in having or satellites), on)]))
     for it in seen:
         for c, code in enumerate(codes):
             if it.has(c):
@@ -388,8 +377,55 @@ def entries_of(file: str) -> tuple[list[Field], list[tuple[str, list[Field]]]]:
         for row in it.spans:
             span = [text("from", "from", moment(row[0][0][1])), text("until", "until", moment(row[-1][-1][1]))]
             out.append(("pass", [text("", "satellite", it.name), *span, *it.sums([row], interval)]))
-    times = station.hours() + station.longest_gaps() + station.falls() + station.longest_outages(interval) + station.largest_slips_together()
-    return heading, out + times + station.events() + station.longest_missing_codes(interval)
+    when = station.hours() + station.falls() + station.longest_outages(interval) + station.largest_slips_together()
+    return Part(totals, out, when + station.events() + station.longest_missing_codes(interval))
+
+
+class File(NamedTuple):
+    """A file: its marker, its records, and their times and interval in ms."""
+
+    marker: Field
+    records: list
+    times: list[int]
+    interval: int | None
+
+    def gaps(self) -> list[tuple[int, int, int]]:
+        """The times around each gap, and how many epochs it lacks."""
+        return [(a, b, missing) for a, b in zip(self.times, self.times[1:]) if (missing := missing_in([a, b], self.interval))]
+
+    def heading(self) -> list[Field]:
+        return [
+            self.marker,
+            text("from", "from", moment(self.times[0])),
+            text("until", "until", moment(self.times[-1])),
+            Field("interval", "interval_ms", self.interval, 3),
+            counted("records", len(self.records)),
+            counted("missing", missing_in(self.times, self.interval)),
+            counted("gaps", len(self.gaps())),
+        ]
+
+    def longest_gaps(self) -> list[tuple[str, list[Field]]]:
+        """The ten longest; a sort keeps the order of those alike."""
+        longest = sorted(self.gaps(), key=lambda it: -it[2])[:10]
+        return [("gap", [text("from", "from", moment(a)), text("until", "until", moment(b)), counted("missing", count)]) for a, b, count in longest]
+
+
+def file_of(header: str, body: str) -> File:
+    records = records_of(body)
+    times = [(it.time - START) // MS for it in records]
+    return File(text("marker", "marker", header.splitlines()[2][:60].rstrip()), records, times, interval_of(times))
+
+
+def entries_of(file: str) -> tuple[list[Field], list[tuple[str, list[Field]]]]:
+    """The numbers of the whole file, and the lines after them, each with its keyword."""
+    header, body = file.split(END)
+    codes = [it[1:] for it in "".join(line[6:60] for line in header.splitlines() if "SYS / # / OBS TYPES" in line).split()[::3]]
+    whole_file = file_of(header, body)
+    if not whole_file.records:
+        return [whole_file.marker, counted("records", 0)], []
+    part = part_of(whole_file.records, whole_file.times, whole_file.interval, codes)
+    hours = [it for it in part.times if it[0] == "hour"]
+    return whole_file.heading() + part.totals, part.signals + hours + whole_file.longest_gaps() + part.times[len(hours) :]
 
 
 def lines(file: str) -> str:
@@ -409,14 +445,18 @@ MOST = {"gap": "gaps", "outage": "outages", "slip-together": "slips-together", "
     "missing-code": "missing-codes"}
 
 
+def arrays_of(entries: list[tuple[str, list[Field]]], leaving_out: str = "") -> list[str]:
+    """For each list an array with an object on each line."""
+    lists: dict[str, list[str]] = {name: [] for keyword, name in LISTS.items() if keyword != leaving_out}
+    for keyword, fields in entries:
+        lists[LISTS[keyword]].append(compact(fields))
+    return [f'"{name}":[' + ",".join("\n" + it for it in rows) + ("\n]" if rows else "]") for name, rows in lists.items()]
+
+
 def in_json(file: str) -> str:
     """The same as a JSON object: an object for the file, and for each list an array with an object on each line."""
     heading, entries = entries_of(file)
-    lists: dict[str, list[str]] = {it: [] for it in LISTS.values()}
-    for keyword, fields in entries:
-        lists[LISTS[keyword]].append(compact(fields))
-    arrays = [f'"{name}":[' + ",".join("\n" + it for it in rows) + ("\n]" if rows else "]") for name, rows in lists.items()]
-    return ",\n".join(['{"file":' + compact(heading), *arrays]) + "}\n"
+    return ",\n".join(['{"file":' + compact(heading), *arrays_of(entries)]) + "}\n"
 
 
 def compact(fields: list[Field]) -> str:
@@ -486,11 +526,13 @@ def never_rows(fields: list[Field]) -> list[str]:
     return [" ".join([code, *names[at : at + 19]]) for at in range(0, len(names), 19)]
 
 
-def table(file: str) -> str:
-    """The same as a table."""
-    heading, entries = entries_of(file)
-    lines = [f"marker {heading[0].value}"]
-    lines += [it.word + it._replace(word="").in_line().rjust(43 - len(it.word)) for it in heading[1:]]
+def lined_up(fields: list[Field]) -> list[str]:
+    return [it.word + it._replace(word="").in_line().rjust(43 - len(it.word)) for it in fields]
+
+
+def rows_of(heading: list[Field], entries: list[tuple[str, list[Field]]]) -> list[str]:
+    """The lists of a table, under their titles, with how many more there are than the heading counts."""
+    lines: list[str] = []
     last = ""
     found = {it.word: it.value for it in heading}
     for keyword, fields in [*in_order(entries), ("", [])]:
@@ -501,7 +543,13 @@ def table(file: str) -> str:
             lines += ["", title]
         last = keyword
         lines += never_rows(fields) if keyword == "never" else [row_of(keyword, fields)] if keyword else []
-    return "\n".join(lines) + "\n"
+    return lines
+
+
+def table(file: str) -> str:
+    """The same as a table."""
+    heading, entries = entries_of(file)
+    return "\n".join([f"marker {heading[0].value}", *lined_up(heading[1:]), *rows_of(heading, entries)]) + "\n"
 
 
 if __name__ == "__main__":

@@ -420,16 +420,79 @@ for words in '' --lines --json; do
     quality $words - ; expect "quality_of_no_file$words" 1 '' 'rtcm2rinex: cannot open -'
 done
 
-# Files of other systems, also without a record; a file that `check` refuses is none of them.
+# Files of other systems. The numbers of mixed.rnx in mixed.numbers were looked up in it by hand.
 cp "$mixed" mixed
 of_galileo >galileo
+systems=$root/tests/program/mixed.numbers
+# pins: mixed_quality_of, mixed_quality_text, parts_of_systems, epochs_of_system, totals_text
+lines mixed;        leaves quality_of_mixed 0 "$systems" /dev/null
+lines stdin <mixed; leaves quality_of_mixed_of_standard_input 0 "$systems" /dev/null
+"$program" label --run-by B mixed >labelled_mixed
+lines labelled_mixed; leaves quality_of_mixed_with_a_label 0 "$systems" /dev/null
+
+# Each record has a satellite of Galileo, so a file of Galileo alone has the same numbers.
+{ sed '/^system/,$d' "$systems"; sed -n '/^system E/,/^system C/p' "$systems" | sed '$d'; } >want
+lines galileo; leaves quality_of_galileo 0 want /dev/null
+
+# Each record has one of GPS too, and of a file of GPS alone the lines are the same, but the gap stands behind the hours.
+"$program" cut --systems G mixed >gps 2>err
+lines gps; grep -v '^gap ' out >got
+{ sed '/^gap /,$d' "$systems"; sed -n '/^system G/,/^system R/p' "$systems" | sed '1d;$d'; } >want
+same quality_of_gps_as_of_a_file_alone got want
+
+# In columns and in JSON.
+quality mixed; sed -n '/^system C/,$p' out | sed '/^signal/q' >got
+cat >want <<'END'
+system C
+satellites                                1
+least-satellites                          0
+mean-satellites                         0.8
+greatest-satellites                       1
+slips                                     1
+moments                                   1
+outages                                   0
+outage-time                           0.000
+slips-together                            0
+bursts                                    0
+half-runs                                 1
+missing-codes                             0
+
+hour             records    of satellites  slips returns  band 2  band 6  band 7
+2024-05-17 12:00       4     5        0.8      1       0   44.00       -       -
+
+half from               until                  epochs
+C41 2024-05-17 12:00:01 2024-05-17 12:00:01         1
+
+                            ranges                             strength in dB-Hz
+signal phases     of      %   only slips returns rises half     min  mean    max
+END
+# pins: system_start, bands_of_system, band_named
+same quality_of_beidou_in_a_table got want
+quality --json mixed
+python3 -c 'import json, sys
+numbers = json.load(sys.stdin)
+print(*numbers)
+for part in numbers["systems"]: print(part["totals"]["system"], *(row["code"] for row in part["codes"]))
+print(*numbers["systems"][0])' <out >got
+cat >want <<'END'
+file gaps systems
+G 1C 5X
+R R2P
+E E1X E8X
+C C2I C6I C7I C5P C1P
+J J1X
+S S5I
+I I5A
+totals codes satellites tracked never passes hours falls outages slips_together bursts half_runs missing_codes
+END
+# pins: title_in
+same quality_of_mixed_in_json got want
+
+# A file of other systems without a record, and one that `check` refuses.
 sed 31q "$mixed" >heading
+lines heading; expect quality_of_mixed_without_records 0 "$(printf '%s\n' 'marker BASE' 'records 0')" ''
 sed '36s/25110278.381/       0.000/' mixed >bad
 for words in '' --lines --json; do
-    for name in mixed galileo heading; do
-        quality $words $name; expect "quality_of_$name$words" 3 '' 'rtcm2rinex: other systems than GPS'
-    done
-    quality $words stdin <mixed; expect "quality_of_mixed_of_standard_input$words" 3 '' 'rtcm2rinex: other systems than GPS'
     quality $words bad; expect "quality_of_a_bad_mixed_file$words" 3 '' 'line 36: C3 Value'
 done
 

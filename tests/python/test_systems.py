@@ -150,6 +150,12 @@ class Conversions(Case):
     def test_a_part_and_a_label(self) -> None:
         done = rtcm2rinex.convert(io.BytesIO(WHOLE), **SEVEN)
         self.assertEqual(list(rtcm2rinex.cut(done.open(), every=1).observations()), list(done.observations()))
+        part = rtcm2rinex.cut(done.open(), systems="RE")
+        self.assertEqual((part.header().codes, part.header().channels), (("R2P", "E8X"), {10: -5}))
+        self.assertEqual([it.satellite for it in part.observations()], ["R10", "E11"])
+        with self.assertRaises(rtcm2rinex.FileError) as raised:
+            rtcm2rinex.cut(part.open(), systems="RG")
+        self.assertEqual((raised.exception.line, raised.exception.number), ("the file has no codes of G", 0))
         labelled = rtcm2rinex.label(done.open(), marker_number="1", agency="Survey").header()
         self.assertEqual((labelled.agency, labelled.codes, labelled.channels), ("Survey", done.header().codes, {10: -5}))
 
@@ -173,6 +179,24 @@ class Reading(Case):
         self.assertEqual([it.satellite for it in rows], "G11 G11 R10 R26 E11 E11 C41 C41 J01 S58 I14".split())
         self.assertIn(Observation(NOON, "R26", "2P", 22345678.901, None, 33.25, False, False), rows)
         self.assertIn(Observation(NOON, "C41", "1P", 23168976.578, 121756438.318, 43.75, False, False), rows)
+
+    def test_the_numbers_of_each_system(self) -> None:
+        """tests/program/mixed.numbers, which was looked up by hand."""
+        found = rtcm2rinex.quality(io.BytesIO(MIXED))
+        self.assertEqual((found.marker, found.records, found.missing, found.gaps, found.interval), ("BASE", 4, 1, 1, 1.0))
+        self.assertEqual((found.first, found.last, found.satellites, found.codes, found.hours), (NOON, NOON + timedelta(seconds=4), None, (), ()))
+        self.assertEqual([gap.missing for gap in found.longest_gaps], [1])
+        self.assertEqual("".join(it.system for it in found.systems), "GRECJSI")
+        galileo, beidou = found.systems[2:4]
+        self.assertEqual((galileo.satellites, galileo.slips, galileo.half_runs, galileo.mean_satellites), (1, 1, 1, 1.0))
+        self.assertEqual([(it.satellite, it.code, it.phases, it.slips) for it in galileo.codes], [(None, "E1X", 4, 0), (None, "E8X", 4, 1)])
+        self.assertEqual([(it.satellite, it.code) for it in galileo.satellite_codes], [("E11", "1X"), ("E11", "8X")])
+        self.assertEqual(beidou.never, (("C41", "6I"), ("C41", "7I"), ("C41", "5P")))
+        self.assertEqual(beidou.hours[0].mean_strengths, {1: 43.75, 2: 44.0, 5: None, 6: None, 7: None})
+
+    def test_no_number_without_a_record(self) -> None:
+        found = rtcm2rinex.quality(io.BytesIO(b"".join(MIXED.splitlines(True)[:31])))
+        self.assertEqual((found.marker, found.records, found.gaps, found.systems, found.longest_gaps), ("BASE", 0, None, (), ()))
 
     def test_a_file_of_one_other_system(self) -> None:
         done = rtcm2rinex.convert(io.BytesIO(FRAMES["E36"]), **SETUP, codes="E7Q,E1X")

@@ -6,12 +6,11 @@ use Rattle.rtk_cut.specs.declared.counts.CutCounts.{CutCounts}
 use Rattle.rtk_label.specs.Labelled.{LabelView, IsLabel, IsFor, blank_label}
 use Rattle.rtk_label.specs.LabelLaws.{BlankIsFile, FrontIsChanged, MixedLabelLaws}
 use Rattle.rtk_label.specs.declared.time_lines.TimeLines.{TimeLines}
-use Rattle.rtk_quality.specs.QualityText.{TellsQuality}
 use Rattle.rtk_quality.specs.declared.form.Form.{Form}
 use Rattle.rtk_commands.specs.declared.charting.Chart.{Chart}
 use Rattle.rtk_commands.specs.declared.file_answer.FileAnswer.TheVariants.{Written, Cut, Refused, Height, NoneChosen, OtherSystems}
 use Rattle.rtk_commands.specs.ChartInput.{IsPicture, DrawsTable}
-use Rattle.rtk_commands.specs.QualityInput.{TellsTable}
+use Rattle.rtk_commands.specs.QualityInput.{TellsNumbersOf, TellsTable}
 use Rattle.rtk_commands.specs.FileTable.{FileTable, OfGps, OfSystems, IsFileTable, file_text, file_site, labelled_file}
 use Rattle.rtk_commands.specs.WithLabel.{IsWithLabel}
 use Rattle.rtk_commands.specs.WrittenLaws.{LineFollows, PictureFollows, NumbersFollow, PartFollows, LabelFollows, no_times, NothingGivesFile}
@@ -53,9 +52,8 @@ picture-of chart text first last bytes (OfSystems t) w l good is for e none same
 
 numbers-of : (form : Form) (text first last bytes : List ℕ) (f : FileTable) (w : TimeLines) (l : LabelView) → IsFileTable f → IsLabel l → IsFor l (file_site f) → text ≡ labelled_file w l f
     → TellsTable form f w l Written bytes → last ≡ first ++ bytes
-    → (t : WellFormedTable) × IsWellFormedTable t × IsWithLabel text (OfGps t) × ((numbers : List ℕ) × TellsQuality form (table_text t) numbers × (last ≡ first ++ numbers))
-numbers-of form text first last bytes (OfGps t) w l good is for e told same = (t, good, (w, l, is, for, e), (bytes, told.1, same))
-numbers-of form text first last bytes (OfSystems t) w l good is for e none same = absurd (not-other none.0)
+    → (f : FileTable) × IsFileTable f × IsWithLabel text f × ((numbers : List ℕ) × TellsNumbersOf form f numbers × (last ≡ first ++ numbers))
+numbers-of form text first last bytes f w l good is for e told same = (f, good, (w, l, is, for, e), (bytes, told.1, same))
 
 pub picture-follows : PictureFollows
 picture-follows chart text first last (bytes, made, same) = elim made [

@@ -2,7 +2,6 @@
 -- picture, the numbers, the part or the file with a label of the whole text, and nothing else.
 use Rattle.std.specs.Prelude.{◌≡◌, ℕ, Bool, false, List, ◌++◌, Some}
 use Rattle.rtk_rinex.specs.Table.{WellFormedTable, IsWellFormedTable, table_text}
-use Rattle.rtk_quality.specs.QualityText.{TellsQuality}
 use Rattle.rtk_quality.specs.declared.form.Form.{Form}
 use Rattle.rtk_cut.specs.declared.part.Part.{Part}
 use Rattle.rtk_cut.specs.declared.counts.CutCounts.{CutCounts}
@@ -12,7 +11,7 @@ use Rattle.rtk_commands.specs.declared.charting.Chart.{Chart}
 use Rattle.rtk_commands.specs.declared.file_answer.FileAnswer.TheVariants.{Written, Cut}
 use Rattle.rtk_commands.specs.CheckInput.{SaysVerdict, Tells}
 use Rattle.rtk_commands.specs.ChartInput.{IsPicture, DrawsTable}
-use Rattle.rtk_commands.specs.QualityInput.{TellsTable}
+use Rattle.rtk_commands.specs.QualityInput.{TellsNumbersOf, TellsTable}
 use Rattle.rtk_commands.specs.CutInput.{part_of_file, part_counts, CutsTable}
 use Rattle.rtk_commands.specs.LabelInput.{LabelsTable}
 use Rattle.rtk_commands.specs.FileTable.{FileTable, OfGps, IsFileTable, file_text, file_site, labelled_file}
@@ -36,8 +35,7 @@ PictureFollows =
 abbrev pub NumbersFollow : Type 0
 NumbersFollow =
     (form : Form) (text first last : List ℕ) → WritesAll (WritesOfTable (TellsTable form) text Written) (Some first) (Some last)
-    → (t : WellFormedTable) × IsWellFormedTable t × IsWithLabel text (OfGps t)
-    × ((numbers : List ℕ) × TellsQuality form (table_text t) numbers × (last ≡ first ++ numbers))
+    → (f : FileTable) × IsFileTable f × IsWithLabel text f × ((numbers : List ℕ) × TellsNumbersOf form f numbers × (last ≡ first ++ numbers))
 
 -- the part of a file, and its counts
 abbrev pub PartFollows : Type 0

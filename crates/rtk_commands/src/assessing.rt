@@ -11,11 +11,11 @@ use crate::file_command::FileCommand;
 use crate::rendered::{Rendered, write_rendered};
 use crate::with_label::table_with_label;
 use rtk_frame::Sink;
-use rtk_quality::{Form, quality};
+use rtk_quality::{Form, mixed_quality, quality};
 use rtk_streams::ToolFault;
 use std::alloc::{AllocError, Global};
 
-// The numbers of a file, if it is one of GPS.
+// The numbers of a file.
 fn numbers_of_file(alloc: Global, table: &AnyTable<'_>, form: Form) -> Result<Rendered, AllocError>
     requires { HasItsLetter table.now }
     ensures { IfOk result (λ numbers. MakesOfFile (TellsTable form) (text_of table.now) numbers.answer numbers.bytes.items) }
@@ -25,7 +25,10 @@ fn numbers_of_file(alloc: Global, table: &AnyTable<'_>, form: Form) -> Result<Re
             answer: FileAnswer::Written,
             bytes: quality(alloc, form, table)?,
         }),
-        AnyTable::Mixed(_) => Ok(Rendered::other_systems(alloc)),
+        AnyTable::Mixed(table) => Ok(Rendered {
+            answer: FileAnswer::Written,
+            bytes: mixed_quality(alloc, form, table)?,
+        }),
     }
 }
 

@@ -3,6 +3,7 @@ mod CodeLemmas
 mod LinkLemmas
 mod OnePlanLemmas
 mod PutLemmas
+mod RefusedLemmas
 mod SumLemmas
 mod TakenLemmas
 mod ToldLabelLemmas

@@ -78,12 +78,13 @@ lacking_name ss n kind channels slot = if lacks_channel ss n kind channels slot 
 
 -- formula
 -- the satellites of the slots that have a value and no channel
-abbrev pub no_channel_line : List CaptureSurvey → ℕ → MsmKind → List (Option ℤ) → List ℕ
-no_channel_line ss n kind channels =
-    if have_none ss n kind channels then
+unfoldable pub no_channel_words : List CaptureSurvey → ℕ → MsmKind → List (Option ℤ) → List ℕ
+no_channel_words ss n kind channels =
     codes " no-channel" ++ flat_map (lacking_name ss n kind channels) all_slots
     ++ codes ": give --channels, as a header's GLONASS SLOT / FRQ # of the same days has them\n"
-    else []
+
+abbrev pub no_channel_line : List CaptureSurvey → ℕ → MsmKind → List (Option ℤ) → List ℕ
+no_channel_line ss n kind channels = if have_none ss n kind channels then no_channel_words ss n kind channels else []
 
 abbrev pub no_channel_lines : List CaptureSurvey → ℕ → MsmKind → Option GlonassView → List ℕ
 no_channel_lines ss n kind None = []

@@ -101,9 +101,12 @@ abbrev pub KeepsOtherSlots : ℕ → List (Option ℤ) → List (Option ℤ) →
 KeepsOtherSlots slot old new = (s : ℕ) → IsSlot s → s ≢ slot → channel_at new s ≡ channel_at old s
 
 -- each slot has the channel that is found
+abbrev pub HasChannelsFound : List CaptureSurvey → ℕ → MsmKind → List (Option ℤ) → Type 0
+HasChannelsFound ss n kind channels = (slot : ℕ) → IsSlot slot → IsChannelFound ss n kind slot (channel_at channels slot)
+
 pub record AreChannelsFound (ss : List CaptureSurvey) (n : ℕ) (kind : MsmKind) (channels : List (Option ℤ)) : Type 0 where
   pub good : AreChannels channels
-  pub each : (slot : ℕ) → IsSlot slot → IsChannelFound ss n kind slot (channel_at channels slot)
+  pub each : HasChannelsFound ss n kind channels
 
 -- ---- what is told of GLONASS
 

@@ -19,6 +19,10 @@ const SLOTS: [u8; 27] = [
     27,
 ];
 
+/// What is to be done about satellites without a channel.
+const TO_GIVE: &[u8] =
+    b": give --channels, as a header's GLONASS SLOT / FRQ # of the same days has them\n";
+
 // ---- the option
 
 fn channel_in_slot(channels: &Channels, slot: u8) -> Option<Channel>
@@ -60,28 +64,36 @@ fn put_slot(
     Ok(())
 }
 
-fn separator_after(separator: u8, channel: Option<Channel>) -> u8
-    ensures { result ≡ spec.separator_after separator channel }
+// Appends a slot, if it has one of these channels, behind a separator.
+fn put_slot_of(
+    line: &mut Vec<u8>,
+    channels: &Channels,
+    separator: u8,
+    slot: u8,
+) -> Result<(), AllocError>
+    ensures { OnOk result (line.new.items ≡ line.old.items ++ spec.said_slot separator slot (spec.channel_in_slot channels.now slot)) }
 {
-    match channel {
+    put_slot(line, separator, slot, channel_in_slot(channels, slot))?;
+    Ok(())
+}
+
+fn separator_after(channels: &Channels, separator: u8, slot: u8) -> u8
+    ensures { result ≡ spec.separator_after separator (spec.channel_in_slot channels.now slot) }
+{
+    match channel_in_slot(channels, slot) {
         Some(_) => b',',
         None => separator,
     }
 }
 
 // Appends the slots of some that have a channel.
-fn put_slots(
-    line: &mut Vec<u8>,
-    channels: &Channels,
-    slots: &[u8],
-) -> Result<(), AllocError>
+fn put_slots(line: &mut Vec<u8>, channels: &Channels, slots: &[u8]) -> Result<(), AllocError>
     ensures { OnOk result (line.new.items ≡ line.old.items ++ spec.said_slots 32 channels.now slots.now) }
 {
     let mut separator = b' ';
     for slot in slots {
-        let channel = channel_in_slot(channels, *slot);
-        put_slot(line, separator, *slot, channel)?;
-        separator = separator_after(separator, channel);
+        put_slot_of(line, channels, separator, *slot)?;
+        separator = separator_after(channels, separator, *slot);
     }
     Ok(())
 }
@@ -132,38 +144,44 @@ pub(crate) fn put_glonass_words(
 
 // ---- slots without a channel
 
-/// The captures of a station, and the channels of its slots.
-struct SlotCaptures<'s> {
-    surveys: &'s [CaptureSurvey],
+// Has a slot a value, and no channel?
+fn lacks_channel(
+    surveys: &[CaptureSurvey],
     station: u16,
     kind: MsmKind,
-    channels: Channels,
+    channels: &Channels,
+    slot: u8,
+) -> bool
+    ensures { result ≡ spec.lacks_channel surveys.now station kind channels.now slot }
+{
+    slot < 28 && is_slot_given(surveys, station, kind, slot) && !slot_has_channel(channels, slot)
 }
 
-// Has a slot a value, and no channel?
-fn lacks_channel(captures: &SlotCaptures<'_>, slot: u8) -> bool
-    ensures { result ≡ spec.lacks_channel captures.now.surveys.now captures.now.station captures.now.kind captures.now.channels slot }
+fn have_none(
+    surveys: &[CaptureSurvey],
+    station: u16,
+    kind: MsmKind,
+    channels: &Channels,
+) -> bool
+    ensures { result ≡ spec.have_none surveys.now station kind channels.now }
 {
-    slot < 28
-        && is_slot_given(captures.surveys, captures.station, captures.kind, slot)
-        && !slot_has_channel(&captures.channels, slot)
-}
-
-fn have_none(captures: &SlotCaptures<'_>) -> bool
-    ensures { result ≡ spec.have_none captures.now.surveys.now captures.now.station captures.now.kind captures.now.channels }
-{
-    SLOTS.iter().any(|slot| lacks_channel(captures, *slot))
+    SLOTS
+        .iter()
+        .any(|slot| lacks_channel(surveys, station, kind, channels, *slot))
 }
 
 // Appends the name of the satellite of a slot, if it has a value and no channel.
 fn put_lacking(
     lines: &mut Vec<u8>,
-    captures: &SlotCaptures<'_>,
+    surveys: &[CaptureSurvey],
+    station: u16,
+    kind: MsmKind,
+    channels: &Channels,
     slot: u8,
 ) -> Result<(), AllocError>
-    ensures { OnOk result (lines.new.items ≡ lines.old.items ++ spec.lacking_name captures.now.surveys.now captures.now.station captures.now.kind captures.now.channels slot) }
+    ensures { OnOk result (lines.new.items ≡ lines.old.items ++ spec.lacking_name surveys.now station kind channels.now slot) }
 {
-    if !lacks_channel(captures, slot) {
+    if !lacks_channel(surveys, station, kind, channels, slot) {
         return Ok(());
     }
     lines.extend_from_slice(b" R")?;
@@ -172,30 +190,50 @@ fn put_lacking(
 
 fn put_lacking_among(
     lines: &mut Vec<u8>,
-    captures: &SlotCaptures<'_>,
+    surveys: &[CaptureSurvey],
+    station: u16,
+    kind: MsmKind,
+    channels: &Channels,
     slots: &[u8],
 ) -> Result<(), AllocError>
-    ensures { OnOk result (lines.new.items ≡ lines.old.items ++ flat_map (spec.lacking_name captures.now.surveys.now captures.now.station captures.now.kind captures.now.channels) slots.now) }
+    ensures { OnOk result (lines.new.items ≡ lines.old.items ++ flat_map (spec.lacking_name surveys.now station kind channels.now) slots.now) }
 {
     for slot in slots {
-        put_lacking(lines, captures, *slot)?;
+        put_lacking(lines, surveys, station, kind, channels, *slot)?;
     }
+    Ok(())
+}
+
+#[tactic(auto, unfolding(crate::specs::ChannelWords::no_channel_words))]
+fn put_no_channel_words(
+    lines: &mut Vec<u8>,
+    surveys: &[CaptureSurvey],
+    station: u16,
+    kind: MsmKind,
+    channels: &Channels,
+) -> Result<(), AllocError>
+    ensures { OnOk result (lines.new.items ≡ lines.old.items ++ spec.no_channel_words surveys.now station kind channels.now) }
+{
+    lines.extend_from_slice(b" no-channel")?;
+    put_lacking_among(lines, surveys, station, kind, channels, &SLOTS)?;
+    lines.extend_from_slice(TO_GIVE)?;
     Ok(())
 }
 
 fn put_no_channel_line(
     lines: &mut Vec<u8>,
-    captures: &SlotCaptures<'_>,
+    surveys: &[CaptureSurvey],
+    station: u16,
+    kind: MsmKind,
+    channels: &Channels,
 ) -> Result<(), AllocError>
-    ensures { OnOk result (lines.new.items ≡ lines.old.items ++ spec.no_channel_line captures.now.surveys.now captures.now.station captures.now.kind captures.now.channels) }
+    ensures { OnOk result (lines.new.items ≡ lines.old.items ++ spec.no_channel_line surveys.now station kind channels.now) }
 {
-    if !have_none(captures) {
-        return Ok(());
+    if have_none(surveys, station, kind, channels) {
+        put_no_channel_words(lines, surveys, station, kind, channels)
+    } else {
+        Ok(())
     }
-    lines.extend_from_slice(b" no-channel")?;
-    put_lacking_among(lines, captures, &SLOTS)?;
-    lines.extend_from_slice(b": give --channels, as a header's GLONASS SLOT / FRQ # of the same days has them\n")?;
-    Ok(())
 }
 
 // Appends the slots that have a value and no channel, if this is told of GLONASS.
@@ -208,17 +246,12 @@ fn put_no_channel_if(
 ) -> Result<(), AllocError>
     ensures { OnOk result (lines.new.items ≡ lines.old.items ++ spec.no_channel_lines surveys.now station kind glonass) }
 {
-    let Some(glonass) = glonass else {
-        return Ok(());
-    };
-    let captures = SlotCaptures {
-        surveys,
-        station,
-        kind,
-        channels: glonass.channels(),
-    };
-    put_no_channel_line(lines, &captures)?;
-    Ok(())
+    match glonass {
+        Some(glonass) => {
+            put_no_channel_line(lines, surveys, station, kind, &glonass.channels())
+        }
+        None => Ok(()),
+    }
 }
 
 /// Appends the slots of a conversion that have a value and no channel.

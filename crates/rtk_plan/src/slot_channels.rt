@@ -200,6 +200,18 @@ fn set_if(channels: &mut Channels, slot: u8, channel: Option<Channel>)
     }
 }
 
+// The channels of the slots of which the station has a value, as messages tell them.
+fn channels_told(surveys: &[CaptureSurvey], station: u16, kind: MsmKind) -> Channels
+    ensures { spec.HasChannelsFound surveys.now station kind result }
+{
+    let mut channels = Channels::new();
+    for slot in 1u8..SLOTS_END {
+        let channel = channel_found(surveys, station, kind, slot);
+        set_if(&mut channels, slot, channel);
+    }
+    channels
+}
+
 /// The channels of the slots of which the station has a value, as messages tell them.
 pub(crate) fn channels_found(
     surveys: &[CaptureSurvey],
@@ -208,10 +220,5 @@ pub(crate) fn channels_found(
 ) -> Channels
     ensures { spec.AreChannelsFound surveys.now station kind result }
 {
-    let mut channels = Channels::new();
-    for slot in 1u8..SLOTS_END {
-        let channel = channel_found(surveys, station, kind, slot);
-        set_if(&mut channels, slot, channel);
-    }
-    channels
+    channels_told(surveys, station, kind)
 }

@@ -24,30 +24,30 @@ use Rattle.rtk_quality.proofs.CountLemmas.{same-passes, begun-passes, longer-pas
 -- ---- satellites
 
 -- the satellites before a place have an epoch more
-pub record AreUpTo (n : ℕ) (xs : List SatelliteCounts) (interval : Option ℕ) (e : EpochTableView) (es : List EpochTableView) : Type 0 where
-  pub size : length xs ≡ 32
+pub record AreUpTo (n most : ℕ) (xs : List SatelliteCounts) (interval : Option ℕ) (e : EpochTableView) (es : List EpochTableView) : Type 0 where
+  pub size : length xs ≡ most
   pub new : (place : ℕ) (d : SatelliteCounts) → place < n → StandsForSatellite (get_or xs place d) interval (sightings_of (place + 1) (e ∷ es))
-  pub old : (place : ℕ) (d : SatelliteCounts) → n ≤ place → place < 32 → StandsForSatellite (get_or xs place d) interval (sightings_of (place + 1) es)
+  pub old : (place : ℕ) (d : SatelliteCounts) → n ≤ place → place < most → StandsForSatellite (get_or xs place d) interval (sightings_of (place + 1) es)
 
-pub none-yet : (xs : List SatelliteCounts) (interval : Option ℕ) (e : EpochTableView) (es : List EpochTableView) → StandForSatellites xs interval es → AreUpTo 0 xs interval e es
-none-yet xs interval e es are = record {
+pub none-yet : (most : ℕ) (xs : List SatelliteCounts) (interval : Option ℕ) (e : EpochTableView) (es : List EpochTableView) → StandForSatellites xs most interval es → AreUpTo 0 most xs interval e es
+none-yet most xs interval e es are = record {
   size = are.size;
   new = λ place d below. absurd (omega arith);
   old = λ place d above within. are.each place d within;
 }
 
-pub all-now : (n : ℕ) (xs : List SatelliteCounts) (interval : Option ℕ) (e : EpochTableView) (es : List EpochTableView) → n ≡ 32 → AreUpTo n xs interval e es → StandForSatellites xs interval (e ∷ es)
-all-now n xs interval e es end are = record {
+pub all-now : (n most : ℕ) (xs : List SatelliteCounts) (interval : Option ℕ) (e : EpochTableView) (es : List EpochTableView) → n ≡ most → AreUpTo n most xs interval e es → StandForSatellites xs most interval (e ∷ es)
+all-now n most xs interval e es end are = record {
   size = are.size;
   each = λ place d within.
       let below : place < n = omega arith in
       are.new place d below;
 }
 
-pub one-more : (n i : ℕ) (xs : List SatelliteCounts) (y : SatelliteCounts) (interval : Option ℕ) (e : EpochTableView) (es : List EpochTableView) → i ≡ n → n < 32
-    → AreUpTo n xs interval e es → StandsForSatellite y interval (sightings_of (n + 1) (e ∷ es)) → AreUpTo (n + 1) (set xs i y) interval e es
-one-more n i xs y interval e es at within are stands =
-    subst (λ (j : ℕ). AreUpTo (n + 1) (set xs j y) interval e es) (sym at) (record {
+pub one-more : (n i most : ℕ) (xs : List SatelliteCounts) (y : SatelliteCounts) (interval : Option ℕ) (e : EpochTableView) (es : List EpochTableView) → i ≡ n → n < most
+    → AreUpTo n most xs interval e es → StandsForSatellite y interval (sightings_of (n + 1) (e ∷ es)) → AreUpTo (n + 1) most (set xs i y) interval e es
+one-more n i most xs y interval e es at within are stands =
+    subst (λ (j : ℕ). AreUpTo (n + 1) most (set xs j y) interval e es) (sym at) (record {
       size = length-set xs n y ∙ are.size;
       new = λ place d below.
           elim (cases_eq place n) [
@@ -65,11 +65,11 @@ one-more n i xs y interval e es at within are stands =
           subst (λ (z : SatelliteCounts). StandsForSatellite z interval (sightings_of (place + 1) es)) (sym (get_or-set_other xs n place y d other)) (are.old place d later inside);
     })
 
-pub fresh-satellites : (xs : List SatelliteCounts) (one : SatelliteCounts) (interval : Option ℕ) → xs ≡ replicate 32 one → ((interval : Option ℕ) → StandsForSatellite one interval []) → StandForSatellites xs interval []
-fresh-satellites xs one interval are fresh = record {
-  size = ap (λ (ys : List SatelliteCounts). length ys) are ∙ length-replicate 32 one;
+pub fresh-satellites : (most : ℕ) (xs : List SatelliteCounts) (one : SatelliteCounts) (interval : Option ℕ) → xs ≡ replicate most one → ((interval : Option ℕ) → StandsForSatellite one interval []) → StandForSatellites xs most interval []
+fresh-satellites most xs one interval are fresh = record {
+  size = ap (λ (ys : List SatelliteCounts). length ys) are ∙ length-replicate most one;
   each = λ place d within.
-      subst (λ (z : SatelliteCounts). StandsForSatellite z interval []) (sym (ap (λ (ys : List SatelliteCounts). get_or ys place d) are ∙ get_or-replicate 32 place one d within)) (fresh interval);
+      subst (λ (z : SatelliteCounts). StandsForSatellite z interval []) (sym (ap (λ (ys : List SatelliteCounts). get_or ys place d) are ∙ get_or-replicate most place one d within)) (fresh interval);
 }
 
 -- ---- passes that ended

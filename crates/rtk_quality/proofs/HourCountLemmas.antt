@@ -5,10 +5,10 @@ use Rattle.std.specs.List.{AllByRecursion}
 use Rattle.std.proofs.lemmas.Bool.{cases_eq, eq-eqb, ne_eqb}
 use Rattle.std.proofs.lemmas.List.{length-append}
 use Rattle.std.proofs.lemmas.List.Sums.{sum_by-cons, sum_by-append}
-use Rattle.rtk_obs.specs.Code.{band_of}
-use Rattle.rtk_obs.specs.declared.code.Band.{Band}
-use Rattle.rtk_obs.specs.declared.code.Band.TheVariants.{L1, L2, L5}
-use Rattle.rtk_obs.specs.declared.code.Code.{Code}
+use Rattle.rtk_quality.specs.Strengths.{band_in_name}
+use Rattle.rtk_quality.specs.declared.strengths.CodeBand.{CodeBand}
+use Rattle.rtk_quality.specs.declared.strengths.CodeBand.TheVariants.{B1, B2, B5, B6, B7, B8}
+use Rattle.rtk_obs.specs.declared.any_code.AnyCode.{AnyCode}
 use Rattle.rtk_rinex.specs.Record.{EpochTableView}
 use Rattle.rtk_rinex.specs.declared.epoch_table.Observed.{Observed}
 use Rattle.rtk_rinex.specs.declared.epoch_table.SatelliteRow.{SatelliteRow}
@@ -124,16 +124,43 @@ one-had b (Some strength) n m has =
     let total = has.1 in
     (omega (arith, count), omega (arith, total))
 
-of-other : (band other : Band) (strength : Option ℕ) (s : Strengths) → of_band band (with_strength other strength s) ≡ cond (number_of other == number_of band) (with_one (of_band band s) strength) (of_band band s)
-of-other L1 L1 strength s = refl
-of-other L1 L2 strength s = refl
-of-other L1 L5 strength s = refl
-of-other L2 L1 strength s = refl
-of-other L2 L2 strength s = refl
-of-other L2 L5 strength s = refl
-of-other L5 L1 strength s = refl
-of-other L5 L2 strength s = refl
-of-other L5 L5 strength s = refl
+of-other : (band other : CodeBand) (strength : Option ℕ) (s : Strengths) → of_band band (with_strength other strength s) ≡ cond (number_of other == number_of band) (with_one (of_band band s) strength) (of_band band s)
+of-other B1 B1 strength s = refl
+of-other B1 B2 strength s = refl
+of-other B1 B5 strength s = refl
+of-other B1 B6 strength s = refl
+of-other B1 B7 strength s = refl
+of-other B1 B8 strength s = refl
+of-other B2 B1 strength s = refl
+of-other B2 B2 strength s = refl
+of-other B2 B5 strength s = refl
+of-other B2 B6 strength s = refl
+of-other B2 B7 strength s = refl
+of-other B2 B8 strength s = refl
+of-other B5 B1 strength s = refl
+of-other B5 B2 strength s = refl
+of-other B5 B5 strength s = refl
+of-other B5 B6 strength s = refl
+of-other B5 B7 strength s = refl
+of-other B5 B8 strength s = refl
+of-other B6 B1 strength s = refl
+of-other B6 B2 strength s = refl
+of-other B6 B5 strength s = refl
+of-other B6 B6 strength s = refl
+of-other B6 B7 strength s = refl
+of-other B6 B8 strength s = refl
+of-other B7 B1 strength s = refl
+of-other B7 B2 strength s = refl
+of-other B7 B5 strength s = refl
+of-other B7 B6 strength s = refl
+of-other B7 B7 strength s = refl
+of-other B7 B8 strength s = refl
+of-other B8 B1 strength s = refl
+of-other B8 B2 strength s = refl
+of-other B8 B5 strength s = refl
+of-other B8 B6 strength s = refl
+of-other B8 B7 strength s = refl
+of-other B8 B8 strength s = refl
 
 -- one code of a row
 code-had : (b : Bool) (own : BandStrengths) (strength : Option ℕ) (n m : ℕ) → Has own n m
@@ -159,20 +186,20 @@ had-none b n m has =
     let total = has.1 in
     (omega (arith, count), omega (arith, total))
 
-row-had : (band : Band) (cs : List Code) (os : List Observed) (s : Strengths) (n m : ℕ) → Has (of_band band s) n m
+row-had : (band : CodeBand) (cs : List AnyCode) (os : List Observed) (s : Strengths) (n m : ℕ) → Has (of_band band s) n m
     → Has (of_band band (with_row cs os s)) (n + length (strengths_of_row band cs os)) (m + sum (strengths_of_row band cs os))
 row-had band [] os s n m has = had-none (of_band band s) n m has
 row-had band (c ∷ cs) [] s n m has = had-none (of_band band s) n m has
 row-had band (c ∷ cs) (o ∷ os) s n m has =
     let own : List ℕ = cond (is_of_band band c) (list_of_strength o.strength_millidbhz) [] in
     let rest : List ℕ = strengths_of_row band cs os in
-    let with : Strengths = with_strength (band_of c) o.strength_millidbhz s in
+    let with : Strengths = with_strength (band_in_name c) o.strength_millidbhz s in
     let here : Has (of_band band with) (n + length own) (m + sum own) =
-    subst (λ (b : BandStrengths). Has b (n + length own) (m + sum own)) (sym (of-other band (band_of c) o.strength_millidbhz s))
+    subst (λ (b : BandStrengths). Has b (n + length own) (m + sum own)) (sym (of-other band (band_in_name c) o.strength_millidbhz s))
     (code-had (is_of_band band c) (of_band band s) o.strength_millidbhz n m has) in
     had-more (of_band band (with_row cs os with)) n m own rest (row-had band cs os with (n + length own) (m + sum own) here)
 
-rows-had : (band : Band) (listed : List Code) (rows : List SatelliteRow) (s : Strengths) (n m : ℕ) → Has (of_band band s) n m
+rows-had : (band : CodeBand) (listed : List AnyCode) (rows : List SatelliteRow) (s : Strengths) (n m : ℕ) → Has (of_band band s) n m
     → Has (of_band band (with_rows listed rows s)) (n + length (strengths_of_rows band listed rows)) (m + sum (strengths_of_rows band listed rows))
 rows-had band listed [] s n m has = had-none (of_band band s) n m has
 rows-had band listed (r ∷ rows) s n m has =
@@ -191,28 +218,31 @@ locks-from : (a b : Locks) → a.slips ≡ b.slips → a.returns ≡ b.returns �
 locks-from a b slips returns = ap (λ (n : ℕ). record { slips = n; returns = a.returns }) slips ∙ ap (λ (n : ℕ). record { slips = b.slips; returns = n }) returns
 
 hour-from : (a b : HourCounts) → a.hour ≡ b.hour → a.records ≡ b.records → a.missing ≡ b.missing → a.rows ≡ b.rows → a.locks ≡ b.locks
-    → a.strengths.l1 ≡ b.strengths.l1 → a.strengths.l2 ≡ b.strengths.l2 → a.strengths.l5 ≡ b.strengths.l5 → a ≡ b
-hour-from a b hour records missing rows locks l1 l2 l5 =
-    ap (λ (n : ℕ). made n a.records a.missing a.rows a.locks a.strengths.l1 a.strengths.l2 a.strengths.l5) hour
-    ∙ ap (λ (n : ℕ). made b.hour n a.missing a.rows a.locks a.strengths.l1 a.strengths.l2 a.strengths.l5) records
-    ∙ ap (λ (n : ℕ). made b.hour b.records n a.rows a.locks a.strengths.l1 a.strengths.l2 a.strengths.l5) missing
-    ∙ ap (λ (n : ℕ). made b.hour b.records b.missing n a.locks a.strengths.l1 a.strengths.l2 a.strengths.l5) rows
-    ∙ ap (λ (l : Locks). made b.hour b.records b.missing b.rows l a.strengths.l1 a.strengths.l2 a.strengths.l5) locks
-    ∙ ap (λ (s : BandStrengths). made b.hour b.records b.missing b.rows b.locks s a.strengths.l2 a.strengths.l5) l1
-    ∙ ap (λ (s : BandStrengths). made b.hour b.records b.missing b.rows b.locks b.strengths.l1 s a.strengths.l5) l2
-    ∙ ap (λ (s : BandStrengths). made b.hour b.records b.missing b.rows b.locks b.strengths.l1 b.strengths.l2 s) l5
+    → a.strengths.b1 ≡ b.strengths.b1 → a.strengths.b2 ≡ b.strengths.b2 → a.strengths.b5 ≡ b.strengths.b5 → a.strengths.b6 ≡ b.strengths.b6 → a.strengths.b7 ≡ b.strengths.b7 → a.strengths.b8 ≡ b.strengths.b8 → a ≡ b
+hour-from a b ehour erecords emissing erows elocks eb1 eb2 eb5 eb6 eb7 eb8 =
+    ap (λ (n : ℕ). made n a.records a.missing a.rows a.locks a.strengths.b1 a.strengths.b2 a.strengths.b5 a.strengths.b6 a.strengths.b7 a.strengths.b8) ehour
+    ∙ ap (λ (n : ℕ). made b.hour n a.missing a.rows a.locks a.strengths.b1 a.strengths.b2 a.strengths.b5 a.strengths.b6 a.strengths.b7 a.strengths.b8) erecords
+    ∙ ap (λ (n : ℕ). made b.hour b.records n a.rows a.locks a.strengths.b1 a.strengths.b2 a.strengths.b5 a.strengths.b6 a.strengths.b7 a.strengths.b8) emissing
+    ∙ ap (λ (n : ℕ). made b.hour b.records b.missing n a.locks a.strengths.b1 a.strengths.b2 a.strengths.b5 a.strengths.b6 a.strengths.b7 a.strengths.b8) erows
+    ∙ ap (λ (n : Locks). made b.hour b.records b.missing b.rows n a.strengths.b1 a.strengths.b2 a.strengths.b5 a.strengths.b6 a.strengths.b7 a.strengths.b8) elocks
+    ∙ ap (λ (n : BandStrengths). made b.hour b.records b.missing b.rows b.locks n a.strengths.b2 a.strengths.b5 a.strengths.b6 a.strengths.b7 a.strengths.b8) eb1
+    ∙ ap (λ (n : BandStrengths). made b.hour b.records b.missing b.rows b.locks b.strengths.b1 n a.strengths.b5 a.strengths.b6 a.strengths.b7 a.strengths.b8) eb2
+    ∙ ap (λ (n : BandStrengths). made b.hour b.records b.missing b.rows b.locks b.strengths.b1 b.strengths.b2 n a.strengths.b6 a.strengths.b7 a.strengths.b8) eb5
+    ∙ ap (λ (n : BandStrengths). made b.hour b.records b.missing b.rows b.locks b.strengths.b1 b.strengths.b2 b.strengths.b5 n a.strengths.b7 a.strengths.b8) eb6
+    ∙ ap (λ (n : BandStrengths). made b.hour b.records b.missing b.rows b.locks b.strengths.b1 b.strengths.b2 b.strengths.b5 b.strengths.b6 n a.strengths.b8) eb7
+    ∙ ap (λ (n : BandStrengths). made b.hour b.records b.missing b.rows b.locks b.strengths.b1 b.strengths.b2 b.strengths.b5 b.strengths.b6 b.strengths.b7 n) eb8
   where
-    made : ℕ → ℕ → ℕ → ℕ → Locks → BandStrengths → BandStrengths → BandStrengths → HourCounts
-    made hour records missing rows locks l1 l2 l5 =
-        record { hour = hour; records = records; missing = missing; rows = rows; locks = locks; strengths = record { l1 = l1; l2 = l2; l5 = l5 } }
+    made : ℕ → ℕ → ℕ → ℕ → Locks → BandStrengths → BandStrengths → BandStrengths → BandStrengths → BandStrengths → BandStrengths → HourCounts
+    made hour records missing rows locks b1 b2 b5 b6 b7 b8 =
+        record { hour = hour; records = records; missing = missing; rows = rows; locks = locks; strengths = record { b1 = b1; b2 = b2; b5 = b5; b6 = b6; b7 = b7; b8 = b8 } }
 
 -- what a band has in an hour
-abbrev band-in : Option ℕ → ℕ → List Code → List EpochTableView → Band → ℕ × ℕ
+abbrev band-in : Option ℕ → ℕ → List AnyCode → List EpochTableView → CodeBand → ℕ × ℕ
 band-in interval hour listed es band =
     (sum_in_hour interval hour (λ before e. length (strengths_of_rows band listed e.rows)) es, sum_in_hour interval hour (λ before e. sum (strengths_of_rows band listed e.rows)) es)
 
 -- an hour after these epochs has none of them
-counts-none : (interval : Option ℕ) (unit : ℕ) (listed : List Code) (es : List EpochTableView) (hour : ℕ) → 0 < unit → AreFalling es → IsLater interval hour (newest_moment es)
+counts-none : (interval : Option ℕ) (unit : ℕ) (listed : List AnyCode) (es : List EpochTableView) (hour : ℕ) → 0 < unit → AreFalling es → IsLater interval hour (newest_moment es)
     → without_records hour ≡ counts_of_hour interval unit listed es hour
 counts-none interval unit listed es hour some fall later =
     let none : (number : List EpochTableView → EpochTableView → ℕ) → 0 ≡ capped (sum_in_hour interval hour number es) =
@@ -222,15 +252,18 @@ counts-none interval unit listed es hour some fall later =
     let rows = none (λ before e. rows_of e) in
     let slips = none (sum_of_rows (slips_of interval)) in
     let returns = none (sum_of_rows (returns_of interval)) in
-    let band : (b : Band) → (0 ≡ capped (band-in interval hour listed es b).0) × (0 ≡ capped (band-in interval hour listed es b).1) =
+    let band : (b : CodeBand) → (0 ≡ capped (band-in interval hour listed es b).0) × (0 ≡ capped (band-in interval hour listed es b).1) =
     λ b. (none (λ before e. length (strengths_of_rows b listed e.rows)), none (λ before e. sum (strengths_of_rows b listed e.rows))) in
-    let l1 = band L1 in
-    let l2 = band L2 in
-    let l5 = band L5 in
-    cc (l1.0, l1.1, l2.0, l2.1, l5.0, l5.1)
+    let b1 = band B1 in
+    let b2 = band B2 in
+    let b5 = band B5 in
+    let b6 = band B6 in
+    let b7 = band B7 in
+    let b8 = band B8 in
+    cc (b1.0, b1.1, b2.0, b2.1, b5.0, b5.1, b6.0, b6.1, b7.0, b7.1, b8.0, b8.1)
 
 -- the strengths of a band in an hour, a record more
-band-more : (interval : Option ℕ) (unit hour : ℕ) (listed : List Code) (e : EpochTableView) (es : List EpochTableView) (band : Band) (s : Strengths)
+band-more : (interval : Option ℕ) (unit hour : ℕ) (listed : List AnyCode) (e : EpochTableView) (es : List EpochTableView) (band : CodeBand) (s : Strengths)
     → hour_at interval e.time ≡ hour → Has (of_band band s) (band-in interval hour listed es band).0 (band-in interval hour listed es band).1
     → Has (of_band band (with_rows listed e.rows s)) (band-in interval hour listed (e ∷ es) band).0 (band-in interval hour listed (e ∷ es) band).1
 band-more interval unit hour listed e es band s own has =
@@ -240,7 +273,7 @@ band-more interval unit hour listed e es band s own has =
     (more.0 ∙ ap capped (sym count), more.1 ∙ ap capped (sym total))
 
 -- an hour, a record more
-counts-more : (interval : Option ℕ) (unit : ℕ) (listed : List Code) (e : EpochTableView) (es : List EpochTableView) (hour missing : ℕ) (locks : Locks) → hour_at interval e.time ≡ hour
+counts-more : (interval : Option ℕ) (unit : ℕ) (listed : List AnyCode) (e : EpochTableView) (es : List EpochTableView) (hour missing : ℕ) (locks : Locks) → hour_at interval e.time ≡ hour
     → missing_within interval unit hour (newest_moment es) e.time ≡ missing → locks ≡ locks_onto interval es e.time no_locks e.rows
     → with_record missing listed e.rows locks (counts_of_hour interval unit listed es hour) ≡ counts_of_hour interval unit listed (e ∷ es) hour
 counts-more interval unit listed e es hour missing locks own here are =
@@ -251,31 +284,37 @@ counts-more interval unit listed e es hour missing locks own here are =
     let returns = sum-own interval hour (sum_of_rows (returns_of interval)) e es own in
     let own_slips = ap (λ (l : Locks). l.slips) are ∙ slips-summed interval es e.time 0 no_locks e.rows refl in
     let own_returns = ap (λ (l : Locks). l.returns) are ∙ returns-summed interval es e.time 0 no_locks e.rows refl in
-    let l1 = band-more interval unit hour listed e es L1 was.strengths own (refl, refl) in
-    let l2 = band-more interval unit hour listed e es L2 was.strengths own (refl, refl) in
-    let l5 = band-more interval unit hour listed e es L5 was.strengths own (refl, refl) in
+    let b1 = band-more interval unit hour listed e es B1 was.strengths own (refl, refl) in
+    let b2 = band-more interval unit hour listed e es B2 was.strengths own (refl, refl) in
+    let b5 = band-more interval unit hour listed e es B5 was.strengths own (refl, refl) in
+    let b6 = band-more interval unit hour listed e es B6 was.strengths own (refl, refl) in
+    let b7 = band-more interval unit hour listed e es B7 was.strengths own (refl, refl) in
+    let b8 = band-more interval unit hour listed e es B8 was.strengths own (refl, refl) in
     let locks_are : locks_plus was.locks locks ≡ (counts_of_hour interval unit listed (e ∷ es) hour).locks =
     locks-from _ _ (omega (arith, slips, own_slips)) (omega (arith, returns, own_returns)) in
     hour-from _ _ refl (omega (arith, records)) (omega (arith, here)) (omega (arith, rows)) locks_are
-    (strengths-from _ _ l1.0 l1.1) (strengths-from _ _ l2.0 l2.1) (strengths-from _ _ l5.0 l5.1)
+    (strengths-from _ _ b1.0 b1.1) (strengths-from _ _ b2.0 b2.1) (strengths-from _ _ b5.0 b5.1) (strengths-from _ _ b6.0 b6.1) (strengths-from _ _ b7.0 b7.1) (strengths-from _ _ b8.0 b8.1)
 
 -- an hour that ends
-counts-ended : (interval : Option ℕ) (unit : ℕ) (listed : List Code) (e : EpochTableView) (es : List EpochTableView) (hour missing : ℕ) → hour_at interval e.time ≢ hour
+counts-ended : (interval : Option ℕ) (unit : ℕ) (listed : List AnyCode) (e : EpochTableView) (es : List EpochTableView) (hour missing : ℕ) → hour_at interval e.time ≢ hour
     → missing_within interval unit hour (newest_moment es) e.time ≡ missing
     → ended_hour missing (counts_of_hour interval unit listed es hour) ≡ counts_of_hour interval unit listed (e ∷ es) hour
 counts-ended interval unit listed e es hour missing other here =
     let same : (number : List EpochTableView → EpochTableView → ℕ) → capped (sum_in_hour interval hour number es) ≡ capped (sum_in_hour interval hour number (e ∷ es)) =
     λ number. ap capped (sym (sum-other interval hour number e es other)) in
-    let band : (b : Band) → (capped (band-in interval hour listed es b).0 ≡ capped (band-in interval hour listed (e ∷ es) b).0)
+    let band : (b : CodeBand) → (capped (band-in interval hour listed es b).0 ≡ capped (band-in interval hour listed (e ∷ es) b).0)
     × (capped (band-in interval hour listed es b).1 ≡ capped (band-in interval hour listed (e ∷ es) b).1) =
     λ b. (same (λ before x. length (strengths_of_rows b listed x.rows)), same (λ before x. sum (strengths_of_rows b listed x.rows))) in
-    let l1 = band L1 in
-    let l2 = band L2 in
-    let l5 = band L5 in
+    let b1 = band B1 in
+    let b2 = band B2 in
+    let b5 = band B5 in
+    let b6 = band B6 in
+    let b7 = band B7 in
+    let b8 = band B8 in
     let locks_are : (counts_of_hour interval unit listed es hour).locks ≡ (counts_of_hour interval unit listed (e ∷ es) hour).locks =
     locks-from _ _ (same (sum_of_rows (slips_of interval))) (same (sum_of_rows (returns_of interval))) in
     hour-from _ _ refl (same (λ before x. 1)) (omega (arith, here)) (same (λ before x. rows_of x)) locks_are
-    (strengths-from _ _ l1.0 l1.1) (strengths-from _ _ l2.0 l2.1) (strengths-from _ _ l5.0 l5.1)
+    (strengths-from _ _ b1.0 b1.1) (strengths-from _ _ b2.0 b2.1) (strengths-from _ _ b5.0 b5.1) (strengths-from _ _ b6.0 b6.1) (strengths-from _ _ b7.0 b7.1) (strengths-from _ _ b8.0 b8.1)
 
 -- ---- all hours
 
@@ -313,7 +352,7 @@ hours-fall interval e (f ∷ es) fall =
     ]
 
 -- hours before the newest one stay
-older-stay : (interval : Option ℕ) (unit : ℕ) (listed : List Code) (e f : EpochTableView) (es : List EpochTableView) (hours : List ℕ) → AreFalling (e ∷ f ∷ es)
+older-stay : (interval : Option ℕ) (unit : ℕ) (listed : List AnyCode) (e f : EpochTableView) (es : List EpochTableView) (hours : List ℕ) → AreFalling (e ∷ f ∷ es)
     → AllByRecursion (λ hour. hour < hour_at interval f.time) hours → map (counts_of_hour interval unit listed (f ∷ es)) hours ≡ map (counts_of_hour interval unit listed (e ∷ f ∷ es)) hours
 older-stay interval unit listed e f es [] fall earlier = refl
 older-stay interval unit listed e f es (hour ∷ hours) fall earlier =
@@ -322,11 +361,11 @@ older-stay interval unit listed e f es (hour ∷ hours) fall earlier =
     let was : HourCounts = counts_of_hour interval unit listed (f ∷ es) hour in
     let ended : ended_hour 0 was ≡ counts_of_hour interval unit listed (e ∷ f ∷ es) hour =
     counts-ended interval unit listed e (f ∷ es) hour 0 (λ same. absurd (omega (arith, rise, first, same))) (none-earlier interval unit hour f.time e.time first) in
-    let same : was ≡ ended_hour 0 was = hour-from _ _ refl refl (omega arith) refl refl refl refl refl in
+    let same : was ≡ ended_hour 0 was = hour-from _ _ refl refl (omega arith) refl refl refl refl refl refl refl refl in
     ap (λ (h : HourCounts). h ∷ map (counts_of_hour interval unit listed (f ∷ es)) hours) (same ∙ ended)
     ∙ ap (λ (hs : List HourCounts). counts_of_hour interval unit listed (e ∷ f ∷ es) hour ∷ hs) (older-stay interval unit listed e f es hours fall earlier.1)
 
-pub noted-are : (interval : Option ℕ) (unit : ℕ) (listed : List Code) (es : List EpochTableView) → 0 < unit → AreFalling es
+pub noted-are : (interval : Option ℕ) (unit : ℕ) (listed : List AnyCode) (es : List EpochTableView) → 0 < unit → AreFalling es
     → noted_hours interval unit listed es ≡ hours_of interval unit listed es
 noted-are interval unit listed [] some fall = refl
 noted-are interval unit listed (e ∷ []) some fall =

@@ -4,7 +4,7 @@ use Rattle.std.specs.Prelude.{sum, count_by, sum_by}
 use Rattle.std.specs.List.{list_any, AllByRecursion}
 use Rattle.std.proofs.lemmas.Bool.{cases_Bool, cases_eq, eq-eqb, ne_eqb}
 use Rattle.std.proofs.lemmas.List.Sums.{sum_by-cons}
-use Rattle.rtk_obs.specs.declared.code.Code.{Code}
+use Rattle.rtk_obs.specs.declared.any_code.AnyCode.{AnyCode}
 use Rattle.rtk_rinex.specs.Record.{EpochTableView}
 use Rattle.rtk_rinex.specs.declared.epoch_table.SatelliteRow.{SatelliteRow}
 use Rattle.rtk_tracking.specs.Epochs.{newest_moment}
@@ -90,7 +90,7 @@ times-in interval hour (e ∷ f ∷ es) fall =
         let more = times-more hour h hours in
         omega (arith, other, more)
 
-lines-are : (interval : Option ℕ) (unit : ℕ) (listed : List Code) (es : List EpochTableView) (hour : ℕ) (hours : List ℕ)
+lines-are : (interval : Option ℕ) (unit : ℕ) (listed : List AnyCode) (es : List EpochTableView) (hour : ℕ) (hours : List ℕ)
     → count_by (λ h. h.hour == hour) (map (counts_of_hour interval unit listed es) hours) ≡ times hour hours
 lines-are interval unit listed es hour [] = refl
 lines-are interval unit listed es hour (h ∷ hours) =
@@ -108,7 +108,7 @@ abbrev in-hours : List HourCounts → ℕ
 in-hours hs = sum_by (λ h. h.records) hs
 
 -- one record more
-record-more : (missing hour after : ℕ) (listed : List Code) (rows : List SatelliteRow) (locks : Locks) (hs : List HourCounts) → in-hours hs + 1 < 2 ^ 64
+record-more : (missing hour after : ℕ) (listed : List AnyCode) (rows : List SatelliteRow) (locks : Locks) (hs : List HourCounts) → in-hours hs + 1 < 2 ^ 64
     → in-hours (with_record missing listed rows locks (hour_onto hour (newest_hour hs)) ∷ ended_by hour after (newest_hour hs) ++ older_hours hs) ≡ in-hours hs + 1
 record-more missing hour after listed rows locks [] few =
     let more = sum_by-cons (λ x. x.records) (with_record missing listed rows locks (without_records hour)) [] in
@@ -131,7 +131,7 @@ record-more missing hour after listed rows locks (h ∷ hs) few =
           omega (arith, is, all, more, ended, few)
     ]
 
-noted-have-all : (interval : Option ℕ) (unit : ℕ) (listed : List Code) (es : List EpochTableView) → length es < 2 ^ 64 → in-hours (noted_hours interval unit listed es) ≡ length es
+noted-have-all : (interval : Option ℕ) (unit : ℕ) (listed : List AnyCode) (es : List EpochTableView) → length es < 2 ^ 64 → in-hours (noted_hours interval unit listed es) ≡ length es
 noted-have-all interval unit listed [] few = refl
 noted-have-all interval unit listed (e ∷ es) few =
     let was = noted-have-all interval unit listed es (omega (arith, few)) in

@@ -3,7 +3,7 @@ use Rattle.std.proofs.Common.{◌≡◌, ◌==◌, ℕ, Bool, cond, List, [], �
 use Rattle.std.proofs.lemmas.Bool.{cases_Bool}
 use Rattle.std.proofs.lemmas.Grind.{reverse_onto}
 use Rattle.std.proofs.lemmas.List.{append-nil}
-use Rattle.rtk_obs.specs.declared.code.Code.{Code}
+use Rattle.rtk_obs.specs.declared.any_code.AnyCode.{AnyCode}
 use Rattle.rtk_rinex.specs.Record.{EpochTableView}
 use Rattle.rtk_rinex.specs.declared.epoch_table.SatelliteRow.{SatelliteRow}
 use Rattle.rtk_tracking.specs.Epochs.{newest_moment}
@@ -27,7 +27,7 @@ ended-more hour missing (Some newest) older = elim (cases_Bool (newest.hour == h
       ap (λ (xs : List HourCounts). reverse (xs ++ older)) is ∙ reverse_onto older (ended_hour missing newest) [] ∙ ap (λ (xs : List HourCounts). reverse older ++ xs) (sym is)
 ]
 
-pub hours-more : (interval : Option ℕ) (unit : ℕ) (last : Option ℕ) (listed : List Code) (t : ℕ) (rows : List SatelliteRow) (locks : Locks) (hs : List HourCounts)
+pub hours-more : (interval : Option ℕ) (unit : ℕ) (last : Option ℕ) (listed : List AnyCode) (t : ℕ) (rows : List SatelliteRow) (locks : Locks) (hs : List HourCounts)
     (time hour missing after : ℕ) (old new : Hours) (from with : HourCounts)
     → time ≡ t → hour ≡ hour_at interval time → missing ≡ missing_since interval unit last time → after ≡ missing_until interval unit last time
     → from ≡ hour_onto hour old.newest → with ≡ with_record missing listed rows locks from → new.newest ≡ Some with → new.ended.items ≡ old.ended.items ++ ended_by hour after old.newest
@@ -63,7 +63,7 @@ hours-are-all hours hs none ended all are is_none extended made =
     ∙ ap (λ (o : Option HourCounts). reverse (older_hours hs) ++ list_of_hour o) are.newest ∙ sym (all-hours hs)
 
 -- the hours, a record more
-pub hours-noted : (interval : Option ℕ) (unit : ℕ) (listed : List Code) (e : EpochTableView) (es : List EpochTableView) (last : Option ℕ) (locks : Locks) (old new : Hours)
+pub hours-noted : (interval : Option ℕ) (unit : ℕ) (listed : List AnyCode) (e : EpochTableView) (es : List EpochTableView) (last : Option ℕ) (locks : Locks) (old new : Hours)
     → last ≡ newest_moment es → locks ≡ locks_onto interval es e.time no_locks e.rows → AreHours old (noted_hours interval unit listed es)
     → ((hs : List HourCounts) → AreHours old hs → AreHours new (hours_with interval unit last listed e.time e.rows locks hs))
     → AreHours new (noted_hours interval unit listed (e ∷ es))

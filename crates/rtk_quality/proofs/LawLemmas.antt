@@ -279,9 +279,9 @@ folded number added own (k ∷ ks) total fits =
 
 total-is : (number : CodeNumbers → ℕ) → IsAdded number → IsTotal number
 unfolding totals_of
-total-is number added interval place es fits =
+total-is number added most interval place es fits =
     let none = added.0 in
-    let all = folded number added (λ k. numbers_of interval (sightings_of k es) place) (range_with_len 1 32) no_numbers (omega (arith, none, fits)) in
+    let all = folded number added (λ k. numbers_of interval (sightings_of k es) place) (range_with_len 1 most) no_numbers (omega (arith, none, fits)) in
     omega (arith, none, all)
 
 pub totals-are-sums : TotalsAreSums

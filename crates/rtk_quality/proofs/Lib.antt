@@ -15,6 +15,7 @@ mod ListLemmas
 mod ListTextLemmas
 mod MissingCodeLemmas
 mod MissingLemmas
+mod MixedTextLemmas
 mod NeverLemmas
 mod OrderLemmas
 mod RowLemmas
@@ -22,4 +23,5 @@ mod RunLawLemmas
 mod RunLemmas
 mod SectionLemmas
 mod StrengthLemmas
+mod SystemLemmas
 mod TextLemmas

@@ -1,9 +1,9 @@
 -- The parts of a line, one after another.
 use Rattle.std.proofs.Common.{◌≡◌, ℕ, List, ◌++◌, Option, Some, ap, ◌∙◌}
 use Rattle.std.specs.Prelude.{codes}
-use Rattle.rtk_obs.specs.declared.code.Band.{Band}
-use Rattle.rtk_obs.specs.declared.code.Band.TheVariants.{L1, L2, L5}
-use Rattle.rtk_obs.specs.declared.code.Code.{Code}
+use Rattle.rtk_quality.specs.declared.strengths.CodeBand.{CodeBand}
+use Rattle.rtk_quality.specs.declared.strengths.CodeBand.TheVariants.{B1, B2, B5, B6, B7, B8}
+use Rattle.rtk_obs.specs.declared.any_code.AnyCode.{AnyCode}
 use Rattle.rtk_obs.specs.declared.time.Civil.{Civil}
 use Rattle.rtk_obs.specs.Reading.{reading_of}
 use Rattle.rtk_quality.specs.Counts.{plus, phases_per_slip, mean_hundredths, mean_tenths}
@@ -12,7 +12,7 @@ use Rattle.rtk_quality.specs.LineText.{satellite_name, code_name, having_text, p
 use Rattle.rtk_quality.specs.QualityText.{marker_text, satellites_text, station_text, span_text, listed_text, heading_text, falls_of}
 use Rattle.rtk_quality.specs.Hours.{start_of}
 use Rattle.rtk_quality.specs.Strengths.{number_of}
-use Rattle.rtk_quality.specs.StationText.{strength_text, hour_counts_text, hour_line, gap_line, outage_line, together_line, burst_line, run_line, missing_line, fall_line}
+use Rattle.rtk_quality.specs.StationText.{strength_text, all_strengths_text, hour_counts_text, hour_line, gap_line, outage_line, together_line, burst_line, run_line, missing_line, fall_line}
 use Rattle.rtk_quality.specs.Entries.{fall_part}
 use Rattle.rtk_quality.specs.declared.hours.HourCounts.{HourCounts}
 use Rattle.rtk_quality.specs.declared.gaps.Gap.{Gap}
@@ -29,6 +29,7 @@ use Rattle.rtk_quality.specs.declared.code_counts.CodeCounts.{CodeCounts}
 use Rattle.rtk_quality.specs.declared.code_numbers.PerSlip.{PerSlip}
 use Rattle.rtk_quality.specs.declared.record_counts.RecordCounts.{RecordCounts}
 use Rattle.rtk_quality.specs.declared.pass_sums.PassSums.{PassSums}
+use Rattle.rtk_quality.specs.declared.strengths.Strengths.{Strengths}
 use Rattle.rtk_quality.proofs.ListLemmas.{and-then, three, four, five, six}
 
 pub strengths-are : (form : Form) (c : CodeCounts) (mean : Option ℕ) (t0 t1 t2 t3 : List ℕ) → mean ≡ mean_hundredths c.strength_sum c.strengths
@@ -135,20 +136,23 @@ hour-counts-are form h expected mean t0 t1 t2 t3 t4 t5 is_expected is e1 e2 e3 e
     (e2 ∙ ap (λ (n : ℕ). t1 ++ value_text form (codes " of ") (codes ",\"expected\":") Whole (Some n)) is_expected)
     (e3 ∙ ap (λ (m : Option ℕ). t2 ++ value_text form (codes " mean-satellites ") (codes ",\"mean_satellites_tenths\":") Tenths m) is) e4 e5
 
-pub hour-is : (form : Form) (listed : List Code) (h : HourCounts) (start : Civil) (t0 t1 t2 t3 t4 t5 t6 t7 : List ℕ) → start ≡ reading_of (start_of h.hour)
+pub hour-is : (form : Form) (listed : List AnyCode) (h : HourCounts) (start : Civil) (t0 t1 t2 t3 t4 t5 : List ℕ) → start ≡ reading_of (start_of h.hour)
     → t1 ≡ t0 ++ start_text form (codes "hour") → t2 ≡ t1 ++ moment_text form (codes " ") (codes "\"hour\":") start → t3 ≡ t2 ++ hour_counts_text form h
-    → t4 ≡ t3 ++ strength_text form listed h.strengths L1 → t5 ≡ t4 ++ strength_text form listed h.strengths L2 → t6 ≡ t5 ++ strength_text form listed h.strengths L5
-    → t7 ≡ t6 ++ end_text form → t7 ≡ t0 ++ hour_line form listed h
+    → t4 ≡ t3 ++ all_strengths_text form listed h.strengths → t5 ≡ t4 ++ end_text form → t5 ≡ t0 ++ hour_line form listed h
 unfolding hour_line
-hour-is form listed h start t0 t1 t2 t3 t4 t5 t6 t7 is e1 e2 e3 e4 e5 e6 e7 =
-    let from : List ℕ = start_text form (codes "hour") in
-    let at : List ℕ = moment_text form (codes " ") (codes "\"hour\":") (reading_of (start_of h.hour)) in
-    let counts : List ℕ = hour_counts_text form h in
-    let one : List ℕ = strength_text form listed h.strengths L1 in
-    let two : List ℕ = strength_text form listed h.strengths L2 in
-    let three : List ℕ = strength_text form listed h.strengths L5 in
-    and-then t0 t6 t7 (((((from ++ at) ++ counts) ++ one) ++ two) ++ three) (end_text form)
-    (six t0 t1 t2 t3 t4 t5 t6 from at counts one two three e1 (e2 ∙ ap (λ (c : Civil). t1 ++ moment_text form (codes " ") (codes "\"hour\":") c) is) e3 e4 e5 e6) e7
+hour-is form listed h start t0 t1 t2 t3 t4 t5 is e1 e2 e3 e4 e5 =
+    five t0 t1 t2 t3 t4 t5 (start_text form (codes "hour")) (moment_text form (codes " ") (codes "\"hour\":") (reading_of (start_of h.hour)))
+    (hour_counts_text form h) (all_strengths_text form listed h.strengths) (end_text form) e1
+    (e2 ∙ ap (λ (c : Civil). t1 ++ moment_text form (codes " ") (codes "\"hour\":") c) is) e3 e4 e5
+
+pub band-strengths-are : (form : Form) (listed : List AnyCode) (s : Strengths) (t0 t1 t2 t3 t4 t5 t6 : List ℕ)
+    → t1 ≡ t0 ++ strength_text form listed s B1 → t2 ≡ t1 ++ strength_text form listed s B2 → t3 ≡ t2 ++ strength_text form listed s B5
+    → t4 ≡ t3 ++ strength_text form listed s B6 → t5 ≡ t4 ++ strength_text form listed s B7 → t6 ≡ t5 ++ strength_text form listed s B8
+    → t6 ≡ t0 ++ all_strengths_text form listed s
+unfolding all_strengths_text
+band-strengths-are form listed s t0 t1 t2 t3 t4 t5 t6 e1 e2 e3 e4 e5 e6 =
+    six t0 t1 t2 t3 t4 t5 t6 (strength_text form listed s B1) (strength_text form listed s B2) (strength_text form listed s B5)
+    (strength_text form listed s B6) (strength_text form listed s B7) (strength_text form listed s B8) e1 e2 e3 e4 e5 e6
 
 pub gap-is : (form : Form) (g : Gap) (t0 t1 t2 t3 t4 t5 : List ℕ)
     → t1 ≡ t0 ++ start_text form (codes "gap") → t2 ≡ t1 ++ moment_text form (codes " from ") (codes "\"from\":") g.from
@@ -215,7 +219,7 @@ missing-is form m t0 t1 t2 t3 t4 t5 t6 t7 e1 e2 e3 e4 e5 e6 e7 =
     and-then t0 t6 t7 (((((start ++ satellite_name form m.satellite) ++ code_name form m.code) ++ from) ++ until) ++ epochs) (end_text form)
     (six t0 t1 t2 t3 t4 t5 t6 start (satellite_name form m.satellite) (code_name form m.code) from until epochs e1 e2 e3 e4 e5 e6) e7
 
-pub fall-is : (form : Form) (band : Band) (f : Fall) (number : ℕ) (from until : Civil) (t0 t1 t2 t3 t4 t5 t6 : List ℕ)
+pub fall-is : (form : Form) (band : CodeBand) (f : Fall) (number : ℕ) (from until : Civil) (t0 t1 t2 t3 t4 t5 t6 : List ℕ)
     → number ≡ number_of band → from ≡ reading_of (start_of f.from) → until ≡ reading_of (start_of f.until)
     → t1 ≡ t0 ++ start_text form (codes "fall") → t2 ≡ t1 ++ value_text form (codes " band ") (codes "\"band\":") Whole (Some number)
     → t3 ≡ t2 ++ moment_text form (codes " from ") (codes ",\"from\":") from → t4 ≡ t3 ++ moment_text form (codes " until ") (codes ",\"until\":") until
@@ -230,10 +234,13 @@ fall-is form band f number from until t0 t1 t2 t3 t4 t5 t6 is_number is_from is_
     (e3 ∙ ap (λ (c : Civil). t2 ++ moment_text form (codes " from ") (codes ",\"from\":") c) is_from)
     (e4 ∙ ap (λ (c : Civil). t3 ++ moment_text form (codes " until ") (codes ",\"until\":") c) is_until) e5 e6
 
-pub falls-are : (form : Form) (hours : List HourCounts) (t0 t1 t2 t3 : List ℕ)
-    → t1 ≡ t0 ++ fall_part form hours L1 → t2 ≡ t1 ++ fall_part form hours L2 → t3 ≡ t2 ++ fall_part form hours L5 → t3 ≡ t0 ++ falls_of form hours
+pub falls-are : (form : Form) (hours : List HourCounts) (t0 t1 t2 t3 t4 t5 t6 : List ℕ)
+    → t1 ≡ t0 ++ fall_part form hours B1 → t2 ≡ t1 ++ fall_part form hours B2 → t3 ≡ t2 ++ fall_part form hours B5
+    → t4 ≡ t3 ++ fall_part form hours B6 → t5 ≡ t4 ++ fall_part form hours B7 → t6 ≡ t5 ++ fall_part form hours B8 → t6 ≡ t0 ++ falls_of form hours
 unfolding falls_of
-falls-are form hours t0 t1 t2 t3 e1 e2 e3 = three t0 t1 t2 t3 (fall_part form hours L1) (fall_part form hours L2) (fall_part form hours L5) e1 e2 e3
+falls-are form hours t0 t1 t2 t3 t4 t5 t6 e1 e2 e3 e4 e5 e6 =
+    six t0 t1 t2 t3 t4 t5 t6 (fall_part form hours B1) (fall_part form hours B2) (fall_part form hours B5)
+    (fall_part form hours B6) (fall_part form hours B7) (fall_part form hours B8) e1 e2 e3 e4 e5 e6
 
 pub listed-is : (form : Form) (n : ListedCounts) (t0 t1 t2 t3 t4 : List ℕ)
     → t1 ≡ t0 ++ value_text form (codes "\nslips-together ") (codes ",\"slips_together\":") Whole (Some n.moments)

@@ -1,18 +1,18 @@
 -- The runs of epochs at which a code is missing, an epoch more, and all of them one after another.
-use Rattle.std.proofs.Common.{◌≡◌, ◌≢◌, ◌<◌, ◌≤◌, ◌+◌, ◌++◌, cond, ℕ, zero, suc, Bool, true, false, not, List, [], ◌∷◌, length, take, set, get_or, map, All, Option, None, Some, refl, sym, ap, subst, inl, inr, ◌∙◌, get_or-set_same, get_or-set_other, length-set, arith, append_assoc}
+use Rattle.std.proofs.Common.{◌≡◌, ◌≢◌, ◌<◌, ◌≤◌, ◌+◌, ◌++◌, ℕ, suc, Bool, true, false, List, [], ◌∷◌, length, take, set, get_or, map, All, Option, None, refl, sym, ap, subst, inl, inr, ◌∙◌, get_or-set_same, get_or-set_other, length-set, arith, append_assoc}
 use Rattle.std.specs.Prelude.{flat_map}
 use Rattle.std.specs.List.{range_with_len}
 use Rattle.std.proofs.lemmas.Bool.{cases_eq}
 use Rattle.std.proofs.lemmas.List.{append-nil, take_more, map_push, map-append, length-take-le}
 use Rattle.std.proofs.lemmas.Grind.{flat_map-append}
-use Rattle.rtk_obs.specs.declared.code.Code.{Code}
+use Rattle.rtk_obs.specs.declared.any_code.AnyCode.{AnyCode}
 use Rattle.rtk_obs.specs.declared.time.Civil.{Civil}
 use Rattle.rtk_obs.specs.Reading.{reading_of}
 use Rattle.rtk_rinex.specs.Record.{EpochTableView}
 use Rattle.rtk_rinex.specs.declared.epoch_table.SatelliteRow.{SatelliteRow}
 use Rattle.rtk_tracking.specs.Passes.{Sighting, sightings_of, has_phase, begins_pass}
 use Rattle.rtk_quality.specs.Largest.{list_of, AreLargest}
-use Rattle.rtk_quality.specs.Missing.{lacks, ended_missings, if_listed, missing_code, missing_of, missing_from}
+use Rattle.rtk_quality.specs.Missing.{lacks, ended_missings, if_listed, missing_of, missing_from}
 use Rattle.rtk_quality.specs.Runs.{run_after, run_ended}
 use Rattle.rtk_quality.specs.Standing.{absent_at, without_rows, StandsForMissing, StandForCodes, StandForMissing}
 use Rattle.rtk_quality.specs.declared.largest.Largest.{Largest}
@@ -113,9 +113,9 @@ code-more n codes y count interval s before within are stands = record {
 -- ---- a row more
 
 -- before the rows of an epoch nothing has changed
-pub no-row-yet : (xs : List MissingCodes) (count : ℕ) (interval : Option ℕ) (time : ℕ) (es : List EpochTableView) → StandForMissing xs count interval es
-    → StandForMissing xs count interval (without_rows time ∷ es)
-no-row-yet xs count interval time es are = record {
+pub no-row-yet : (xs : List MissingCodes) (count most : ℕ) (interval : Option ℕ) (time : ℕ) (es : List EpochTableView) → StandForMissing xs count most interval es
+    → StandForMissing xs count most interval (without_rows time ∷ es)
+no-row-yet xs count most interval time es are = record {
   size = are.size;
   each = λ place d within. codes-same interval count (sightings_of (place + 1) es) (absent_at time) (get_or xs place d).codes.items refl (are.each place d within);
 }
@@ -127,10 +127,10 @@ missing-due interval place before time m was = record {
 }
 
 -- the satellite of the row has none in the epoch so far
-pub codes-due : (e : EpochTableView) (i place : ℕ) (r : SatelliteRow) (xs : List MissingCodes) (d : MissingCodes) (count : ℕ) (interval : Option ℕ) (es : List EpochTableView)
-    → IsRowAt e i r → place + 1 ≡ r.satellite → place < 32 → StandForMissing xs count interval (first_rows e i ∷ es)
+pub codes-due : (e : EpochTableView) (i place most : ℕ) (r : SatelliteRow) (xs : List MissingCodes) (d : MissingCodes) (count : ℕ) (interval : Option ℕ) (es : List EpochTableView)
+    → IsRowAt e i r → place + 1 ≡ r.satellite → place < most → StandForMissing xs count most interval (first_rows e i ∷ es)
     → StandForCodes (get_or xs place d).codes.items count interval (sightings_of r.satellite es)
-codes-due e i place r xs d count interval es at number few are =
+codes-due e i place most r xs d count interval es at number few are =
     let own : List MissingRuns = (get_or xs place d).codes.items in
     let before : List Sighting = sightings_of r.satellite es in
     let was : StandForCodes own count interval (absent_at e.time ∷ before) =
@@ -141,13 +141,13 @@ codes-due e i place r xs d count interval es at number few are =
       each = λ k m within. missing-due interval k before e.time (get_or own k m) (was.each k m within);
     }
 
-pub codes-noted : (e : EpochTableView) (i place : ℕ) (r : SatelliteRow) (xs : List MissingCodes) (y : MissingCodes) (count : ℕ) (interval : Option ℕ) (es : List EpochTableView)
-    → IsRowAt e i r → place + 1 ≡ r.satellite → place < 32 → StandForMissing xs count interval (first_rows e i ∷ es)
+pub codes-noted : (e : EpochTableView) (i place most : ℕ) (r : SatelliteRow) (xs : List MissingCodes) (y : MissingCodes) (count : ℕ) (interval : Option ℕ) (es : List EpochTableView)
+    → IsRowAt e i r → place + 1 ≡ r.satellite → place < most → StandForMissing xs count most interval (first_rows e i ∷ es)
     → StandForCodes y.codes.items count interval (record { time = e.time; observed = r.observed.items } ∷ sightings_of r.satellite es)
-    → StandForMissing (set xs place y) count interval (first_rows e (i + 1) ∷ es)
-codes-noted e i place r xs y count interval es at number few are stands = record {
+    → StandForMissing (set xs place y) count most interval (first_rows e (i + 1) ∷ es)
+codes-noted e i place most r xs y count interval es at number few are stands = record {
   size = length-set xs place y ∙ are.size;
-  each = row-set (λ (m : MissingCodes) (ss : List Sighting). StandForCodes m.codes.items count interval ss) e i place r xs y es at number few are.size are.each stands;
+  each = row-set (λ (m : MissingCodes) (ss : List Sighting). StandForCodes m.codes.items count interval ss) e i place most r xs y es at number few are.size are.each stands;
 }
 
 -- ---- one after another
@@ -169,7 +169,7 @@ pub last-run : {X T : Type 0} (size : T → ℕ) (f : X → T) (xs : List X) (ys
 last-run size f xs ys new all are =
     subst (λ (zs : List _). AreLargest size new zs) (append_assoc all (map f xs) (map f ys) ∙ ap (λ (zs : List _). all ++ zs) (sym (map-append f xs ys))) are
 
-from-append : (interval : Option ℕ) (before : List Sighting) (satellite at : ℕ) (codes : List Code) (c : Code)
+from-append : (interval : Option ℕ) (before : List Sighting) (satellite at : ℕ) (codes : List AnyCode) (c : AnyCode)
     → missing_from interval before satellite at (codes ++ c ∷ []) ≡ missing_from interval before satellite at codes ++ missing_of interval before satellite (at + length codes) c
 from-append interval before satellite at [] c =
     let here : at ≡ at + 0 = omega arith in
@@ -183,17 +183,17 @@ from-append interval before satellite at (x ∷ codes) c =
     ∙ ap (λ (k : ℕ). (own ++ rest) ++ missing_of interval before satellite k c) here
 
 -- a code more
-pub codes-more : (interval : Option ℕ) (before : List Sighting) (satellite i : ℕ) (codes : List Code) (d : Code) (size : MissingCode → ℕ) (old new : Largest MissingCode) (all : List MissingCode)
+pub codes-more : (interval : Option ℕ) (before : List Sighting) (satellite i : ℕ) (codes : List AnyCode) (d : AnyCode) (size : MissingCode → ℕ) (old new : Largest MissingCode) (all : List MissingCode)
     → i < length codes → AreLargest size old (all ++ missing_from interval before satellite 0 (take i codes))
     → ((ms : List MissingCode) → AreLargest size old ms → AreLargest size new (ms ++ missing_of interval before satellite i (get_or codes i d)))
     → AreLargest size new (all ++ missing_from interval before satellite 0 (take (i + 1) codes))
 codes-more interval before satellite i codes d size old new all within was took =
-    let c : Code = get_or codes i d in
+    let c : AnyCode = get_or codes i d in
     let had : List MissingCode = missing_from interval before satellite 0 (take i codes) in
     let few : i ≤ length codes = omega (arith, within) in
     let here : 0 + length (take i codes) ≡ i = let long = length-take-le i codes few in omega (arith, long) in
     let longer : missing_from interval before satellite 0 (take (i + 1) codes) ≡ had ++ missing_of interval before satellite i c =
-    ap (λ (cs : List Code). missing_from interval before satellite 0 cs) (take_more codes i d within)
+    ap (λ (cs : List AnyCode). missing_from interval before satellite 0 cs) (take_more codes i d within)
     ∙ from-append interval before satellite 0 (take i codes) c ∙ ap (λ (k : ℕ). had ++ missing_of interval before satellite k c) here in
     subst (λ (ms : List MissingCode). AreLargest size new ms)
     (append_assoc all had (missing_of interval before satellite i c) ∙ ap (λ (ms : List MissingCode). all ++ ms) (sym longer)) (took (all ++ had) was)

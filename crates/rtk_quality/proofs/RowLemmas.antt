@@ -5,7 +5,7 @@ use Rattle.std.proofs.lemmas.Bool.{cases_eq, eq-eqb, ne_eqb}
 use Rattle.std.proofs.lemmas.List.{append-nil, get_or-take, take_more, length-take-le, at_drop_more}
 use Rattle.std.proofs.lemmas.List.Sums.{sum_by_push}
 use Rattle.std.proofs.lemmas.Grind.{flat_map-append}
-use Rattle.rtk_rinex.specs.Record.{EpochTableView, IsEpochTableView}
+use Rattle.rtk_rinex.specs.Record.{EpochTableView}
 use Rattle.rtk_rinex.specs.declared.epoch_table.Observed.{Observed}
 use Rattle.rtk_rinex.specs.declared.epoch_table.SatelliteRow.{SatelliteRow}
 use Rattle.rtk_tracking.specs.Epochs.{capped, newest_moment, observed_in}
@@ -16,7 +16,7 @@ use Rattle.rtk_quality.specs.Largest.{list_of as list_if_any, AreLargest}
 use Rattle.rtk_quality.specs.Moments.{together_in, together_plus, is_slipping, is_tracked}
 use Rattle.rtk_quality.specs.SatellitePasses.{passes_of, slips_at}
 use Rattle.rtk_quality.specs.Steps.Noted.{no_locks, locks_plus, locks_at, locks_onto}
-use Rattle.rtk_quality.specs.Standing.{absent_at, older_passes, StandsForSatellite, StandsForEnded, StandForSatellites, ended_of, with_ended, HasEnded, StandForEnded}
+use Rattle.rtk_quality.specs.Standing.{RowsRise, absent_at, older_passes, StandsForSatellite, StandsForEnded, StandForSatellites, ended_of, with_ended, HasEnded, StandForEnded}
 use Rattle.rtk_quality.specs.declared.hours.Locks.{Locks}
 use Rattle.rtk_quality.specs.declared.largest.Largest.{Largest}
 use Rattle.rtk_quality.specs.declared.moments.Together.{Together}
@@ -64,7 +64,7 @@ other-row k (x ∷ rows) r other = ap (λ (os : List Observed). cond (x.satellit
 
 -- a row of an epoch, which stands at this place
 pub record IsRowAt (e : EpochTableView) (i : ℕ) (r : SatelliteRow) : Type 0 where
-  pub good : IsEpochTableView e
+  pub rise : RowsRise e.rows
   pub within : i < length e.rows
   pub is : r ≡ get_or e.rows i r
 
@@ -72,7 +72,7 @@ others-before : (e : EpochTableView) (i : ℕ) (r : SatelliteRow) → IsRowAt e 
 others-before e i r at = λ j lt same.
     let few : i ≤ length e.rows = let within = at.within in omega (arith, within) in
     let before : j < i = let size = length-take-le i e.rows few in omega (arith, lt, size) in
-    let less = at.good.rise j i r before at.within in
+    let less = at.rise j i r before at.within in
     let here : (get_or e.rows i r).satellite ≡ r.satellite = sym (ap (λ (x : SatelliteRow). x.satellite) at.is) in
     let there : (get_or (take i e.rows) j r).satellite ≡ (get_or e.rows j r).satellite = ap (λ (x : SatelliteRow). x.satellite) (get_or-take i e.rows j r before) in
     omega (arith, less, here, there, same)
@@ -116,20 +116,20 @@ record-is k (e ∷ es) = refl
 -- ---- one more row
 
 -- the satellite of the row has none in the epoch so far
-pub row-due : (e : EpochTableView) (i place : ℕ) (r : SatelliteRow) (xs : List SatelliteCounts) (d : SatelliteCounts) (interval : Option ℕ) (es : List EpochTableView)
-    → IsRowAt e i r → place + 1 ≡ r.satellite → place < 32 → StandForSatellites xs interval (first_rows e i ∷ es)
+pub row-due : (e : EpochTableView) (i place most : ℕ) (r : SatelliteRow) (xs : List SatelliteCounts) (d : SatelliteCounts) (interval : Option ℕ) (es : List EpochTableView)
+    → IsRowAt e i r → place + 1 ≡ r.satellite → place < most → StandForSatellites xs most interval (first_rows e i ∷ es)
     → StandsForSatellite (get_or xs place d) interval (absent_at e.time ∷ sightings_of r.satellite es)
-row-due e i place r xs d interval es at number few are =
+row-due e i place most r xs d interval es at number few are =
     subst (λ (ss : List Sighting). StandsForSatellite (get_or xs place d) interval ss) (before-it e i r es at)
     (subst (λ (n : ℕ). StandsForSatellite (get_or xs place d) interval (sightings_of n (first_rows e i ∷ es))) number (are.each place d few))
 
 -- what is known of each satellite by what came of it, with a row more
-pub row-set : {X : Type 0} (P : X → List Sighting → Type 0) (e : EpochTableView) (i place : ℕ) (r : SatelliteRow) (xs : List X) (y : X) (es : List EpochTableView)
-    → IsRowAt e i r → place + 1 ≡ r.satellite → place < 32 → length xs ≡ 32
-    → ((k : ℕ) (d : X) → k < 32 → P (get_or xs k d) (sightings_of (k + 1) (first_rows e i ∷ es)))
+pub row-set : {X : Type 0} (P : X → List Sighting → Type 0) (e : EpochTableView) (i place most : ℕ) (r : SatelliteRow) (xs : List X) (y : X) (es : List EpochTableView)
+    → IsRowAt e i r → place + 1 ≡ r.satellite → place < most → length xs ≡ most
+    → ((k : ℕ) (d : X) → k < most → P (get_or xs k d) (sightings_of (k + 1) (first_rows e i ∷ es)))
     → P y (record { time = e.time; observed = r.observed.items } ∷ sightings_of r.satellite es)
-    → (k : ℕ) (d : X) → k < 32 → P (get_or (set xs place y) k d) (sightings_of (k + 1) (first_rows e (i + 1) ∷ es))
-row-set P e i place r xs y es at number few size each stands k z within =
+    → (k : ℕ) (d : X) → k < most → P (get_or (set xs place y) k d) (sightings_of (k + 1) (first_rows e (i + 1) ∷ es))
+row-set P e i place most r xs y es at number few size each stands k z within =
     elim (cases_eq k place) [
       | inl same ↦
           let inside : place < length xs = omega (arith, size, few) in
@@ -143,20 +143,20 @@ row-set P e i place r xs y es at number few size each stands k z within =
           (subst (λ (ss : List Sighting). P (get_or xs k z) ss) (same-for (k + 1) e i r es at apart) (each k z within))
     ]
 
-pub row-noted : (e : EpochTableView) (i place : ℕ) (r : SatelliteRow) (xs : List SatelliteCounts) (y : SatelliteCounts) (interval : Option ℕ) (es : List EpochTableView)
-    → IsRowAt e i r → place + 1 ≡ r.satellite → place < 32 → StandForSatellites xs interval (first_rows e i ∷ es)
+pub row-noted : (e : EpochTableView) (i place most : ℕ) (r : SatelliteRow) (xs : List SatelliteCounts) (y : SatelliteCounts) (interval : Option ℕ) (es : List EpochTableView)
+    → IsRowAt e i r → place + 1 ≡ r.satellite → place < most → StandForSatellites xs most interval (first_rows e i ∷ es)
     → StandsForSatellite y interval (record { time = e.time; observed = r.observed.items } ∷ sightings_of r.satellite es)
-    → StandForSatellites (set xs place y) interval (first_rows e (i + 1) ∷ es)
-row-noted e i place r xs y interval es at number few are stands = record {
+    → StandForSatellites (set xs place y) most interval (first_rows e (i + 1) ∷ es)
+row-noted e i place most r xs y interval es at number few are stands = record {
   size = length-set xs place y ∙ are.size;
-  each = row-set (λ (s : SatelliteCounts) (ss : List Sighting). StandsForSatellite s interval ss) e i place r xs y es at number few are.size are.each stands;
+  each = row-set (λ (s : SatelliteCounts) (ss : List Sighting). StandsForSatellite s interval ss) e i place most r xs y es at number few are.size are.each stands;
 }
 
-pub row-ended : (e : EpochTableView) (i : ℕ) (r : SatelliteRow) (old new : List EndedPass) (pass : Option PassCounts) (interval : Option ℕ) (es : List EpochTableView)
-    → IsRowAt e i r → StandForEnded old interval (first_rows e i ∷ es) → new ≡ with_ended old r.satellite pass
+pub row-ended : (e : EpochTableView) (i most : ℕ) (r : SatelliteRow) (old new : List EndedPass) (pass : Option PassCounts) (interval : Option ℕ) (es : List EpochTableView)
+    → IsRowAt e i r → StandForEnded old most interval (first_rows e i ∷ es) → new ≡ with_ended old r.satellite pass
     → StandsForEnded pass interval (sightings_of r.satellite es) (record { time = e.time; observed = r.observed.items })
-    → StandForEnded new interval (first_rows e (i + 1) ∷ es)
-row-ended e i r old new pass interval es at are took stands = λ place within.
+    → StandForEnded new most interval (first_rows e (i + 1) ∷ es)
+row-ended e i most r old new pass interval es at are took stands = λ place within.
     elim (cases_eq (place + 1) r.satellite) [
       | inl same ↦
           let was : HasEnded old interval (absent_at e.time ∷ sightings_of r.satellite es) r.satellite =

@@ -77,7 +77,7 @@ hours-have-all interval (s ∷ before) few =
     omega (arith, rest, step)
 
 pub largest-bursts-first : LargestBurstsAreFirst
-largest-bursts-first interval es = largest-are-first size_of_burst (all_bursts interval es)
+largest-bursts-first most interval es = largest-are-first size_of_burst (all_bursts most interval es)
 
 -- ---- runs
 
@@ -132,7 +132,7 @@ runs-have-all test interval (s ∷ before) few =
     omega (arith, rest, step)
 
 pub longest-runs-first : LongestRunsAreFirst
-longest-runs-first interval es = largest-are-first size_of_run (half_runs interval es)
+longest-runs-first most interval es = largest-are-first size_of_run (half_runs most interval es)
 
 pub longest-missing-first : LongestMissingAreFirst
-longest-missing-first interval listed es = largest-are-first size_of_missing (all_missing interval listed es)
+longest-missing-first most interval listed es = largest-are-first size_of_missing (all_missing most interval listed es)

@@ -4,7 +4,7 @@ use Rattle.std.specs.Prelude.{flat_map}
 use Rattle.std.proofs.lemmas.Bool.{eq-eqb, ne_eqb}
 use Rattle.std.proofs.lemmas.List.{append-nil, drop_more, take_more}
 use Rattle.std.proofs.lemmas.Grind.{flat_map-append}
-use Rattle.rtk_obs.specs.declared.code.Code.{Code}
+use Rattle.rtk_obs.specs.declared.any_code.AnyCode.{AnyCode}
 use Rattle.rtk_quality.specs.Entries.{code_entry}
 use Rattle.rtk_quality.specs.QualityText.{each_code}
 use Rattle.rtk_quality.specs.Standing.{newest_pass, older_passes, ended_of}
@@ -15,25 +15,25 @@ use Rattle.rtk_quality.specs.declared.file_counts.EndedPass.{EndedPass}
 use Rattle.rtk_quality.proofs.FileLemmas.{list_of, ended-append, older-and-newest}
 
 -- the line of one code more
-pub each-more : (line : ℕ → Code → List ℕ) (i : ℕ) (codes : List Code) (d : Code) (all mid after : List ℕ) → i < length codes
+pub each-more : (line : ℕ → AnyCode → List ℕ) (i : ℕ) (codes : List AnyCode) (d : AnyCode) (all mid after : List ℕ) → i < length codes
     → all ≡ mid ++ each_code line i (drop i codes) → after ≡ mid ++ line i (get_or codes i d)
     → all ≡ after ++ each_code line (i + 1) (drop (i + 1) codes)
 each-more line i codes d all mid after within so_far more =
-    let c : Code = get_or codes i d in
-    let rest : List Code = drop (i + 1) codes in
-    so_far ∙ ap (λ (cs : List Code). mid ++ each_code line i cs) (drop_more codes i d within)
+    let c : AnyCode = get_or codes i d in
+    let rest : List AnyCode = drop (i + 1) codes in
+    so_far ∙ ap (λ (cs : List AnyCode). mid ++ each_code line i cs) (drop_more codes i d within)
     ∙ sym (append_assoc mid (line i c) (each_code line (i + 1) rest))
     ∙ ap (λ (t : List ℕ). t ++ each_code line (i + 1) rest) (sym more)
 
 -- the line of one code more, with its numbers
-pub numbers-more : (line : Code → CodeNumbers → List ℕ) (number : ℕ → CodeNumbers) (i : ℕ) (codes : List Code) (d : Code) (n : CodeNumbers) (all mid after : List ℕ) → i < length codes
+pub numbers-more : (line : AnyCode → CodeNumbers → List ℕ) (number : ℕ → CodeNumbers) (i : ℕ) (codes : List AnyCode) (d : AnyCode) (n : CodeNumbers) (all mid after : List ℕ) → i < length codes
     → all ≡ mid ++ each_code (λ place code. line code (number place)) i (drop i codes) → after ≡ mid ++ line (get_or codes i d) n → n ≡ number i
     → all ≡ after ++ each_code (λ place code. line code (number place)) (i + 1) (drop (i + 1) codes)
 numbers-more line number i codes d n all mid after within so_far more is =
     each-more (λ place code. line code (number place)) i codes d all mid after within so_far (more ∙ ap (λ (k : CodeNumbers). mid ++ line (get_or codes i d) k) is)
 
 -- the line of one code of the station more, of so many satellites
-pub station-more : (form : Form) (number : ℕ → CodeNumbers) (i : ℕ) (codes : List Code) (d : Code) (all_tracked tracked : ℕ) (n : CodeNumbers) (all mid after : List ℕ) → i < length codes
+pub station-more : (form : Form) (number : ℕ → CodeNumbers) (i : ℕ) (codes : List AnyCode) (d : AnyCode) (all_tracked tracked : ℕ) (n : CodeNumbers) (all mid after : List ℕ) → i < length codes
     → all ≡ mid ++ each_code (λ place code. code_entry form code all_tracked (number place)) i (drop i codes)
     → tracked ≡ all_tracked → after ≡ mid ++ code_entry form (get_or codes i d) tracked n → n ≡ number i
     → all ≡ after ++ each_code (λ place code. code_entry form code all_tracked (number place)) (i + 1) (drop (i + 1) codes)

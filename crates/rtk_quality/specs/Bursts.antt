@@ -55,13 +55,13 @@ ended_bursts interval [] = []
 ended_bursts interval (e ∷ before) = ended_bursts interval before ++ bursts_in interval before e.time e.rows
 
 -- those that no later slip ends
-unfoldable pub last_bursts : Option ℕ → List EpochTableView → List Burst
-last_bursts interval es = flat_map (λ satellite. list_of (burst_of satellite (last_hour interval (sightings_of satellite es)))) (range_with_len 1 32)
+unfoldable pub last_bursts : ℕ → Option ℕ → List EpochTableView → List Burst
+last_bursts most interval es = flat_map (λ satellite. list_of (burst_of satellite (last_hour interval (sightings_of satellite es)))) (range_with_len 1 most)
 
 -- formula
 -- all of them, by the slips that follow them in another hour, and then by satellite
-abbrev pub all_bursts : Option ℕ → List EpochTableView → List Burst
-all_bursts interval es = ended_bursts interval es ++ last_bursts interval es
+abbrev pub all_bursts : ℕ → Option ℕ → List EpochTableView → List Burst
+all_bursts most interval es = ended_bursts interval es ++ last_bursts most interval es
 
 -- the size of a burst is the number of its epochs
 abbrev pub size_of_burst : Burst → ℕ
@@ -69,10 +69,10 @@ size_of_burst b = b.moments
 
 -- formula
 -- how many there are
-abbrev pub all_bursts_in : Option ℕ → List EpochTableView → ℕ
-all_bursts_in interval es = count_of (all_bursts interval es)
+abbrev pub all_bursts_in : ℕ → Option ℕ → List EpochTableView → ℕ
+all_bursts_in most interval es = count_of (all_bursts most interval es)
 
 -- formula
 -- the ten with most epochs, the one with the most first, and of two alike the earlier one
-abbrev pub largest_bursts : Option ℕ → List EpochTableView → List Burst
-largest_bursts interval es = ten_largest size_of_burst (all_bursts interval es)
+abbrev pub largest_bursts : ℕ → Option ℕ → List EpochTableView → List Burst
+largest_bursts most interval es = ten_largest size_of_burst (all_bursts most interval es)

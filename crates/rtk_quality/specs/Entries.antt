@@ -1,10 +1,10 @@
 -- The entries of the lists: a row of the table, a line, or an object in JSON, each with the same numbers (this
 -- project's rule).
 use Rattle.std.specs.Prelude.{ℕ, List, [], Option, None, Some}
-use Rattle.rtk_obs.specs.declared.code.Band.{Band}
-use Rattle.rtk_obs.specs.declared.code.Code.{Code}
+use Rattle.rtk_quality.specs.declared.strengths.CodeBand.{CodeBand}
+use Rattle.rtk_obs.specs.declared.any_code.AnyCode.{AnyCode}
 use Rattle.rtk_quality.specs.Falls.{largest_fall}
-use Rattle.rtk_quality.specs.Strengths.{number_of}
+use Rattle.rtk_quality.specs.Strengths.{shown_bands, number_of}
 use Rattle.rtk_quality.specs.LineText.{code_line, satellite_line, tracked_line, pass_line}
 use Rattle.rtk_quality.specs.StationText.{hour_line, gap_line, outage_line, together_line, burst_line, run_line, missing_line, fall_line}
 use Rattle.rtk_quality.specs.Rows.{code_row, signal_row, tracked_row, pass_row, hour_row, gap_row, outage_row, moment_row, burst_row, run_row, missing_row, fall_row}
@@ -28,10 +28,10 @@ in_table Table row line = row
 in_table Lines row line = line
 in_table Json row line = line
 
-unfoldable pub code_entry : Form → Code → ℕ → CodeNumbers → List ℕ
+unfoldable pub code_entry : Form → AnyCode → ℕ → CodeNumbers → List ℕ
 code_entry form code tracked n = in_table form (code_row code tracked n) (code_line form code tracked n)
 
-unfoldable pub satellite_entry : Form → ℕ → Code → CodeNumbers → List ℕ
+unfoldable pub satellite_entry : Form → ℕ → AnyCode → CodeNumbers → List ℕ
 satellite_entry form satellite code n = in_table form (signal_row satellite code n) (satellite_line form satellite code n)
 
 unfoldable pub tracked_entry : Form → ℕ → PassSums → List ℕ
@@ -40,8 +40,8 @@ tracked_entry form satellite s = in_table form (tracked_row satellite s) (tracke
 unfoldable pub pass_entry : Form → ℕ → PassCounts → List ℕ
 pass_entry form satellite p = in_table form (pass_row satellite p) (pass_line form satellite p)
 
-unfoldable pub hour_entry : Form → List Code → HourCounts → List ℕ
-hour_entry form listed h = in_table form (hour_row h) (hour_line form listed h)
+unfoldable pub hour_entry : Form → List AnyCode → HourCounts → List ℕ
+hour_entry form listed h = in_table form (hour_row (shown_bands listed) h) (hour_line form listed h)
 
 unfoldable pub gap_entry : Form → Gap → List ℕ
 gap_entry form g = in_table form (gap_row g) (gap_line form g)
@@ -61,13 +61,13 @@ run_entry form h = in_table form (run_row h) (run_line form h)
 unfoldable pub missing_entry : Form → MissingCode → List ℕ
 missing_entry form m = in_table form (missing_row m) (missing_line form m)
 
-unfoldable pub fall_entry : Form → Band → Fall → List ℕ
+unfoldable pub fall_entry : Form → CodeBand → Fall → List ℕ
 fall_entry form band f = in_table form (fall_row (number_of band) f) (fall_line form band f)
 
-abbrev pub entry_of_fall : Form → Band → Option Fall → List ℕ
+abbrev pub entry_of_fall : Form → CodeBand → Option Fall → List ℕ
 entry_of_fall form band None = []
 entry_of_fall form band (Some f) = fall_entry form band f
 
 -- the largest fall of a band, if there is one
-abbrev pub fall_part : Form → List HourCounts → Band → List ℕ
+abbrev pub fall_part : Form → List HourCounts → CodeBand → List ℕ
 fall_part form hours band = entry_of_fall form band (largest_fall band hours)

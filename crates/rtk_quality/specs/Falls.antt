@@ -1,6 +1,6 @@
 -- The largest fall of strength from one hour to the next (this project's rule).
 use Rattle.std.specs.Prelude.{ℕ, ◌-◌, nat_lt, List, [], ◌∷◌, Option, None, Some, if◌then◌else◌}
-use Rattle.rtk_obs.specs.declared.code.Band.{Band}
+use Rattle.rtk_quality.specs.declared.strengths.CodeBand.{CodeBand}
 use Rattle.rtk_quality.specs.Counts.{mean_hundredths}
 use Rattle.rtk_quality.specs.Strengths.{of_band}
 use Rattle.rtk_quality.specs.declared.hours.HourCounts.{HourCounts}
@@ -13,7 +13,7 @@ hour_mean hour (Some mean) = Some (record { hour = hour; mean = mean })
 
 -- formula
 -- the mean strength of a band in an hour, if it has strengths of the band
-abbrev pub mean_in : Band → HourCounts → Option HourMean
+abbrev pub mean_in : CodeBand → HourCounts → Option HourMean
 mean_in band h = hour_mean h.hour (mean_hundredths (of_band band h.strengths).sum (of_band band h.strengths).count)
 
 abbrev pub with_mean : Option HourMean → List HourMean → List HourMean
@@ -21,7 +21,7 @@ with_mean None means = means
 with_mean (Some mean) means = mean ∷ means
 
 -- the means of the hours that have strengths of a band
-abbrev pub means_of : Band → List HourCounts → List HourMean
+abbrev pub means_of : CodeBand → List HourCounts → List HourMean
 means_of band [] = []
 means_of band (h ∷ hs) = with_mean (mean_in band h) (means_of band hs)
 
@@ -46,5 +46,5 @@ largest_fall_of (a ∷ b ∷ means) = greater_fall (fall_to b (Some a)) (largest
 
 -- formula
 -- the largest fall of a band in these hours, which are listed oldest first
-abbrev pub largest_fall : Band → List HourCounts → Option Fall
+abbrev pub largest_fall : CodeBand → List HourCounts → Option Fall
 largest_fall band hours = largest_fall_of (means_of band hours)

@@ -2,9 +2,9 @@
 -- listed newest first.
 use Rattle.std.specs.Prelude.{ℕ, ◌+◌, ◌-◌, ◌*◌, ◌/◌, ◌==◌, min, List, [], ◌∷◌, length, map, sum, count_by, sum_by, Option, None, Some, if◌then◌else◌}
 use Rattle.std.specs.List.{range_with_len}
-use Rattle.rtk_obs.specs.declared.code.Band.{Band}
-use Rattle.rtk_obs.specs.declared.code.Band.TheVariants.{L1, L2, L5}
-use Rattle.rtk_obs.specs.declared.code.Code.{Code}
+use Rattle.rtk_quality.specs.declared.strengths.CodeBand.{CodeBand}
+use Rattle.rtk_quality.specs.declared.strengths.CodeBand.TheVariants.{B1, B2, B5, B6, B7, B8}
+use Rattle.rtk_obs.specs.declared.any_code.AnyCode.{AnyCode}
 use Rattle.rtk_rinex.specs.Record.{EpochTableView}
 use Rattle.rtk_tracking.specs.Epochs.{capped, newest_moment}
 use Rattle.rtk_tracking.specs.Interval.{missing_before, nearness_of}
@@ -65,7 +65,7 @@ sum_of_rows number before e = sum_by (λ r. number (sightings_of r.satellite bef
 
 -- formula
 -- the strengths of a band in an hour: how many, and their sum
-abbrev pub strengths_in_hour : Option ℕ → ℕ → List Code → List EpochTableView → Band → BandStrengths
+abbrev pub strengths_in_hour : Option ℕ → ℕ → List AnyCode → List EpochTableView → CodeBand → BandStrengths
 strengths_in_hour interval hour listed es band =
     record {
       count = capped (sum_in_hour interval hour (λ before e. length (strengths_of_rows band listed e.rows)) es);
@@ -98,7 +98,7 @@ missing_in_hour interval unit hour (e ∷ before) =
 -- formula
 -- what an hour has: records; missing epochs; the satellites of all records together; slips and returns; and
 -- the strengths of each band
-abbrev pub counts_of_hour : Option ℕ → ℕ → List Code → List EpochTableView → ℕ → HourCounts
+abbrev pub counts_of_hour : Option ℕ → ℕ → List AnyCode → List EpochTableView → ℕ → HourCounts
 counts_of_hour interval unit listed es hour =
     record {
       hour = hour;
@@ -110,15 +110,18 @@ counts_of_hour interval unit listed es hour =
         returns = capped (sum_in_hour interval hour (sum_of_rows (returns_of interval)) es);
       };
       strengths = record {
-        l1 = strengths_in_hour interval hour listed es L1;
-        l2 = strengths_in_hour interval hour listed es L2;
-        l5 = strengths_in_hour interval hour listed es L5;
+        b1 = strengths_in_hour interval hour listed es B1;
+        b2 = strengths_in_hour interval hour listed es B2;
+        b5 = strengths_in_hour interval hour listed es B5;
+        b6 = strengths_in_hour interval hour listed es B6;
+        b7 = strengths_in_hour interval hour listed es B7;
+        b8 = strengths_in_hour interval hour listed es B8;
       };
     }
 
 -- formula
 -- the hours that have a record, with their counts, the newest first
-abbrev pub hours_of : Option ℕ → ℕ → List Code → List EpochTableView → List HourCounts
+abbrev pub hours_of : Option ℕ → ℕ → List AnyCode → List EpochTableView → List HourCounts
 hours_of interval unit listed es = map (counts_of_hour interval unit listed es) (hours_in interval es)
 
 -- formula

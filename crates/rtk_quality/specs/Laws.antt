@@ -1,8 +1,8 @@
 -- Laws of bits, and of counts and means of any size.
 use Rattle.std.specs.Prelude.{◌≡◌, ◌<◌, ◌≤◌, ◌^◌, ◌*◌, ◌+◌, ◌-◌, ◌==◌, nat_lt, ℕ, Bool, false, not, ◌&&◌, List, [], ◌∷◌, length, sum, count_by, sum_by, AllPairs, Option, None, Some, is_some, unwrap_or, if◌then◌else◌}
 use Rattle.std.specs.List.{list_any, range_with_len}
-use Rattle.rtk_obs.specs.declared.code.Band.{Band}
-use Rattle.rtk_obs.specs.declared.code.Code.{Code}
+use Rattle.rtk_quality.specs.declared.strengths.CodeBand.{CodeBand}
+use Rattle.rtk_obs.specs.declared.any_code.AnyCode.{AnyCode}
 use Rattle.rtk_rinex.specs.Record.{EpochTableView}
 use Rattle.rtk_rinex.specs.declared.epoch_table.Observed.{Observed}
 use Rattle.rtk_tracking.specs.Interval.{missing_before, missing_in}
@@ -80,15 +80,15 @@ abbrev pub number_if_seen : (CodeNumbers → ℕ) → CodeNumbers → ℕ
 number_if_seen number own = if own.counts.seen then number own else 0
 
 -- a number of the code at a place, of all satellites together
-abbrev pub sum_of_satellites : (CodeNumbers → ℕ) → Option ℕ → ℕ → List EpochTableView → ℕ
-sum_of_satellites number interval place es =
-    sum_by (λ satellite. number_if_seen number (numbers_of interval (sightings_of satellite es) place)) (range_with_len 1 32)
+abbrev pub sum_of_satellites : (CodeNumbers → ℕ) → ℕ → Option ℕ → ℕ → List EpochTableView → ℕ
+sum_of_satellites number most interval place es =
+    sum_by (λ satellite. number_if_seen number (numbers_of interval (sightings_of satellite es) place)) (range_with_len 1 most)
 
 -- the totals of a code have this sum
 abbrev pub IsTotal : (CodeNumbers → ℕ) → Type 0
 IsTotal number =
-    (interval : Option ℕ) (place : ℕ) (es : List EpochTableView) → sum_of_satellites number interval place es < 2 ^ 64
-    → number (totals_of interval es place) ≡ sum_of_satellites number interval place es
+    (most : ℕ) (interval : Option ℕ) (place : ℕ) (es : List EpochTableView) → sum_of_satellites number most interval place es < 2 ^ 64
+    → number (totals_of most interval es place) ≡ sum_of_satellites number most interval place es
 
 pub record TotalsAreSums : Type 0 where
   pub phases : IsTotal (λ n. n.counts.phases)
@@ -115,13 +115,13 @@ EpochsFall es = AllPairs (λ a b. b.time < a.time) es
 -- an hour has one line if a record lies in it, and else none
 abbrev pub EachHourHasOneLine : Type 0
 EachHourHasOneLine =
-    (interval : Option ℕ) (unit : ℕ) (listed : List Code) (es : List EpochTableView) (hour : ℕ) → EpochsFall es
+    (interval : Option ℕ) (unit : ℕ) (listed : List AnyCode) (es : List EpochTableView) (hour : ℕ) → EpochsFall es
     → count_by (λ h. h.hour == hour) (hours_of interval unit listed es) ≡ (if list_any (λ e. hour_at interval e.time == hour) es then 1 else 0)
 
 -- the records of all hours are together those of the file
 abbrev pub HoursHaveAllRecords : Type 0
 HoursHaveAllRecords =
-    (interval : Option ℕ) (listed : List Code) (es : List EpochTableView) → EpochsFall es → length es < 2 ^ 64
+    (interval : Option ℕ) (listed : List AnyCode) (es : List EpochTableView) → EpochsFall es → length es < 2 ^ 64
     → sum_by (λ h. h.records) (hours_of interval (unit_of interval) listed es) ≡ length es
 
 -- the epochs that are missing between two records are together those of the hours from the first record to the
@@ -134,7 +134,7 @@ HoursHaveAllMissing =
 
 -- formula
 -- the mean of the strengths of a band in an hour
-abbrev pub mean_of_hour : Option ℕ → ℕ → List Code → List EpochTableView → Band → Option ℕ
+abbrev pub mean_of_hour : Option ℕ → ℕ → List AnyCode → List EpochTableView → CodeBand → Option ℕ
 mean_of_hour interval hour listed es band =
     let there : ℕ = sum_in_hour interval hour (λ before e. length (strengths_of_rows band listed e.rows)) es in
     if there == 0 then None
@@ -143,7 +143,7 @@ mean_of_hour interval hour listed es band =
 -- the mean of an hour that is shown is this mean
 abbrev pub MeanOfHourIsOfAll : Type 0
 MeanOfHourIsOfAll =
-    (interval : Option ℕ) (hour : ℕ) (listed : List Code) (es : List EpochTableView) (band : Band)
+    (interval : Option ℕ) (hour : ℕ) (listed : List AnyCode) (es : List EpochTableView) (band : CodeBand)
     → sum_in_hour interval hour (λ before e. length (strengths_of_rows band listed e.rows)) es < 2 ^ 64
     → sum_in_hour interval hour (λ before e. sum (strengths_of_rows band listed e.rows)) es < 2 ^ 64
     → mean_hundredths (strengths_in_hour interval hour listed es band).sum (strengths_in_hour interval hour listed es band).count
@@ -241,15 +241,15 @@ RunsHaveAllEpochs =
 -- no burst has more epochs than one before it
 abbrev pub LargestBurstsAreFirst : Type 0
 LargestBurstsAreFirst =
-    (interval : Option ℕ) (es : List EpochTableView) → AllPairs (λ a b. size_of_burst b ≤ size_of_burst a) (largest_first size_of_burst (all_bursts interval es))
+    (most : ℕ) (interval : Option ℕ) (es : List EpochTableView) → AllPairs (λ a b. size_of_burst b ≤ size_of_burst a) (largest_first size_of_burst (all_bursts most interval es))
 
 -- no run is longer than one before it
 abbrev pub LongestRunsAreFirst : Type 0
 LongestRunsAreFirst =
-    (interval : Option ℕ) (es : List EpochTableView) → AllPairs (λ a b. size_of_run b ≤ size_of_run a) (largest_first size_of_run (half_runs interval es))
+    (most : ℕ) (interval : Option ℕ) (es : List EpochTableView) → AllPairs (λ a b. size_of_run b ≤ size_of_run a) (largest_first size_of_run (half_runs most interval es))
 
 -- no time for which a code is missing is longer than one before it
 abbrev pub LongestMissingAreFirst : Type 0
 LongestMissingAreFirst =
-    (interval : Option ℕ) (listed : List Code) (es : List EpochTableView)
-    → AllPairs (λ a b. size_of_missing b ≤ size_of_missing a) (largest_first size_of_missing (all_missing interval listed es))
+    (most : ℕ) (interval : Option ℕ) (listed : List AnyCode) (es : List EpochTableView)
+    → AllPairs (λ a b. size_of_missing b ≤ size_of_missing a) (largest_first size_of_missing (all_missing most interval listed es))

@@ -11,6 +11,7 @@ pub mod Laws
 pub mod LineText
 pub mod Lists
 pub mod Missing
+pub mod MixedQuality
 pub mod Moments
 pub mod Never
 pub mod Outages
@@ -24,3 +25,4 @@ pub mod Standing
 pub mod Steps
 pub mod StationText
 pub mod Strengths
+pub mod SystemParts

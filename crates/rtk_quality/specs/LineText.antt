@@ -1,8 +1,10 @@
 -- The lines of a code, of a satellite and of a pass, and what stands for them in JSON (this project's rule).
-use Rattle.std.specs.Prelude.{ℕ, List, ◌∷◌, ◌++◌, codes, Some}
-use Rattle.rtk_obs.specs.declared.code.Code.{Code}
-use Rattle.rtk_obs.specs.Code.{name_of}
-use Rattle.rtk_obs.specs.CivilText.{last_digits}
+use Rattle.std.specs.Prelude.{ℕ, List, ◌++◌, codes, Some}
+use Rattle.rtk_obs.specs.declared.any_code.AnyCode.{AnyCode}
+use Rattle.rtk_message.specs.declared.system.System.{System}
+use Rattle.rtk_message.specs.declared.system.System.TheVariants.{Gps, Glonass, Galileo, Beidou, Qzss, Sbas, Navic}
+use Rattle.rtk_obs.specs.AnyCode.{system_of, name_of, text_of}
+use Rattle.rtk_obs.specs.SatelliteIndex.{index_name}
 use Rattle.rtk_quality.specs.Counts.{percent_tenths, phases_per_slip, mean_hundredths}
 use Rattle.rtk_quality.specs.Forms.{in_form, value_text, moment_text, name_text, start_text, end_text}
 use Rattle.rtk_quality.specs.declared.form.Form.{Form}
@@ -60,26 +62,40 @@ unfoldable pub counts_text : Form → CodeCounts → List ℕ
 counts_text form c = locks_text form c ++ strengths_text form c ++ end_text form
 
 -- a code behind the satellite that has it
-unfoldable pub code_name : Form → Code → List ℕ
+unfoldable pub code_name : Form → AnyCode → List ℕ
 code_name form code = name_text form (codes ",\"code\":\"") (name_of code)
 
+-- table
+-- a code without a satellite: two characters are one of GPS, and three begin with the letter of the system
+abbrev pub title_in : System → AnyCode → List ℕ
+title_in Gps code = name_of code
+title_in Glonass code = text_of code
+title_in Galileo code = text_of code
+title_in Beidou code = text_of code
+title_in Qzss code = text_of code
+title_in Sbas code = text_of code
+title_in Navic code = text_of code
+
+unfoldable pub title_text : Form → AnyCode → List ℕ
+title_text form code = name_text form (codes "\"code\":\"") (title_in (system_of code) code)
+
 -- formula
--- a satellite, as in G05
+-- a satellite, as in G05 (RINEX 3.05, section 3.5)
 unfoldable pub satellite_name : Form → ℕ → List ℕ
-satellite_name form satellite = name_text form (codes "\"satellite\":\"") (71 ∷ last_digits 2 satellite)
+satellite_name form satellite = name_text form (codes "\"satellite\":\"") (index_name satellite)
 
 -- the line of a code over all satellites that have it, of so many that are tracked
-unfoldable pub code_line : Form → Code → ℕ → CodeNumbers → List ℕ
+unfoldable pub code_line : Form → AnyCode → ℕ → CodeNumbers → List ℕ
 code_line form code tracked n =
-    start_text form (codes "code") ++ name_text form (codes "\"code\":\"") (name_of code) ++ phases_text form n ++ having_text form n.satellites tracked ++ counts_text form n.counts
+    start_text form (codes "code") ++ title_text form code ++ phases_text form n ++ having_text form n.satellites tracked ++ counts_text form n.counts
 
 -- the line of a code that a satellite has
-unfoldable pub satellite_line : Form → ℕ → Code → CodeNumbers → List ℕ
+unfoldable pub satellite_line : Form → ℕ → AnyCode → CodeNumbers → List ℕ
 satellite_line form satellite code n =
     start_text form (codes "satellite") ++ satellite_name form satellite ++ code_name form code ++ phases_text form n ++ counts_text form n.counts
 
 -- the line of a code of the file of which a satellite has no phase
-unfoldable pub never_line : Form → ℕ → Code → List ℕ
+unfoldable pub never_line : Form → ℕ → AnyCode → List ℕ
 never_line form satellite code =
     start_text form (codes "never") ++ satellite_name form satellite ++ code_name form code ++ end_text form
 

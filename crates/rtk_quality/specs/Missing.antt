@@ -2,7 +2,7 @@
 -- runs oldest first.
 use Rattle.std.specs.Prelude.{ℕ, ◌+◌, ◌*◌, ◌==◌, nat_lt, Bool, not, List, [], ◌∷◌, ◌++◌, map, flat_map, Option, None, Some, unwrap_or, if◌then◌else◌}
 use Rattle.std.specs.List.{range_with_len}
-use Rattle.rtk_obs.specs.declared.code.Code.{Code}
+use Rattle.rtk_obs.specs.declared.any_code.AnyCode.{AnyCode}
 use Rattle.rtk_rinex.specs.Record.{EpochTableView}
 use Rattle.rtk_rinex.specs.declared.epoch_table.Observed.{Observed}
 use Rattle.rtk_tracking.specs.Epochs.{capped, shows_phase}
@@ -51,24 +51,24 @@ missing_runs interval place before = ended_missings interval place before ++ lis
 -- ---- those of the file
 
 -- a run of a code of a satellite
-abbrev pub missing_code : ℕ → Code → Run → MissingCode
+abbrev pub missing_code : ℕ → AnyCode → Run → MissingCode
 missing_code satellite code run = record { satellite = satellite; code = code; run = run }
 
 -- formula
 -- the runs of a code, if the satellite has a phase of it in the file
-abbrev pub missing_of : Option ℕ → List Sighting → ℕ → ℕ → Code → List MissingCode
+abbrev pub missing_of : Option ℕ → List Sighting → ℕ → ℕ → AnyCode → List MissingCode
 missing_of interval before satellite place code =
     if (numbers_of interval before place).counts.phases == 0 then [] else map (missing_code satellite code) (missing_runs interval place before)
 
 -- those of codes by their places
-abbrev pub missing_from : Option ℕ → List Sighting → ℕ → ℕ → List Code → List MissingCode
+abbrev pub missing_from : Option ℕ → List Sighting → ℕ → ℕ → List AnyCode → List MissingCode
 missing_from interval before satellite place [] = []
 missing_from interval before satellite place (c ∷ cs) = missing_of interval before satellite place c ++ missing_from interval before satellite (place + 1) cs
 
 -- formula
 -- all of them, by satellite, then by code, and then by time
-unfoldable pub all_missing : Option ℕ → List Code → List EpochTableView → List MissingCode
-all_missing interval listed es = flat_map (λ satellite. missing_from interval (sightings_of satellite es) satellite 0 listed) (range_with_len 1 32)
+unfoldable pub all_missing : ℕ → Option ℕ → List AnyCode → List EpochTableView → List MissingCode
+all_missing most interval listed es = flat_map (λ satellite. missing_from interval (sightings_of satellite es) satellite 0 listed) (range_with_len 1 most)
 
 -- the size of a run is the number of its epochs with a phase of the satellite
 abbrev pub size_of_missing : MissingCode → ℕ
@@ -76,10 +76,10 @@ size_of_missing m = m.run.epochs
 
 -- formula
 -- how many there are
-abbrev pub missing_codes_in : Option ℕ → List Code → List EpochTableView → ℕ
-missing_codes_in interval listed es = count_of (all_missing interval listed es)
+abbrev pub missing_codes_in : ℕ → Option ℕ → List AnyCode → List EpochTableView → ℕ
+missing_codes_in most interval listed es = count_of (all_missing most interval listed es)
 
 -- formula
 -- the ten longest, the longest first, and of two alike the earlier one
-abbrev pub longest_missing : Option ℕ → List Code → List EpochTableView → List MissingCode
-longest_missing interval listed es = ten_largest size_of_missing (all_missing interval listed es)
+abbrev pub longest_missing : ℕ → Option ℕ → List AnyCode → List EpochTableView → List MissingCode
+longest_missing most interval listed es = ten_largest size_of_missing (all_missing most interval listed es)

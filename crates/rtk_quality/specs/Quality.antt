@@ -22,8 +22,8 @@ is_in_file interval before = list_any (λ place. (counts_of (noted_of interval p
 
 -- formula
 -- how many satellites the file has
-unfoldable pub satellites_in : Option ℕ → List EpochTableView → ℕ
-satellites_in interval es = count_by (λ satellite. is_in_file interval (sightings_of satellite es)) (range_with_len 1 32)
+unfoldable pub satellites_in : ℕ → Option ℕ → List EpochTableView → ℕ
+satellites_in most interval es = count_by (λ satellite. is_in_file interval (sightings_of satellite es)) (range_with_len 1 most)
 
 -- two counts together
 abbrev pub together : CodeCounts → CodeCounts → CodeCounts
@@ -54,18 +54,18 @@ with_satellite total own =
 
 -- formula
 -- the numbers of the code at a place over all satellites that have it
-unfoldable pub totals_of : Option ℕ → List EpochTableView → ℕ → CodeNumbers
-totals_of interval es place =
-    fold (λ total satellite. with_satellite total (numbers_of interval (sightings_of satellite es) place)) no_numbers (range_with_len 1 32)
+unfoldable pub totals_of : ℕ → Option ℕ → List EpochTableView → ℕ → CodeNumbers
+totals_of most interval es place =
+    fold (λ total satellite. with_satellite total (numbers_of interval (sightings_of satellite es) place)) no_numbers (range_with_len 1 most)
 
 -- formula
 -- the sums of all satellites
-unfoldable pub station_sums : Option ℕ → List EpochTableView → PassSums
-station_sums interval es = fold (λ sums satellite. sums_plus sums (sums_in interval (sightings_of satellite es))) no_sums (range_with_len 1 32)
+unfoldable pub station_sums : ℕ → Option ℕ → List EpochTableView → PassSums
+station_sums most interval es = fold (λ sums satellite. sums_plus sums (sums_in interval (sightings_of satellite es))) no_sums (range_with_len 1 most)
 
 -- how many phases could be there of a code that each satellite sends
-unfoldable pub possible_in : Option ℕ → List EpochTableView → ℕ
-possible_in interval es = fold (λ n satellite. plus n (epochs_in_passes interval (sightings_of satellite es))) 0 (range_with_len 1 32)
+unfoldable pub possible_in : ℕ → Option ℕ → List EpochTableView → ℕ
+possible_in most interval es = fold (λ n satellite. plus n (epochs_in_passes interval (sightings_of satellite es))) 0 (range_with_len 1 most)
 
 -- formula
 -- the numbers of the code at a place for the station: over all satellites that have it; of a code that no
@@ -76,5 +76,5 @@ station_numbers possible totals =
 
 -- formula
 -- the numbers of the code at a place for the station
-abbrev pub code_of_station : Option ℕ → List EpochTableView → ℕ → CodeNumbers
-code_of_station interval es place = station_numbers (possible_in interval es) (totals_of interval es place)
+abbrev pub code_of_station : ℕ → Option ℕ → List EpochTableView → ℕ → CodeNumbers
+code_of_station most interval es place = station_numbers (possible_in most interval es) (totals_of most interval es place)

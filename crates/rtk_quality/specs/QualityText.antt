@@ -1,8 +1,11 @@
 -- The text of the numbers of a file, in its three forms (this project's rule).
-use Rattle.std.specs.Prelude.{◌≡◌, ◌==◌, ℕ, ◌+◌, List, [], ◌∷◌, ◌++◌, reverse, flat_map, codes, Option, Some, if◌then◌else◌}
+use Rattle.std.specs.Prelude.{◌≡◌, ◌==◌, ℕ, ◌+◌, Bool, true, List, [], ◌∷◌, ◌++◌, reverse, map, flat_map, codes, Option, Some, if◌then◌else◌}
 use Rattle.std.specs.List.{range_with_len}
-use Rattle.rtk_obs.specs.declared.code.Band.TheVariants.{L1, L2, L5}
-use Rattle.rtk_obs.specs.declared.code.Code.{Code}
+use Rattle.rtk_quality.specs.declared.strengths.CodeBand.TheVariants.{B1, B2, B5, B6, B7, B8}
+use Rattle.rtk_message.specs.declared.system.System.{System}
+use Rattle.rtk_message.specs.declared.system.System.TheVariants.{Gps, Glonass, Galileo, Beidou, Qzss, Sbas, Navic}
+use Rattle.rtk_obs.specs.declared.any_code.AnyCode.{AnyCode}
+use Rattle.rtk_obs.specs.AnyCode.{code_of_gps}
 use Rattle.rtk_obs.specs.declared.time.Civil.{Civil}
 use Rattle.rtk_obs.specs.Reading.{reading_of}
 use Rattle.rtk_rinex.specs.Record.{EpochTableView}
@@ -14,6 +17,7 @@ use Rattle.rtk_quality.specs.Counts.{mean_tenths}
 use Rattle.rtk_quality.specs.SatellitePasses.{sums_in, passes_of}
 use Rattle.rtk_quality.specs.Records.{unit_of, record_counts_of}
 use Rattle.rtk_quality.specs.Hours.{hours_of}
+use Rattle.rtk_quality.specs.Strengths.{system_of_codes}
 use Rattle.rtk_quality.specs.Gaps.{longest_gaps, gaps_in}
 use Rattle.rtk_quality.specs.Largest.{count_of}
 use Rattle.rtk_quality.specs.Moments.{largest_moments, moments_in}
@@ -47,13 +51,13 @@ use Rattle.rtk_quality.specs.declared.bursts.Burst.{Burst}
 -- ---- the codes and satellites
 
 -- entries of codes by their places
-abbrev pub each_code : (ℕ → Code → List ℕ) → ℕ → List Code → List ℕ
+abbrev pub each_code : (ℕ → AnyCode → List ℕ) → ℕ → List AnyCode → List ℕ
 each_code line at [] = []
 each_code line at (c ∷ cs) = line at c ++ each_code line (at + 1) cs
 
 -- what a section has of a code of a satellite: its numbers if the satellite has it somewhere; that it is
 -- nowhere
-abbrev pub code_in : Form → Section → ℕ → Code → CodeNumbers → List ℕ
+abbrev pub code_in : Form → Section → ℕ → AnyCode → CodeNumbers → List ℕ
 code_in form Codes satellite code n = if n.counts.seen then satellite_entry form satellite code n else []
 code_in form Never satellite code n = if n.counts.phases == 0 then never_line form satellite code else []
 code_in form Tracked satellite code n = []
@@ -62,7 +66,7 @@ code_in form Passes satellite code n = []
 -- formula
 -- what a section has of a satellite: its codes; the sums of all its codes, if it has any; the codes of which it
 -- has no phase, if it has any; its passes, from the first to the last
-abbrev pub part_of : Form → Section → List Code → Option ℕ → List Sighting → ℕ → List ℕ
+abbrev pub part_of : Form → Section → List AnyCode → Option ℕ → List Sighting → ℕ → List ℕ
 part_of form Codes listed interval before satellite = each_code (λ place code. code_in form Codes satellite code (numbers_of interval before place)) 0 listed
 part_of form Tracked listed interval before satellite =
     if is_in_file interval before then tracked_entry form satellite (sums_in interval before) else []
@@ -73,18 +77,18 @@ part_of form Never listed interval before satellite =
 part_of form Passes listed interval before satellite = flat_map (pass_entry form satellite) (reverse (passes_of interval before))
 
 -- what a section has of each satellite
-unfoldable pub parts_of : Form → Section → List Code → Option ℕ → List EpochTableView → List ℕ
-parts_of form section listed interval es =
-    flat_map (λ satellite. part_of form section listed interval (sightings_of satellite es) satellite) (range_with_len 1 32)
+unfoldable pub parts_of : Form → Section → List AnyCode → ℕ → Option ℕ → List EpochTableView → List ℕ
+parts_of form section listed most interval es =
+    flat_map (λ satellite. part_of form section listed interval (sightings_of satellite es) satellite) (range_with_len 1 most)
 
 -- formula
 -- the entries of a section: those of each satellite. In a table the codes of which satellites have no phase have
 -- rows by code.
-abbrev pub section_entries : Form → Section → List Code → Option ℕ → List EpochTableView → List ℕ
-section_entries form Codes listed interval es = parts_of form Codes listed interval es
-section_entries form Tracked listed interval es = parts_of form Tracked listed interval es
-section_entries form Never listed interval es = in_table form (never_rows interval es listed) (parts_of form Never listed interval es)
-section_entries form Passes listed interval es = parts_of form Passes listed interval es
+abbrev pub section_entries : Form → Section → List AnyCode → ℕ → Option ℕ → List EpochTableView → List ℕ
+section_entries form Codes listed most interval es = parts_of form Codes listed most interval es
+section_entries form Tracked listed most interval es = parts_of form Tracked listed most interval es
+section_entries form Never listed most interval es = in_table form (never_rows most interval es listed) (parts_of form Never listed most interval es)
+section_entries form Passes listed most interval es = parts_of form Passes listed most interval es
 
 -- table
 -- the headings of the sections in a table; the codes of satellites follow those of the station
@@ -103,9 +107,9 @@ section_key Never = codes ",\n\"never\":["
 section_key Passes = codes ",\n\"passes\":["
 
 -- a section of the text
-unfoldable pub section_text : Form → Section → List Code → Option ℕ → List EpochTableView → List ℕ
-section_text form section listed interval es =
-    list_text form (section_heading section) (section_key section) (section_entries form section listed interval es)
+unfoldable pub section_text : Form → Section → List AnyCode → ℕ → Option ℕ → List EpochTableView → List ℕ
+section_text form section listed most interval es =
+    list_text form (section_heading section) (section_key section) (section_entries form section listed most interval es)
 
 -- table
 -- the heading of the columns of codes
@@ -113,16 +117,23 @@ abbrev pub codes_heading : List ℕ
 codes_heading = codes "\n                            ranges                             strength in dB-Hz\nsignal phases     of      %   only slips returns rises half     min  mean    max\n"
 
 -- the codes of the station
-unfoldable pub codes_text : Form → List Code → Option ℕ → List EpochTableView → List ℕ
-codes_text form listed interval es =
+unfoldable pub codes_text : Form → List AnyCode → ℕ → Option ℕ → List EpochTableView → List ℕ
+codes_text form listed most interval es =
     list_text form codes_heading (codes ",\n\"codes\":[")
-    (each_code (λ place code. code_entry form code (satellites_in interval es) (code_of_station interval es place)) 0 listed)
+    (each_code (λ place code. code_entry form code (satellites_in most interval es) (code_of_station most interval es place)) 0 listed)
 
 -- ---- the hours, gaps and falls, and what else happened
 
 -- table
-abbrev pub hours_heading : List ℕ
-hours_heading = codes "\nhour             records    of satellites  slips returns  band 1  band 2  band 5\n"
+-- the heading of the columns of hours, with the bands of the system
+abbrev pub hours_heading : System → List ℕ
+hours_heading Gps = codes "\nhour             records    of satellites  slips returns  band 1  band 2  band 5\n"
+hours_heading Glonass = codes "\nhour             records    of satellites  slips returns  band 1  band 2  band 5\n"
+hours_heading Galileo = codes "\nhour             records    of satellites  slips returns  band 1  band 5  band 7\n"
+hours_heading Beidou = codes "\nhour             records    of satellites  slips returns  band 2  band 6  band 7\n"
+hours_heading Qzss = codes "\nhour             records    of satellites  slips returns  band 1  band 2  band 5\n"
+hours_heading Sbas = codes "\nhour             records    of satellites  slips returns  band 1  band 2  band 5\n"
+hours_heading Navic = codes "\nhour             records    of satellites  slips returns  band 1  band 2  band 5\n"
 
 -- table
 abbrev pub gaps_heading : List ℕ
@@ -152,8 +163,8 @@ missing_heading = codes "\nmissing from               until                  epo
 abbrev pub falls_heading : List ℕ
 falls_heading = codes "\nband falls from       until                by\n"
 
-unfoldable pub hours_text : Form → List Code → List HourCounts → List ℕ
-hours_text form listed hours = list_text form hours_heading (codes ",\n\"hours\":[") (flat_map (hour_entry form listed) hours)
+unfoldable pub hours_text : Form → List AnyCode → List HourCounts → List ℕ
+hours_text form listed hours = list_text form (hours_heading (system_of_codes listed)) (codes ",\n\"hours\":[") (flat_map (hour_entry form listed) hours)
 
 unfoldable pub gaps_text : Form → ℕ → List Gap → List ℕ
 gaps_text form n gaps = largest_text gap_entry form gaps_heading (codes ",\n\"gaps\":[") n gaps
@@ -175,7 +186,8 @@ missing_text form n missing = largest_text missing_entry form missing_heading (c
 
 -- the falls of all bands
 unfoldable pub falls_of : Form → List HourCounts → List ℕ
-falls_of form hours = fall_part form hours L1 ++ fall_part form hours L2 ++ fall_part form hours L5
+falls_of form hours =
+    fall_part form hours B1 ++ fall_part form hours B2 ++ fall_part form hours B5 ++ fall_part form hours B6 ++ fall_part form hours B7 ++ fall_part form hours B8
 
 unfoldable pub falls_text : Form → List HourCounts → List ℕ
 falls_text form hours = list_text form falls_heading (codes ",\n\"falls\":[") (falls_of form hours)
@@ -217,14 +229,14 @@ station_text form s =
 
 -- formula
 -- how many there are of what has a list of the ten largest
-abbrev pub listed_counts : Option ℕ → ℕ → List Code → List EpochTableView → ListedCounts
-listed_counts interval unit listed es =
+abbrev pub listed_counts : ℕ → Option ℕ → ℕ → List AnyCode → List EpochTableView → ListedCounts
+listed_counts most interval unit listed es =
     record {
       gaps = gaps_in unit es;
       moments = moments_in interval es;
-      bursts = all_bursts_in interval es;
-      runs = half_runs_in interval es;
-      missing = missing_codes_in interval listed es;
+      bursts = all_bursts_in most interval es;
+      runs = half_runs_in most interval es;
+      missing = missing_codes_in most interval listed es;
     }
 
 -- formula
@@ -247,40 +259,44 @@ heading_text form marker from until interval satellites r n s =
 abbrev pub close_text : Form → List ℕ
 close_text form = in_form form [] (codes "}\n")
 
+-- the gaps, which stand once in a file: in the part of a whole file, and not in the part of one of its systems
+abbrev pub gaps_part : Bool → Form → ℕ → List Gap → List ℕ
+gaps_part whole form n gaps = if whole then gaps_text form n gaps else []
+
 -- formula
 -- the hours, and the ten longest gaps; the largest falls; the ten longest outages; the ten epochs at which most
 -- satellites slip; the ten hours in which a satellite slips at most epochs; the ten longest runs of half cycles; the ten
 -- longest runs of epochs at which a code is missing
-unfoldable pub station_part : Form → List Code → Option ℕ → ℕ → List EpochTableView → List ℕ
-station_part form listed interval unit es =
-    hours_text form listed (reverse (hours_of interval unit listed es)) ++ gaps_text form (gaps_in unit es) (longest_gaps unit es)
+unfoldable pub station_part : Bool → Form → List AnyCode → ℕ → Option ℕ → ℕ → List EpochTableView → List ℕ
+station_part whole form listed most interval unit es =
+    hours_text form listed (reverse (hours_of interval unit listed es)) ++ gaps_part whole form (gaps_in unit es) (longest_gaps unit es)
     ++ falls_text form (reverse (hours_of interval unit listed es)) ++ outages_text form (count_of (all_outages interval es)) (longest_outages interval es)
-    ++ moments_text form (moments_in interval es) (largest_moments interval es) ++ bursts_text form (all_bursts_in interval es) (largest_bursts interval es)
-    ++ runs_text form (half_runs_in interval es) (longest_half_runs interval es)
-    ++ missing_text form (missing_codes_in interval listed es) (longest_missing interval listed es)
+    ++ moments_text form (moments_in interval es) (largest_moments interval es) ++ bursts_text form (all_bursts_in most interval es) (largest_bursts most interval es)
+    ++ runs_text form (half_runs_in most interval es) (longest_half_runs most interval es)
+    ++ missing_text form (missing_codes_in most interval listed es) (longest_missing most interval listed es)
 
 -- formula
 -- the codes of the station and of satellites, the sums of satellites, and their passes
-unfoldable pub signals_part : Form → List Code → Option ℕ → List EpochTableView → List ℕ
-signals_part form listed interval es =
-    codes_text form listed interval es ++ section_text form Codes listed interval es ++ section_text form Tracked listed interval es
-    ++ section_text form Never listed interval es ++ section_text form Passes listed interval es
+unfoldable pub signals_part : Form → List AnyCode → ℕ → Option ℕ → List EpochTableView → List ℕ
+signals_part form listed most interval es =
+    codes_text form listed most interval es ++ section_text form Codes listed most interval es ++ section_text form Tracked listed most interval es
+    ++ section_text form Never listed most interval es ++ section_text form Passes listed most interval es
 
 -- formula
 -- what follows the heading: a table begins with the hours, gaps and falls, since they say when something
 -- happened; lines and JSON end with them
-unfoldable pub body_text : Form → List Code → Option ℕ → ℕ → List EpochTableView → List ℕ
-body_text Table listed interval unit es = station_part Table listed interval unit es ++ signals_part Table listed interval es
-body_text Lines listed interval unit es = signals_part Lines listed interval es ++ station_part Lines listed interval unit es
-body_text Json listed interval unit es = signals_part Json listed interval es ++ station_part Json listed interval unit es
+unfoldable pub body_text : Bool → Form → List AnyCode → ℕ → Option ℕ → ℕ → List EpochTableView → List ℕ
+body_text whole Table listed most interval unit es = station_part whole Table listed most interval unit es ++ signals_part Table listed most interval es
+body_text whole Lines listed most interval unit es = signals_part Lines listed most interval es ++ station_part whole Lines listed most interval unit es
+body_text whole Json listed most interval unit es = signals_part Json listed most interval es ++ station_part whole Json listed most interval unit es
 
 -- formula
 -- the numbers of a file of this marker, these codes, and these moments of its first and its last record
-unfoldable pub quality_text : Form → List ℕ → List Code → ℕ → ℕ → Option ℕ → List EpochTableView → List ℕ
-quality_text form marker listed first last interval es =
-    heading_text form marker (reading_of first) (reading_of last) interval (satellites_in interval es)
-    (record_counts_of (unit_of interval) es) (listed_counts interval (unit_of interval) listed es) (station_sums interval es)
-    ++ body_text form listed interval (unit_of interval) es ++ close_text form
+unfoldable pub quality_text : Form → List ℕ → List AnyCode → ℕ → ℕ → ℕ → Option ℕ → List EpochTableView → List ℕ
+quality_text form marker listed first last most interval es =
+    heading_text form marker (reading_of first) (reading_of last) interval (satellites_in most interval es)
+    (record_counts_of (unit_of interval) es) (listed_counts most interval (unit_of interval) listed es) (station_sums most interval es)
+    ++ body_text true form listed most interval (unit_of interval) es ++ close_text form
 
 -- table
 -- the lists of a file without records, which are empty in JSON and absent elsewhere
@@ -296,15 +312,15 @@ text_of_none form marker =
 
 -- formula
 -- the numbers of a file with this interval
-abbrev pub text_of_epochs : Form → List ℕ → List Code → ℕ → Option ℕ → List EpochTableView → List ℕ
-text_of_epochs form marker listed first interval [] = text_of_none form marker
-text_of_epochs form marker listed first interval (e ∷ before) =
-    quality_text form marker listed first e.time interval (e ∷ before)
+abbrev pub text_of_epochs : Form → List ℕ → List AnyCode → ℕ → ℕ → Option ℕ → List EpochTableView → List ℕ
+text_of_epochs form marker listed first most interval [] = text_of_none form marker
+text_of_epochs form marker listed first most interval (e ∷ before) =
+    quality_text form marker listed first e.time most interval (e ∷ before)
 
 -- formula
 -- the numbers of a table
 abbrev pub quality_of : Form → WellFormedTable → List ℕ
-quality_of form t = text_of_epochs form t.head.marker t.head.listed t.first (interval_of_file t) (newest_first t.epochs)
+quality_of form t = text_of_epochs form t.head.marker (map code_of_gps t.head.listed) t.first 32 (interval_of_file t) (newest_first t.epochs)
 
 -- a text tells the numbers of each table whose text the file is; by one_table there is one
 abbrev pub TellsQuality : Form → List ℕ → List ℕ → Type 0

@@ -1,14 +1,16 @@
 -- The rows of a table (this project's rule).
 use Rattle.std.specs.Prelude.{ℕ, List, [], ◌∷◌, ◌++◌, take, codes, Some}
-use Rattle.rtk_obs.specs.declared.code.Code.{Code}
-use Rattle.rtk_obs.specs.Code.{name_of}
-use Rattle.rtk_obs.specs.CivilText.{last_digits, civil_text}
+use Rattle.rtk_obs.specs.declared.any_code.AnyCode.{AnyCode}
+use Rattle.rtk_obs.specs.AnyCode.{name_of}
+use Rattle.rtk_obs.specs.CivilText.{civil_text}
+use Rattle.rtk_obs.specs.SatelliteIndex.{index_name}
 use Rattle.rtk_obs.specs.declared.time.Civil.{Civil}
 use Rattle.rtk_obs.specs.Reading.{reading_of}
 use Rattle.rtk_quality.specs.Counts.{plus, percent_tenths, phases_per_slip, mean_hundredths, mean_tenths}
 use Rattle.rtk_quality.specs.Hours.{start_of}
 use Rattle.rtk_quality.specs.Columns.{column, cells_text}
 use Rattle.rtk_quality.specs.LineText.{having_text, per_slip_text}
+use Rattle.rtk_quality.specs.Strengths.{of_band}
 use Rattle.rtk_quality.specs.declared.columns.Cell.{Cell}
 use Rattle.rtk_quality.specs.declared.form.Form.TheVariants.{Lines}
 use Rattle.rtk_quality.specs.declared.form.Decimals.TheVariants.{Whole, Tenths, Hundredths, Thousandths}
@@ -16,6 +18,7 @@ use Rattle.rtk_quality.specs.declared.code_numbers.CodeNumbers.{CodeNumbers}
 use Rattle.rtk_quality.specs.declared.pass_sums.PassSums.{PassSums}
 use Rattle.rtk_quality.specs.declared.satellite_counts.PassCounts.{PassCounts}
 use Rattle.rtk_quality.specs.declared.strengths.BandStrengths.{BandStrengths}
+use Rattle.rtk_quality.specs.declared.strengths.ShownBands.{ShownBands}
 use Rattle.rtk_quality.specs.declared.hours.HourCounts.{HourCounts}
 use Rattle.rtk_quality.specs.declared.gaps.Gap.{Gap}
 use Rattle.rtk_quality.specs.declared.falls.Fall.{Fall}
@@ -26,9 +29,9 @@ use Rattle.rtk_quality.specs.declared.missing.MissingCode.{MissingCode}
 use Rattle.rtk_quality.specs.declared.bursts.Burst.{Burst}
 
 -- formula
--- a satellite, as in G05
+-- a satellite, as in G05 (RINEX 3.05, section 3.5)
 abbrev pub satellite_mark : ℕ → List ℕ
-satellite_mark satellite = 71 ∷ last_digits 2 satellite
+satellite_mark satellite = index_name satellite
 
 -- table
 -- the columns of a code: phases, of how many, and how many percent; ranges without a phase; slips, returns,
@@ -53,12 +56,12 @@ unfoldable pub numbers_text : CodeNumbers → List ℕ
 numbers_text n = cells_text (numbers_columns n) ++ codes "\n"
 
 -- the row of a code that a satellite has
-unfoldable pub signal_row : ℕ → Code → CodeNumbers → List ℕ
+unfoldable pub signal_row : ℕ → AnyCode → CodeNumbers → List ℕ
 signal_row satellite code n = satellite_mark satellite ++ codes " " ++ name_of code ++ numbers_text n
 
 -- formula
 -- the two rows of a code over all satellites that have it, of so many that are tracked
-unfoldable pub code_row : Code → ℕ → CodeNumbers → List ℕ
+unfoldable pub code_row : AnyCode → ℕ → CodeNumbers → List ℕ
 code_row code tracked n =
     codes "all " ++ name_of code ++ numbers_text n
     ++ codes "      " ++ having_text Lines n.satellites tracked ++ per_slip_text Lines (phases_per_slip n.counts.phases n.counts.slips) ++ codes "\n"
@@ -92,13 +95,13 @@ strength_column b = column 8 Hundredths (mean_hundredths b.sum b.count)
 
 -- table
 -- the row of an hour: records, and how many there would be without missing epochs; satellites in the mean; slips
--- and returns; the mean strength of each band
-unfoldable pub hour_row : HourCounts → List ℕ
-hour_row h =
+-- and returns; the mean strengths of three bands
+unfoldable pub hour_row : ShownBands → HourCounts → List ℕ
+hour_row bands h =
     take 16 (civil_text (reading_of (start_of h.hour)))
     ++ cells_text (column 8 Whole (Some h.records) ∷ column 6 Whole (Some (plus h.records h.missing)) ∷ column 11 Tenths (mean_tenths h.rows h.records)
     ∷ column 7 Whole (Some h.locks.slips) ∷ column 8 Whole (Some h.locks.returns)
-    ∷ strength_column h.strengths.l1 ∷ strength_column h.strengths.l2 ∷ strength_column h.strengths.l5 ∷ [])
+    ∷ strength_column (of_band bands.first h.strengths) ∷ strength_column (of_band bands.second h.strengths) ∷ strength_column (of_band bands.third h.strengths) ∷ [])
     ++ codes "\n"
 
 -- the row of a gap

@@ -71,13 +71,13 @@ ended_runs interval [] = []
 ended_runs interval (e ∷ before) = ended_runs interval before ++ runs_in interval before e.time e.rows
 
 -- the runs that no epoch of the file ends
-unfoldable pub open_runs : Option ℕ → List EpochTableView → List HalfRun
-open_runs interval es = flat_map (λ satellite. list_of (half_run satellite (open_run interval (sightings_of satellite es)))) (range_with_len 1 32)
+unfoldable pub open_runs : ℕ → Option ℕ → List EpochTableView → List HalfRun
+open_runs most interval es = flat_map (λ satellite. list_of (half_run satellite (open_run interval (sightings_of satellite es)))) (range_with_len 1 most)
 
 -- formula
 -- all runs, by the epochs that end them, and then by satellite
-abbrev pub half_runs : Option ℕ → List EpochTableView → List HalfRun
-half_runs interval es = ended_runs interval es ++ open_runs interval es
+abbrev pub half_runs : ℕ → Option ℕ → List EpochTableView → List HalfRun
+half_runs most interval es = ended_runs interval es ++ open_runs most interval es
 
 -- the size of a run is the number of its epochs with a phase
 abbrev pub size_of_run : HalfRun → ℕ
@@ -85,10 +85,10 @@ size_of_run h = h.run.epochs
 
 -- formula
 -- how many runs there are
-abbrev pub half_runs_in : Option ℕ → List EpochTableView → ℕ
-half_runs_in interval es = count_of (half_runs interval es)
+abbrev pub half_runs_in : ℕ → Option ℕ → List EpochTableView → ℕ
+half_runs_in most interval es = count_of (half_runs most interval es)
 
 -- formula
 -- the ten longest runs, the longest first, and of two alike the earlier one
-abbrev pub longest_half_runs : Option ℕ → List EpochTableView → List HalfRun
-longest_half_runs interval es = ten_largest size_of_run (half_runs interval es)
+abbrev pub longest_half_runs : ℕ → Option ℕ → List EpochTableView → List HalfRun
+longest_half_runs most interval es = ten_largest size_of_run (half_runs most interval es)

@@ -1,8 +1,10 @@
 -- What the counts hold, tied to what came.
-use Rattle.std.specs.Prelude.{◌≡◌, ◌<◌, ℕ, ◌+◌, ◌==◌, Bool, true, false, List, [], ◌∷◌, ◌++◌, length, reverse, get_or, Option, None, Some, if◌then◌else◌}
-use Rattle.rtk_obs.specs.declared.code.Code.{Code}
+use Rattle.std.specs.Prelude.{◌≡◌, ◌<◌, ℕ, ◌+◌, ◌==◌, Bool, true, false, List, [], ◌∷◌, ◌++◌, length, reverse, get_or, All, AllPairs, Option, None, Some, if◌then◌else◌}
+use Rattle.std.specs.Int.{IsInRange}
+use Rattle.rtk_obs.specs.declared.any_code.AnyCode.{AnyCode}
 use Rattle.rtk_obs.specs.declared.time.Civil.{Civil}
 use Rattle.rtk_rinex.specs.Record.{EpochTableView}
+use Rattle.rtk_rinex.specs.declared.epoch_table.SatelliteRow.{SatelliteRow}
 use Rattle.rtk_tracking.specs.Passes.{Sighting, sightings_of, begins_pass}
 use Rattle.rtk_tracking.specs.Standing.{StandsForPass}
 use Rattle.rtk_quality.specs.Counts.{code_counts_of}
@@ -28,6 +30,8 @@ use Rattle.rtk_quality.specs.declared.satellite_counts.PassCounts.{PassCounts}
 use Rattle.rtk_quality.specs.declared.satellite_counts.SatelliteCounts.{SatelliteCounts}
 use Rattle.rtk_quality.specs.declared.file_counts.EndedPass.{EndedPass}
 use Rattle.rtk_quality.specs.declared.file_counts.FileCounts.{FileCounts}
+use Rattle.rtk_quality.specs.declared.file_times.FileTimes.{FileTimes}
+use Rattle.rtk_quality.specs.declared.heading.ListedCounts.{ListedCounts}
 
 -- ---- a satellite
 
@@ -78,19 +82,31 @@ pub record StandForCodes (codes : List MissingRuns) (count : ℕ) (interval : Op
 
 -- ---- a file
 
+-- rows of satellites from 1 to so many
+abbrev pub AreRowsUpTo : ℕ → List SatelliteRow → Type 0
+AreRowsUpTo most rows = All (λ r. IsInRange 1 most r.satellite) rows
+
+-- rows whose satellites rise
+abbrev pub RowsRise : List SatelliteRow → Type 0
+RowsRise rows = AllPairs (λ a b. a.satellite < b.satellite) rows
+
+-- epochs whose moments rise
+abbrev pub EpochsRise : List EpochTableView → Type 0
+EpochsRise epochs = AllPairs (λ a b. a.time < b.time) epochs
+
 -- an epoch of which no row came so far
 abbrev pub without_rows : ℕ → EpochTableView
 without_rows time = record { time = time; rows = [] }
 
--- the satellites 1 to 32
-pub record StandForSatellites (satellites : List SatelliteCounts) (interval : Option ℕ) (es : List EpochTableView) : Type 0 where
-  pub size : length satellites ≡ 32
-  pub each : (place : ℕ) (d : SatelliteCounts) → place < 32 → StandsForSatellite (get_or satellites place d) interval (sightings_of (place + 1) es)
+-- the satellites from 1 to so many
+pub record StandForSatellites (satellites : List SatelliteCounts) (most : ℕ) (interval : Option ℕ) (es : List EpochTableView) : Type 0 where
+  pub size : length satellites ≡ most
+  pub each : (place : ℕ) (d : SatelliteCounts) → place < most → StandsForSatellite (get_or satellites place d) interval (sightings_of (place + 1) es)
 
--- so many codes of the satellites 1 to 32
-pub record StandForMissing (missing : List MissingCodes) (count : ℕ) (interval : Option ℕ) (es : List EpochTableView) : Type 0 where
-  pub size : length missing ≡ 32
-  pub each : (place : ℕ) (d : MissingCodes) → place < 32 → StandForCodes (get_or missing place d).codes.items count interval (sightings_of (place + 1) es)
+-- so many codes of each of them
+pub record StandForMissing (missing : List MissingCodes) (count : ℕ) (most : ℕ) (interval : Option ℕ) (es : List EpochTableView) : Type 0 where
+  pub size : length missing ≡ most
+  pub each : (place : ℕ) (d : MissingCodes) → place < most → StandForCodes (get_or missing place d).codes.items count interval (sightings_of (place + 1) es)
 
 -- the passes of a satellite among those that ended
 abbrev pub ended_of : ℕ → List EndedPass → List PassCounts
@@ -106,28 +122,38 @@ with_ended ended satellite (Some p) = ended ++ record { satellite = satellite; p
 abbrev pub HasEnded : List EndedPass → Option ℕ → List Sighting → ℕ → Type 0
 HasEnded ended interval before satellite = ended_of satellite ended ≡ reverse (older_passes (passes_of interval before))
 
--- the passes that ended, of the satellites 1 to 32
-abbrev pub StandForEnded : List EndedPass → Option ℕ → List EpochTableView → Type 0
-StandForEnded ended interval es = (place : ℕ) → place < 32 → HasEnded ended interval (sightings_of (place + 1) es) (place + 1)
+-- the passes of them that ended
+abbrev pub StandForEnded : List EndedPass → ℕ → Option ℕ → List EpochTableView → Type 0
+StandForEnded ended most interval es = (place : ℕ) → place < most → HasEnded ended interval (sightings_of (place + 1) es) (place + 1)
 
 -- a file of these codes after these epochs, whose hours are given newest first, with these runs, bursts and missing codes
-pub record StandsForFile (f : FileCounts) (interval : Option ℕ) (unit : ℕ) (listed : List Code) (es : List EpochTableView) (hs : List HourCounts) (runs_so_far : List HalfRun) (bursts_so_far : List Burst) (missing_so_far : List MissingCode) : Type 0 where
+pub record StandsForFile (f : FileCounts) (most : ℕ) (interval : Option ℕ) (unit : ℕ) (listed : List AnyCode) (es : List EpochTableView) (hs : List HourCounts) (runs_so_far : List HalfRun) (bursts_so_far : List Burst) (missing_so_far : List MissingCode) : Type 0 where
   pub records : f.records ≡ record_counts_of unit es
-  pub satellites : StandForSatellites f.satellites.items interval es
-  pub ended : StandForEnded f.ended.items interval es
+  pub satellites : StandForSatellites f.satellites.items most interval es
+  pub ended : StandForEnded f.ended.items most interval es
   pub hours : AreHours f.hours hs
   pub gaps : AreLargest size_of_gap f.gaps (gaps_of unit es)
   pub moments : AreLargest size_of_moment f.moments (common_moments interval es)
   pub outages : AreLargest size_of_outage f.events.outages (all_outages interval es)
   pub runs : AreLargest size_of_run f.events.runs runs_so_far
   pub bursts : AreLargest size_of_burst f.events.bursts bursts_so_far
-  pub codes : StandForMissing f.codes.items (length listed) interval es
+  pub codes : StandForMissing f.codes.items (length listed) most interval es
   pub missing : AreLargest size_of_missing f.missing missing_so_far
 
+-- what the moments of a file tell after these epochs
+pub record IsTimesOf (f : FileTimes) (unit : ℕ) (es : List EpochTableView) : Type 0 where
+  pub records : f.records ≡ record_counts_of unit es
+  pub gaps : AreLargest size_of_gap f.gaps (gaps_of unit es)
+
+-- how many there are of what has a list of the ten largest
+abbrev pub listed_counts_of : FileCounts → ListedCounts
+listed_counts_of f =
+    record { gaps = f.gaps.count; moments = f.moments.count; bursts = f.events.bursts.count; runs = f.events.runs.count; missing = f.missing.count }
+
 -- a file after these epochs, with the runs and bursts that ended
-abbrev pub IsCounting : FileCounts → Option ℕ → ℕ → List Code → List EpochTableView → Type 0
-IsCounting f interval unit listed es = StandsForFile f interval unit listed es (noted_hours interval unit listed es) (ended_runs interval es) (ended_bursts interval es) []
+abbrev pub IsCounting : FileCounts → ℕ → Option ℕ → ℕ → List AnyCode → List EpochTableView → Type 0
+IsCounting f most interval unit listed es = StandsForFile f most interval unit listed es (noted_hours interval unit listed es) (ended_runs interval es) (ended_bursts interval es) []
 
 -- a file of these epochs, with all of them
-abbrev pub HasCounted : FileCounts → Option ℕ → ℕ → List Code → List EpochTableView → Type 0
-HasCounted f interval unit listed es = StandsForFile f interval unit listed es (hours_of interval unit listed es) (half_runs interval es) (all_bursts interval es) (all_missing interval listed es)
+abbrev pub HasCounted : FileCounts → ℕ → Option ℕ → ℕ → List AnyCode → List EpochTableView → Type 0
+HasCounted f most interval unit listed es = StandsForFile f most interval unit listed es (hours_of interval unit listed es) (half_runs most interval es) (all_bursts most interval es) (all_missing most interval listed es)

@@ -1,9 +1,9 @@
 -- The lines of the hours, gaps, falls, outages and moments of a file, and what stands for them in JSON (this project's rule).
 use Rattle.std.specs.Prelude.{ℕ, Bool, List, [], ◌++◌, codes, Some, if◌then◌else◌}
 use Rattle.std.specs.List.{list_any}
-use Rattle.rtk_obs.specs.declared.code.Band.{Band}
-use Rattle.rtk_obs.specs.declared.code.Band.TheVariants.{L1, L2, L5}
-use Rattle.rtk_obs.specs.declared.code.Code.{Code}
+use Rattle.rtk_quality.specs.declared.strengths.CodeBand.{CodeBand}
+use Rattle.rtk_quality.specs.declared.strengths.CodeBand.TheVariants.{B1, B2, B5, B6, B7, B8}
+use Rattle.rtk_obs.specs.declared.any_code.AnyCode.{AnyCode}
 use Rattle.rtk_obs.specs.Reading.{reading_of}
 use Rattle.rtk_quality.specs.Counts.{plus, mean_hundredths, mean_tenths}
 use Rattle.rtk_quality.specs.Hours.{start_of}
@@ -23,27 +23,39 @@ use Rattle.rtk_quality.specs.declared.bursts.Burst.{Burst}
 use Rattle.rtk_quality.specs.declared.strengths.Strengths.{Strengths}
 
 -- a code is of this band
-abbrev pub has_band : List Code → Band → Bool
+abbrev pub has_band : List AnyCode → CodeBand → Bool
 has_band listed band = list_any (λ c. is_of_band band c) listed
 
 -- table
-abbrev pub strength_words : Band → List ℕ
-strength_words L1 = codes " mean-strength-1 "
-strength_words L2 = codes " mean-strength-2 "
-strength_words L5 = codes " mean-strength-5 "
+abbrev pub strength_words : CodeBand → List ℕ
+strength_words B1 = codes " mean-strength-1 "
+strength_words B2 = codes " mean-strength-2 "
+strength_words B5 = codes " mean-strength-5 "
+strength_words B6 = codes " mean-strength-6 "
+strength_words B7 = codes " mean-strength-7 "
+strength_words B8 = codes " mean-strength-8 "
 
 -- table
-abbrev pub strength_key : Band → List ℕ
-strength_key L1 = codes ",\"mean_strength_1_centidbhz\":"
-strength_key L2 = codes ",\"mean_strength_2_centidbhz\":"
-strength_key L5 = codes ",\"mean_strength_5_centidbhz\":"
+abbrev pub strength_key : CodeBand → List ℕ
+strength_key B1 = codes ",\"mean_strength_1_centidbhz\":"
+strength_key B2 = codes ",\"mean_strength_2_centidbhz\":"
+strength_key B5 = codes ",\"mean_strength_5_centidbhz\":"
+strength_key B6 = codes ",\"mean_strength_6_centidbhz\":"
+strength_key B7 = codes ",\"mean_strength_7_centidbhz\":"
+strength_key B8 = codes ",\"mean_strength_8_centidbhz\":"
 
 -- the mean strength of a band, if a code of the file is of this band
-abbrev pub strength_text : Form → List Code → Strengths → Band → List ℕ
+abbrev pub strength_text : Form → List AnyCode → Strengths → CodeBand → List ℕ
 strength_text form listed s band =
     if has_band listed band
     then value_text form (strength_words band) (strength_key band) Hundredths (mean_hundredths (of_band band s).sum (of_band band s).count)
     else []
+
+-- those of all bands
+unfoldable pub all_strengths_text : Form → List AnyCode → Strengths → List ℕ
+all_strengths_text form listed s =
+    strength_text form listed s B1 ++ strength_text form listed s B2 ++ strength_text form listed s B5
+    ++ strength_text form listed s B6 ++ strength_text form listed s B7 ++ strength_text form listed s B8
 
 -- formula
 -- records, and how many there would be without missing epochs; satellites in the mean; slips and returns
@@ -56,10 +68,10 @@ hour_counts_text form h =
     ++ value_text form (codes " returns ") (codes ",\"returns\":") Whole (Some h.locks.returns)
 
 -- the line of an hour
-unfoldable pub hour_line : Form → List Code → HourCounts → List ℕ
+unfoldable pub hour_line : Form → List AnyCode → HourCounts → List ℕ
 hour_line form listed h =
     start_text form (codes "hour") ++ moment_text form (codes " ") (codes "\"hour\":") (reading_of (start_of h.hour)) ++ hour_counts_text form h
-    ++ strength_text form listed h.strengths L1 ++ strength_text form listed h.strengths L2 ++ strength_text form listed h.strengths L5 ++ end_text form
+    ++ all_strengths_text form listed h.strengths ++ end_text form
 
 -- the line of a gap
 unfoldable pub gap_line : Form → Gap → List ℕ
@@ -107,7 +119,7 @@ missing_line form m =
     ++ value_text form (codes " epochs ") (codes ",\"epochs\":") Whole (Some m.run.epochs) ++ end_text form
 
 -- the line of a fall
-unfoldable pub fall_line : Form → Band → Fall → List ℕ
+unfoldable pub fall_line : Form → CodeBand → Fall → List ℕ
 fall_line form band f =
     start_text form (codes "fall") ++ value_text form (codes " band ") (codes "\"band\":") Whole (Some (number_of band))
     ++ moment_text form (codes " from ") (codes ",\"from\":") (reading_of (start_of f.from))

@@ -4,6 +4,7 @@ ghost use Rattle.std.specs.Prelude.{◌≡◌};
 ghost use Rattle.rtk_quality.specs.Bursts.{hour_with, other_hour, hour_after, hour_ended, burst_of};
 
 use crate::largest::Measured;
+use rtk_obs::SatelliteIndex;
 
 /// An hour, by the hours of GPS time before it, and at how many of its epochs a satellite slips.
 #[derive(Clone, Copy)]
@@ -15,7 +16,7 @@ pub(crate) struct HourMoments {
 /// The same of a satellite that slips at several of them.
 #[derive(Clone, Copy)]
 pub(crate) struct Burst {
-    pub(crate) satellite: u8,
+    pub(crate) satellite: SatelliteIndex,
     pub(crate) hour: u64,
     pub(crate) moments: u64,
 }
@@ -75,7 +76,7 @@ pub(crate) fn next_hour(last: Option<HourMoments>, slips: u64, hour: u64) -> Hou
 }
 
 /// The hour of a satellite, if it slips at several epochs.
-pub(crate) fn burst_of(satellite: u8, hour: Option<HourMoments>) -> Option<Burst>
+pub(crate) fn burst_of(satellite: SatelliteIndex, hour: Option<HourMoments>) -> Option<Burst>
     ensures { result ≡ burst_of satellite hour }
 {
     match hour {

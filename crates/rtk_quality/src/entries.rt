@@ -25,8 +25,8 @@ use crate::station_lines::{
     put_burst_line, put_fall_line, put_gap_line, put_hour_line, put_missing_line, put_moment_line,
     put_outage_line, put_run_line,
 };
-use crate::strengths::number_of;
-use rtk_obs::{Band, Code};
+use crate::strengths::{CodeBand, number_of, shown_bands};
+use rtk_obs::{AnyCode, SatelliteIndex};
 use std::alloc::AllocError;
 
 /// Appends a code over all satellites that have it, of so many that are tracked.
@@ -34,7 +34,7 @@ use std::alloc::AllocError;
 pub(crate) fn put_code_entry(
     text: &mut Vec<u8>,
     form: Form,
-    code: Code,
+    code: AnyCode,
     tracked: u64,
     numbers: &CodeNumbers,
 ) -> Result<(), AllocError>
@@ -51,8 +51,8 @@ pub(crate) fn put_code_entry(
 pub(crate) fn put_satellite_entry(
     text: &mut Vec<u8>,
     form: Form,
-    satellite: u8,
-    code: Code,
+    satellite: SatelliteIndex,
+    code: AnyCode,
     numbers: &CodeNumbers,
 ) -> Result<(), AllocError>
     ensures { OnOk result (text.new.items ≡ text.old.items ++ satellite_entry form satellite code numbers.now) }
@@ -68,7 +68,7 @@ pub(crate) fn put_satellite_entry(
 pub(crate) fn put_tracked_entry(
     text: &mut Vec<u8>,
     form: Form,
-    satellite: u8,
+    satellite: SatelliteIndex,
     sums: &PassSums,
 ) -> Result<(), AllocError>
     ensures { OnOk result (text.new.items ≡ text.old.items ++ tracked_entry form satellite sums.now) }
@@ -84,7 +84,7 @@ pub(crate) fn put_tracked_entry(
 pub(crate) fn put_pass_entry(
     text: &mut Vec<u8>,
     form: Form,
-    satellite: u8,
+    satellite: SatelliteIndex,
     pass: &PassCounts,
 ) -> Result<(), AllocError>
     ensures { OnOk result (text.new.items ≡ text.old.items ++ pass_entry form satellite pass.now) }
@@ -100,13 +100,13 @@ pub(crate) fn put_pass_entry(
 pub(crate) fn put_hour_entry(
     text: &mut Vec<u8>,
     form: Form,
-    codes: &[Code],
+    codes: &[AnyCode],
     hour: &HourCounts,
 ) -> Result<(), AllocError>
     ensures { OnOk result (text.new.items ≡ text.old.items ++ hour_entry form codes.now hour.now) }
 {
     match form {
-        Form::Table => put_hour_row(text, hour),
+        Form::Table => put_hour_row(text, shown_bands(codes), hour),
         Form::Lines | Form::Json => put_hour_line(text, form, codes, hour),
     }
 }
@@ -258,7 +258,7 @@ fn put_gap_entry(text: &mut Vec<u8>, form: Form, gap: &Gap) -> Result<(), AllocE
 pub(crate) fn put_fall_entry(
     text: &mut Vec<u8>,
     form: Form,
-    band: Band,
+    band: CodeBand,
     fall: &Fall,
 ) -> Result<(), AllocError>
     ensures { OnOk result (text.new.items ≡ text.old.items ++ fall_entry form band fall.now) }

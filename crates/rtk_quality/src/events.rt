@@ -14,6 +14,7 @@ use crate::largest::Largest;
 use crate::outages::{Outage, outage_of};
 use crate::runs::{HalfRun, half_run};
 use crate::satellite_counts::RowNotes;
+use rtk_obs::SatelliteIndex;
 use std::alloc::{AllocError, Global};
 
 /// What happened so far.
@@ -39,7 +40,11 @@ impl Events {
     }
 
     /// Notes what ended with a row of a satellite.
-    pub(crate) fn note_row(&mut self, satellite: u8, notes: &RowNotes) -> Result<(), AllocError>
+    pub(crate) fn note_row(
+        &mut self,
+        satellite: SatelliteIndex,
+        notes: &RowNotes,
+    ) -> Result<(), AllocError>
         ensures outages { OnOk result ((all : List Outage) → AreLargest size_of_outage self.old.outages all
             → AreLargest size_of_outage self.new.outages (all ++ list_of (outage_of satellite notes.now.absence))) }
         ensures runs { OnOk result ((all : List HalfRun) → AreLargest size_of_run self.old.runs all

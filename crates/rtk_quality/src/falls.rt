@@ -5,7 +5,7 @@ ghost use Rattle.rtk_quality.specs.Falls.{mean_in, fall_to, greater_fall, larges
 
 use crate::code_numbers::mean_hundredths;
 use crate::hours::HourCounts;
-use rtk_obs::Band;
+use crate::strengths::CodeBand;
 
 /// The mean strength of a band in an hour, in hundredths of a dB-Hz.
 #[derive(Clone, Copy)]
@@ -23,7 +23,7 @@ pub(crate) struct Fall {
 }
 
 // The mean strength of a band in an hour, if it has strengths.
-fn mean_in(band: Band, hour: &HourCounts) -> Option<HourMean>
+fn mean_in(band: CodeBand, hour: &HourCounts) -> Option<HourMean>
     ensures { result ≡ mean_in band hour.now }
 {
     let strengths = hour.strengths.of(band);
@@ -63,7 +63,7 @@ fn greater_fall(one: Option<Fall>, other: Option<Fall>) -> Option<Fall>
 
 /// The largest fall of a band in hours that come one after another. Hours without a strength of the band
 /// are passed over.
-pub(crate) fn largest_fall(band: Band, hours: &[HourCounts]) -> Option<Fall>
+pub(crate) fn largest_fall(band: CodeBand, hours: &[HourCounts]) -> Option<Fall>
     ensures { result ≡ largest_fall band hours.now }
 {
     let mut before = None;

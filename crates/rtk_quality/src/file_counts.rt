@@ -3,7 +3,6 @@
 ghost use Rattle.std.specs.Prelude.{◌≡◌, ◌<◌, ◌≤◌, ℕ, List, [], ◌∷◌, ◌++◌, length, Option, IfOk, OnOk};
 ghost use Rattle.std.specs.List.{range_with_len};
 ghost use Rattle.rtk_rinex.specs.Record.{EpochTableView};
-ghost use Rattle.rtk_obs.specs.declared.code.Code.{Code};
 ghost use Rattle.rtk_quality.specs.Steps.Noted.{no_locks, locks_onto};
 ghost use Rattle.rtk_quality.specs.Records.{unit_of};
 ghost use Rattle.rtk_quality.specs.Largest.{AreLargest};
@@ -15,8 +14,8 @@ ghost use Rattle.rtk_quality.specs.declared.outages.Outage.{Outage};
 ghost use Rattle.rtk_quality.specs.declared.runs.HalfRun.{HalfRun};
 ghost use Rattle.rtk_quality.specs.declared.bursts.Burst.{Burst};
 ghost use Rattle.rtk_quality.specs.Quality.{totals_of, station_sums, possible_in, satellites_in};
-ghost use Rattle.rtk_tracking.specs.Epochs.{HoldsOfEpochs, newest_moment};
-ghost use Rattle.rtk_quality.specs.Standing.{without_rows, with_ended, StandForSatellites, StandForMissing, StandForEnded, IsCounting, HasCounted};
+ghost use Rattle.rtk_tracking.specs.Epochs.{HoldsOfEpochs, newest_first, newest_moment};
+ghost use Rattle.rtk_quality.specs.Standing.{AreRowsUpTo, RowsRise, EpochsRise, without_rows, with_ended, StandForSatellites, StandForMissing, StandForEnded, IsCounting, HasCounted};
 
 use crate::bursts::burst_of;
 use crate::code_numbers::CodeNumbers;
@@ -30,14 +29,18 @@ use crate::pass_sums::PassSums;
 use crate::record_counts::{RecordCounts, unit_ms};
 use crate::runs::half_run;
 use crate::satellite_counts::{PassCounts, SatelliteCounts};
-use rtk_obs::{Code, GpsMs, civil};
-use rtk_rinex::{EpochTable, TextTable};
+use crate::satellites::{satellite_at, satellite_of};
+use rtk_obs::{AnyCode, GpsMs, SatelliteIndex, civil};
+use rtk_rinex::{EpochTable, SatelliteRow, TextTable};
 use std::alloc::{AllocError, Global};
+
+/// How many satellites GPS has.
+const GPS_SATELLITES: usize = 32;
 
 /// A pass that ended, and its satellite.
 #[derive(Clone, Copy)]
 pub(crate) struct EndedPass {
-    pub(crate) satellite: u8,
+    pub(crate) satellite: SatelliteIndex,
     pub(crate) pass: PassCounts,
 }
 
@@ -45,9 +48,9 @@ pub(crate) struct EndedPass {
 #[derive(Drop)]
 pub(crate) struct FileCounts {
     pub(crate) records: RecordCounts,
-    /// The satellites 1 to 32.
+    /// The satellites from 1 on.
     pub(crate) satellites: Vec<SatelliteCounts>,
-    /// The codes of the satellites 1 to 32.
+    /// Their codes.
     pub(crate) codes: Vec<MissingCodes>,
     /// The passes that ended, in the order in which others began.
     pub(crate) ended: Vec<EndedPass>,
@@ -69,7 +72,7 @@ pub(crate) struct EpochNotes {
 // Adds a pass of a satellite, if one ended.
 fn add_ended(
     ended: &mut Vec<EndedPass>,
-    satellite: u8,
+    satellite: SatelliteIndex,
     pass: Option<PassCounts>,
 ) -> Result<(), AllocError>
     ensures { OnOk result (ended.new.items ≡ with_ended ended.old.items satellite pass) }
@@ -95,12 +98,11 @@ fn ms_of(moment: Option<GpsMs>) -> Option<u64>
 
 // Counts one more epoch of each satellite, of which no row came so far.
 fn note_satellites(satellites: &mut Vec<SatelliteCounts>)
-    requires { length satellites.old.items ≡ 32 }
-    ensures size { length satellites.new.items ≡ 32 }
-    ensures satellites { (interval : Option ℕ) (time : ℕ) (es : List EpochTableView) → StandForSatellites satellites.old.items interval es
-        → StandForSatellites satellites.new.items interval (without_rows time ∷ es) }
+    ensures size { length satellites.new.items ≡ length satellites.old.items }
+    ensures satellites { (most : ℕ) (interval : Option ℕ) (time : ℕ) (es : List EpochTableView) → StandForSatellites satellites.old.items most interval es
+        → StandForSatellites satellites.new.items most interval (without_rows time ∷ es) }
 {
-    for place in 0..32 {
+    for place in 0..satellites.len() {
         satellites[place].note_epoch();
     }
 }
@@ -113,65 +115,67 @@ fn note_rows(
     events: &mut Events,
     interval: Option<u64>,
     record_ms: Option<u64>,
-    epoch: &EpochTable,
+    time: GpsMs,
+    rows: &[SatelliteRow],
 ) -> Result<EpochNotes, AllocError>
-    requires satellites { length satellites.old.items ≡ 32 }
-    requires codes { length codes.old.items ≡ 32 }
-    ensures size { OnOk result (length satellites.new.items ≡ 32) }
-    ensures codes_size { OnOk result (length codes.new.items ≡ 32) }
-    ensures satellites { OnOk result ((es : List EpochTableView) → record_ms ≡ newest_moment es
-        → StandForSatellites satellites.old.items interval (without_rows epoch.now.time ∷ es)
-        → StandForSatellites satellites.new.items interval (epoch.now ∷ es)) }
-    ensures codes { OnOk result ((es : List EpochTableView) (count : ℕ) → record_ms ≡ newest_moment es
-        → StandForSatellites satellites.old.items interval (without_rows epoch.now.time ∷ es)
-        → StandForMissing codes.old.items count interval es → StandForMissing codes.new.items count interval (epoch.now ∷ es)) }
-    ensures ended { OnOk result ((es : List EpochTableView) → record_ms ≡ newest_moment es
-        → StandForSatellites satellites.old.items interval (without_rows epoch.now.time ∷ es)
-        → StandForEnded ended.old.items interval es → StandForEnded ended.new.items interval (epoch.now ∷ es)) }
-    ensures outages { OnOk result ((es : List EpochTableView) (all : List Outage) → record_ms ≡ newest_moment es
-        → StandForSatellites satellites.old.items interval (without_rows epoch.now.time ∷ es)
-        → AreLargest size_of_outage events.old.outages all → AreLargest size_of_outage events.new.outages (all ++ outages_in interval es epoch.now.time epoch.now.rows)) }
-    ensures runs { OnOk result ((es : List EpochTableView) (all : List HalfRun) → record_ms ≡ newest_moment es
-        → StandForSatellites satellites.old.items interval (without_rows epoch.now.time ∷ es)
-        → AreLargest size_of_run events.old.runs all → AreLargest size_of_run events.new.runs (all ++ runs_in interval es epoch.now.time epoch.now.rows)) }
-    ensures bursts { OnOk result ((es : List EpochTableView) (all : List Burst) → record_ms ≡ newest_moment es
-        → StandForSatellites satellites.old.items interval (without_rows epoch.now.time ∷ es)
-        → AreLargest size_of_burst events.old.bursts all → AreLargest size_of_burst events.new.bursts (all ++ bursts_in interval es epoch.now.time epoch.now.rows)) }
-    ensures locks { IfOk result (λ notes. (es : List EpochTableView) → record_ms ≡ newest_moment es
-        → StandForSatellites satellites.old.items interval (without_rows epoch.now.time ∷ es)
-        → notes.locks ≡ locks_onto interval es epoch.now.time no_locks epoch.now.rows) }
-    ensures together { IfOk result (λ notes. (es : List EpochTableView) → record_ms ≡ newest_moment es
-        → StandForSatellites satellites.old.items interval (without_rows epoch.now.time ∷ es)
-        → notes.together ≡ together_in interval es epoch.now.time epoch.now.rows) }
+    requires satellites { length satellites.old.items ≤ 221 }
+    requires codes { length codes.old.items ≡ length satellites.old.items }
+    requires rows { AreRowsUpTo (length satellites.old.items) rows.now }
+    ensures size { OnOk result (length satellites.new.items ≡ length satellites.old.items) }
+    ensures codes_size { OnOk result (length codes.new.items ≡ length codes.old.items) }
+    ensures satellites { OnOk result ((most : ℕ) (es : List EpochTableView) → RowsRise rows.now → record_ms ≡ newest_moment es
+        → StandForSatellites satellites.old.items most interval (without_rows time ∷ es)
+        → StandForSatellites satellites.new.items most interval (record { time = time; rows = rows.now } ∷ es)) }
+    ensures codes { OnOk result ((most : ℕ) (es : List EpochTableView) (count : ℕ) → RowsRise rows.now → record_ms ≡ newest_moment es
+        → StandForSatellites satellites.old.items most interval (without_rows time ∷ es)
+        → StandForMissing codes.old.items count most interval es → StandForMissing codes.new.items count most interval (record { time = time; rows = rows.now } ∷ es)) }
+    ensures ended { OnOk result ((most : ℕ) (es : List EpochTableView) → RowsRise rows.now → record_ms ≡ newest_moment es
+        → StandForSatellites satellites.old.items most interval (without_rows time ∷ es)
+        → StandForEnded ended.old.items most interval es → StandForEnded ended.new.items most interval (record { time = time; rows = rows.now } ∷ es)) }
+    ensures outages { OnOk result ((most : ℕ) (es : List EpochTableView) (all : List Outage) → RowsRise rows.now → record_ms ≡ newest_moment es
+        → StandForSatellites satellites.old.items most interval (without_rows time ∷ es)
+        → AreLargest size_of_outage events.old.outages all → AreLargest size_of_outage events.new.outages (all ++ outages_in interval es time rows.now)) }
+    ensures runs { OnOk result ((most : ℕ) (es : List EpochTableView) (all : List HalfRun) → RowsRise rows.now → record_ms ≡ newest_moment es
+        → StandForSatellites satellites.old.items most interval (without_rows time ∷ es)
+        → AreLargest size_of_run events.old.runs all → AreLargest size_of_run events.new.runs (all ++ runs_in interval es time rows.now)) }
+    ensures bursts { OnOk result ((most : ℕ) (es : List EpochTableView) (all : List Burst) → RowsRise rows.now → record_ms ≡ newest_moment es
+        → StandForSatellites satellites.old.items most interval (without_rows time ∷ es)
+        → AreLargest size_of_burst events.old.bursts all → AreLargest size_of_burst events.new.bursts (all ++ bursts_in interval es time rows.now)) }
+    ensures locks { IfOk result (λ notes. (most : ℕ) (es : List EpochTableView) → RowsRise rows.now → record_ms ≡ newest_moment es
+        → StandForSatellites satellites.old.items most interval (without_rows time ∷ es)
+        → notes.locks ≡ locks_onto interval es time no_locks rows.now) }
+    ensures together { IfOk result (λ notes. (most : ℕ) (es : List EpochTableView) → RowsRise rows.now → record_ms ≡ newest_moment es
+        → StandForSatellites satellites.old.items most interval (without_rows time ∷ es)
+        → notes.together ≡ together_in interval es time rows.now) }
 {
-    let time = epoch.time();
     let reading = civil(time);
     let mut locks = Locks::none();
     let mut together = Together::none();
-    for row in epoch.rows() {
+    for row in rows {
+        let satellite = satellite_of(row);
         let place = usize::from(row.satellite) - 1;
         let observed = row.observed.as_slice();
         let notes = satellites[place].note_row(interval, record_ms, time, reading, observed);
         locks = locks.plus(&notes.locks);
         together = together.plus(notes.locks.slips, notes.is_tracked);
         codes[place].note_codes(interval, notes.is_tracked, notes.begins, reading, observed)?;
-        add_ended(ended, row.satellite, notes.ended)?;
-        events.note_row(row.satellite, &notes)?;
+        add_ended(ended, satellite, notes.ended)?;
+        events.note_row(satellite, &notes)?;
     }
     Ok(EpochNotes { locks, together })
 }
 
 // Notes the runs and the hours with slips that no later phase ends.
 fn note_last(events: &mut Events, satellites: &[SatelliteCounts]) -> Result<(), AllocError>
-    requires { length satellites.now ≡ 32 }
+    requires { length satellites.now ≤ 221 }
     ensures outages { OnOk result (events.new.outages ≡ events.old.outages) }
-    ensures runs { OnOk result ((interval : Option ℕ) (es : List EpochTableView) (all : List HalfRun) → StandForSatellites satellites.now interval es
-        → AreLargest size_of_run events.old.runs all → AreLargest size_of_run events.new.runs (all ++ open_runs interval es)) }
-    ensures bursts { OnOk result ((interval : Option ℕ) (es : List EpochTableView) (all : List Burst) → StandForSatellites satellites.now interval es
-        → AreLargest size_of_burst events.old.bursts all → AreLargest size_of_burst events.new.bursts (all ++ last_bursts interval es)) }
+    ensures runs { OnOk result ((most : ℕ) (interval : Option ℕ) (es : List EpochTableView) (all : List HalfRun) → StandForSatellites satellites.now most interval es
+        → AreLargest size_of_run events.old.runs all → AreLargest size_of_run events.new.runs (all ++ open_runs most interval es)) }
+    ensures bursts { OnOk result ((most : ℕ) (interval : Option ℕ) (es : List EpochTableView) (all : List Burst) → StandForSatellites satellites.now most interval es
+        → AreLargest size_of_burst events.old.bursts all → AreLargest size_of_burst events.new.bursts (all ++ last_bursts most interval es)) }
 {
     for (place, counts) in satellites.iter().enumerate() {
-        let satellite = place as u8 + 1;
+        let satellite = satellite_at(place);
         events.runs.note_if_any(half_run(satellite, counts.run))?;
         events.bursts.note_if_any(burst_of(satellite, counts.hour))?;
     }
@@ -181,7 +185,7 @@ fn note_last(events: &mut Events, satellites: &[SatelliteCounts]) -> Result<(), 
 /// The numbers of the code at this place over all satellites that have it.
 pub(crate) fn totals_of(satellites: &[SatelliteCounts], place: usize) -> CodeNumbers
     requires { place < 16 }
-    ensures { (interval : Option ℕ) (es : List EpochTableView) → StandForSatellites satellites.now interval es → result ≡ totals_of interval es place }
+    ensures { (most : ℕ) (interval : Option ℕ) (es : List EpochTableView) → StandForSatellites satellites.now most interval es → result ≡ totals_of most interval es place }
 {
     let mut totals = CodeNumbers::none();
     for satellite in satellites {
@@ -192,7 +196,7 @@ pub(crate) fn totals_of(satellites: &[SatelliteCounts], place: usize) -> CodeNum
 
 /// How many phases could be there of a code that each satellite sends.
 pub(crate) fn possible_in(satellites: &[SatelliteCounts]) -> u64
-    ensures { (interval : Option ℕ) (es : List EpochTableView) → StandForSatellites satellites.now interval es → result ≡ possible_in interval es }
+    ensures { (most : ℕ) (interval : Option ℕ) (es : List EpochTableView) → StandForSatellites satellites.now most interval es → result ≡ possible_in most interval es }
 {
     let mut possible = 0_u64;
     for satellite in satellites {
@@ -203,7 +207,7 @@ pub(crate) fn possible_in(satellites: &[SatelliteCounts]) -> u64
 
 /// The sums of all satellites.
 pub(crate) fn station_sums(satellites: &[SatelliteCounts]) -> PassSums
-    ensures { (interval : Option ℕ) (es : List EpochTableView) → StandForSatellites satellites.now interval es → result ≡ station_sums interval es }
+    ensures { (most : ℕ) (interval : Option ℕ) (es : List EpochTableView) → StandForSatellites satellites.now most interval es → result ≡ station_sums most interval es }
 {
     let mut sums = PassSums::none();
     for satellite in satellites {
@@ -214,7 +218,7 @@ pub(crate) fn station_sums(satellites: &[SatelliteCounts]) -> PassSums
 
 /// How many satellites the file has.
 pub(crate) fn satellites_in(satellites: &[SatelliteCounts]) -> usize
-    ensures { (interval : Option ℕ) (es : List EpochTableView) → StandForSatellites satellites.now interval es → result ≡ satellites_in interval es }
+    ensures { (most : ℕ) (interval : Option ℕ) (es : List EpochTableView) → StandForSatellites satellites.now most interval es → result ≡ satellites_in most interval es }
 {
     let mut seen = 0;
     for satellite in satellites {
@@ -225,28 +229,32 @@ pub(crate) fn satellites_in(satellites: &[SatelliteCounts]) -> usize
     seen
 }
 
-// So many codes of each of the satellites 1 to 32, without an epoch.
-fn missing_codes(alloc: Global, count: usize) -> Result<Vec<MissingCodes>, AllocError>
-    ensures { IfOk result (λ missing. (interval : Option ℕ) → StandForMissing missing.items count interval []) }
+// So many codes of each of so many satellites, without an epoch.
+fn missing_codes(alloc: Global, count: usize, most: usize) -> Result<Vec<MissingCodes>, AllocError>
+    ensures { IfOk result (λ missing. (interval : Option ℕ) → StandForMissing missing.items count most interval []) }
 {
     let mut missing = Vec::new(alloc);
-    for _satellite in 0..32_usize {
+    for _satellite in 0..most {
         missing.push(MissingCodes::new(alloc, count)?)?;
     }
     Ok(missing)
 }
 
 impl FileCounts {
-    /// Of a file of these codes without records: 32 satellites, each of them without an epoch.
-    pub(crate) fn new(alloc: Global, codes: &[Code]) -> Result<FileCounts, AllocError>
-        ensures size { IfOk result (λ counts. length counts.satellites.items ≡ 32) }
-        ensures codes { IfOk result (λ counts. length counts.codes.items ≡ 32) }
-        ensures counts { IfOk result (λ counts. (interval : Option ℕ) (unit : ℕ) → IsCounting counts interval unit codes.now []) }
+    /// Of a file of these codes without records: so many satellites, each of them without an epoch.
+    pub(crate) fn new(
+        alloc: Global,
+        codes: &[AnyCode],
+        most: usize,
+    ) -> Result<FileCounts, AllocError>
+        ensures size { IfOk result (λ counts. length counts.satellites.items ≡ most) }
+        ensures codes { IfOk result (λ counts. length counts.codes.items ≡ most) }
+        ensures counts { IfOk result (λ counts. (interval : Option ℕ) (unit : ℕ) → IsCounting counts most interval unit codes.now []) }
     {
         Ok(FileCounts {
             records: RecordCounts::new(),
-            satellites: vec![in alloc; SatelliteCounts::new(); 32]?,
-            codes: missing_codes(alloc, codes.len())?,
+            satellites: vec![in alloc; SatelliteCounts::new(); most]?,
+            codes: missing_codes(alloc, codes.len(), most)?,
             ended: Vec::new(alloc),
             hours: Hours::new(alloc),
             gaps: Largest::new(alloc),
@@ -261,16 +269,19 @@ impl FileCounts {
         &mut self,
         interval: Option<u64>,
         unit_ms: u64,
-        codes: &[Code],
-        epoch: &EpochTable,
+        codes: &[AnyCode],
+        time: GpsMs,
+        rows: &[SatelliteRow],
     ) -> Result<(), AllocError>
         requires unit { 0 < unit_ms }
-        requires size { length self.old.satellites.items ≡ 32 }
-        requires codes { length self.old.codes.items ≡ 32 }
-        ensures size { OnOk result (length self.new.satellites.items ≡ 32) }
-        ensures codes { OnOk result (length self.new.codes.items ≡ 32) }
-        ensures counts { OnOk result ((es : List EpochTableView)
-            → IsCounting self.old interval unit_ms codes.now es → IsCounting self.new interval unit_ms codes.now (epoch.now ∷ es)) }
+        requires size { length self.old.satellites.items ≤ 221 }
+        requires codes { length self.old.codes.items ≡ length self.old.satellites.items }
+        requires rows { AreRowsUpTo (length self.old.satellites.items) rows.now }
+        requires few { length rows.now ≤ 221 }
+        ensures size { OnOk result (length self.new.satellites.items ≡ length self.old.satellites.items) }
+        ensures codes { OnOk result (length self.new.codes.items ≡ length self.old.codes.items) }
+        ensures counts { OnOk result ((most : ℕ) (es : List EpochTableView) → RowsRise rows.now
+            → IsCounting self.old most interval unit_ms codes.now es → IsCounting self.new most interval unit_ms codes.now (record { time = time; rows = rows.now } ∷ es)) }
     {
         let record_ms = ms_of(self.records.last);
         note_satellites(&mut self.satellites);
@@ -281,51 +292,72 @@ impl FileCounts {
             &mut self.events,
             interval,
             record_ms,
-            epoch,
+            time,
+            rows,
         )?;
         self.hours.note_record(
             interval,
             unit_ms,
             self.records.last,
             codes,
-            epoch,
+            time,
+            rows,
             &notes.locks,
         )?;
         self.gaps
-            .note_if_any(gap_between(unit_ms, self.records.last, epoch.time()))?;
+            .note_if_any(gap_between(unit_ms, self.records.last, time))?;
         self.moments
-            .note_if_any(moment_if_several(epoch.time(), notes.together))?;
-        self.records.note_record(unit_ms, epoch);
+            .note_if_any(moment_if_several(time, notes.together))?;
+        self.records.note_record(unit_ms, time, rows.len() as u32);
+        Ok(())
+    }
+
+    /// Ends the counts: notes what no later record ends.
+    pub(crate) fn finish(
+        &mut self,
+        interval: Option<u64>,
+        codes: &[AnyCode],
+    ) -> Result<(), AllocError>
+        requires few { length codes.now ≤ 16 }
+        requires size { length self.old.satellites.items ≤ 221 }
+        requires codes { length self.old.codes.items ≡ length self.old.satellites.items }
+        ensures size { OnOk result (length self.new.satellites.items ≡ length self.old.satellites.items) }
+        ensures counts { OnOk result ((most : ℕ) (epochs : List EpochTableView) → EpochsRise epochs
+            → IsCounting self.old most interval (unit_of interval) codes.now (newest_first epochs)
+            → HasCounted self.new most interval (unit_of interval) codes.now (newest_first epochs)) }
+    {
+        note_last(&mut self.events, self.satellites.as_slice())?;
+        note_missing(
+            &mut self.missing,
+            interval,
+            codes,
+            self.satellites.as_slice(),
+            self.codes.as_slice(),
+        )?;
         Ok(())
     }
 }
 
-/// Counts all records of a table with these codes and this interval.
+/// Counts all records of a table of GPS with these codes and this interval.
 pub(crate) fn count_file(
     alloc: Global,
     table: &TextTable<'_>,
-    codes: &[Code],
+    codes: &[AnyCode],
     interval: Option<u64>,
 ) -> Result<FileCounts, AllocError>
     requires { length codes.now ≤ 16 }
     ensures size { IfOk result (λ counts. length counts.satellites.items ≡ 32) }
     ensures counts { IfOk result (λ counts. HoldsOfEpochs table.now.text
-        (λ es. HasCounted counts interval (unit_of interval) codes.now es)) }
+        (λ es. HasCounted counts 32 interval (unit_of interval) codes.now es)) }
 {
     let unit_ms = unit_ms(interval);
-    let mut counts = FileCounts::new(alloc, codes)?;
+    let mut counts = FileCounts::new(alloc, codes, GPS_SATELLITES)?;
     let mut epoch = EpochTable::new(table.heading().first);
     let mut records = table.records();
     while let Some(_record) = records.next(&mut epoch) {
-        counts.note_epoch(interval, unit_ms, codes, &epoch)?;
+        let rows = epoch.rows();
+        counts.note_epoch(interval, unit_ms, codes, epoch.time(), rows)?;
     }
-    note_last(&mut counts.events, counts.satellites.as_slice())?;
-    note_missing(
-        &mut counts.missing,
-        interval,
-        codes,
-        counts.satellites.as_slice(),
-        counts.codes.as_slice(),
-    )?;
+    counts.finish(interval, codes)?;
     Ok(counts)
 }

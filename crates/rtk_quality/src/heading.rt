@@ -1,9 +1,11 @@
 //! The lines of the whole file.
 
 ghost use Rattle.std.specs.Prelude.{◌≡◌, ◌++◌, OnOk};
+ghost use Rattle.rtk_quality.specs.Standing.{listed_counts_of};
 ghost use Rattle.rtk_quality.specs.QualityText.{marker_text, span_text, satellites_text, station_text, listed_text, heading_text};
 
 use crate::code_numbers::mean_tenths;
+use crate::file_counts::FileCounts;
 use crate::form::{Decimals, Form, put_end, put_json_text, put_moment, put_narrow, put_value};
 use crate::lines::put_count;
 use crate::pass_sums::PassSums;
@@ -25,6 +27,21 @@ pub(crate) struct ListedCounts {
     pub(crate) missing: u64,
 }
 
+impl ListedCounts {
+    /// Of a file.
+    pub(crate) fn of(counts: &FileCounts) -> ListedCounts
+        ensures { result ≡ listed_counts_of counts.now }
+    {
+        ListedCounts {
+            gaps: counts.gaps.count,
+            moments: counts.moments.count,
+            bursts: counts.events.bursts.count,
+            runs: counts.events.runs.count,
+            missing: counts.missing.count,
+        }
+    }
+}
+
 /// Appends the marker.
 #[tactic(auto, unfolding(crate::specs::QualityText::marker_text))]
 pub(crate) fn put_marker(text: &mut Vec<u8>, form: Form, marker: &[u8]) -> Result<(), AllocError>
@@ -44,9 +61,9 @@ pub(crate) fn put_marker(text: &mut Vec<u8>, form: Form, marker: &[u8]) -> Resul
     }
 }
 
-// Appends the span, the interval, and the epochs that are there and missing.
+/// Appends the span, the interval, and the epochs that are there and missing.
 #[tactic(auto, unfolding(crate::specs::QualityText::span_text))]
-fn put_span(
+pub(crate) fn put_span(
     text: &mut Vec<u8>,
     form: Form,
     from: Civil,
@@ -71,9 +88,9 @@ fn put_span(
     Ok(())
 }
 
-// Appends the satellites of the file, and how many an epoch has.
+/// Appends the satellites of the file, and how many an epoch has.
 #[tactic(auto, unfolding(crate::specs::QualityText::satellites_text))]
-fn put_satellites(
+pub(crate) fn put_satellites(
     text: &mut Vec<u8>,
     form: Form,
     satellites: u64,
@@ -116,9 +133,9 @@ fn put_satellites(
     Ok(())
 }
 
-// Appends the slips of all satellites, their moments, and their outages.
+/// Appends the slips of all satellites, their moments, and their outages.
 #[tactic(auto, unfolding(crate::specs::QualityText::station_text))]
-fn put_station(text: &mut Vec<u8>, form: Form, sums: &PassSums) -> Result<(), AllocError>
+pub(crate) fn put_station(text: &mut Vec<u8>, form: Form, sums: &PassSums) -> Result<(), AllocError>
     ensures { OnOk result (text.new.items ≡ text.old.items ++ station_text form sums.now) }
 {
     put_count(text, form, b"\nslips ", b",\"slips\":", sums.slips)?;
@@ -135,9 +152,13 @@ fn put_station(text: &mut Vec<u8>, form: Form, sums: &PassSums) -> Result<(), Al
     Ok(())
 }
 
-// Appends the counts that follow the outages.
+/// Appends the counts that follow the outages.
 #[tactic(auto, unfolding(crate::specs::QualityText::listed_text))]
-fn put_listed(text: &mut Vec<u8>, form: Form, listed: &ListedCounts) -> Result<(), AllocError>
+pub(crate) fn put_listed(
+    text: &mut Vec<u8>,
+    form: Form,
+    listed: &ListedCounts,
+) -> Result<(), AllocError>
     ensures { OnOk result (text.new.items ≡ text.old.items ++ listed_text form listed.now) }
 {
     put_count(

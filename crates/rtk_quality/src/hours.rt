@@ -6,8 +6,8 @@ ghost use Rattle.rtk_quality.specs.Hours.{hour_at, start_of};
 ghost use Rattle.rtk_quality.specs.Steps.Noted.{since_hour, missing_since, missing_until, no_locks, locks_plus, without_records, with_record, ended_hour, hour_onto, ended_by, list_of_hour, hours_with, AreHours};
 
 use crate::strengths::Strengths;
-use rtk_obs::{Civil, Code, GpsMs, civil};
-use rtk_rinex::EpochTable;
+use rtk_obs::{AnyCode, Civil, GpsMs, civil};
+use rtk_rinex::SatelliteRow;
 use rtk_tracking::{missing_between, nearness_ms};
 use std::alloc::{AllocError, Global};
 
@@ -168,10 +168,9 @@ impl HourCounts {
     }
 
     // Adds one more record, before which so many epochs are missing in the hour.
-    fn add_record(&mut self, missing: u64, codes: &[Code], epoch: &EpochTable, locks: &Locks)
-        ensures { self.new ≡ with_record missing codes.now epoch.now.rows locks.now self.old }
+    fn add_record(&mut self, missing: u64, codes: &[AnyCode], rows: &[SatelliteRow], locks: &Locks)
+        ensures { self.new ≡ with_record missing codes.now rows.now locks.now self.old }
     {
-        let rows = epoch.rows();
         self.records = self.records.saturating_add(1);
         self.missing = self.missing.saturating_add(missing);
         self.rows = self.rows.saturating_add(rows.len() as u64);
@@ -249,20 +248,20 @@ impl Hours {
         interval: Option<u64>,
         unit_ms: u64,
         last: Option<GpsMs>,
-        codes: &[Code],
-        epoch: &EpochTable,
+        codes: &[AnyCode],
+        time: GpsMs,
+        rows: &[SatelliteRow],
         locks: &Locks,
     ) -> Result<(), AllocError>
         requires { 0 < unit_ms }
         ensures { OnOk result ((hs : List HourCounts) → AreHours self.old hs
-            → AreHours self.new (hours_with interval unit_ms last codes.now epoch.now.time epoch.now.rows locks.now hs)) }
+            → AreHours self.new (hours_with interval unit_ms last codes.now time rows.now locks.now hs)) }
     {
-        let time = epoch.time();
         let hour = hour_at(interval, time);
         let missing = missing_before(interval, unit_ms, last, time);
         end_newest(&mut self.ended, self.newest, hour, missing.until)?;
         let mut newest = hour_onto(self.newest, hour);
-        newest.add_record(missing.since, codes, epoch, locks);
+        newest.add_record(missing.since, codes, rows, locks);
         self.newest = Some(newest);
         Ok(())
     }

@@ -57,6 +57,7 @@ mod entries;
 mod events;
 mod falls;
 mod file_counts;
+mod file_times;
 mod form;
 mod gaps;
 mod heading;
@@ -66,6 +67,7 @@ mod laws;
 mod lines;
 mod lists;
 mod missing;
+mod mixed_document;
 mod moments;
 mod never;
 mod outages;
@@ -74,10 +76,12 @@ mod record_counts;
 mod rows;
 mod runs;
 mod satellite_counts;
+mod satellites;
 mod sections;
 mod station;
 mod station_lines;
 mod strengths;
+mod system_counts;
 
 pub use document::quality;
 pub use form::Form;
@@ -85,3 +89,4 @@ pub use laws::{
     each_is_counted, events_hide_nothing, gaps_hide_nothing, hours_hide_nothing, no_bit_is_hidden,
     satellites_hide_nothing,
 };
+pub use mixed_document::mixed_quality;

@@ -2,7 +2,7 @@
 
 ghost use Rattle.std.specs.Prelude.{◌≡◌, ◌++◌, Some, OnOk};
 ghost use Rattle.rtk_quality.specs.Forms.{value_text};
-ghost use Rattle.rtk_quality.specs.LineText.{phases_text, having_text, per_slip_text, locks_text, strengths_text, counts_text, code_name, satellite_name, code_line, satellite_line, sums_text, tracked_line, never_line, pass_line};
+ghost use Rattle.rtk_quality.specs.LineText.{phases_text, having_text, per_slip_text, locks_text, strengths_text, counts_text, code_name, title_text, satellite_name, code_line, satellite_line, sums_text, tracked_line, never_line, pass_line};
 ghost use Rattle.rtk_quality.specs.declared.form.Decimals.TheVariants.{Whole};
 
 use crate::code_counts::CodeCounts;
@@ -12,7 +12,8 @@ use crate::form::{
 };
 use crate::pass_sums::PassSums;
 use crate::satellite_counts::PassCounts;
-use rtk_obs::{Code, two_digits};
+use rtk_message::System;
+use rtk_obs::{AnyCode, SatelliteIndex, satellite_name};
 use std::alloc::AllocError;
 
 /// Appends a whole number that is always there.
@@ -165,7 +166,7 @@ fn put_counts(text: &mut Vec<u8>, form: Form, counts: &CodeCounts) -> Result<(),
 
 /// Appends a code behind the satellite that has it.
 #[tactic(auto, unfolding(crate::specs::LineText::code_name))]
-pub(crate) fn put_code_name(text: &mut Vec<u8>, form: Form, code: Code) -> Result<(), AllocError>
+pub(crate) fn put_code_name(text: &mut Vec<u8>, form: Form, code: AnyCode) -> Result<(), AllocError>
     ensures { OnOk result (text.new.items ≡ text.old.items ++ code_name form code) }
 {
     put_name(text, form, b",\"code\":\"", &code.name())
@@ -176,17 +177,22 @@ pub(crate) fn put_code_name(text: &mut Vec<u8>, form: Form, code: Code) -> Resul
 pub(crate) fn put_satellite_name(
     text: &mut Vec<u8>,
     form: Form,
-    satellite: u8,
+    satellite: SatelliteIndex,
 ) -> Result<(), AllocError>
     ensures { OnOk result (text.new.items ≡ text.old.items ++ satellite_name form satellite) }
 {
-    let digits = two_digits(satellite);
-    put_name(
-        text,
-        form,
-        b"\"satellite\":\"",
-        &[b'G', digits[0], digits[1]],
-    )
+    put_name(text, form, b"\"satellite\":\"", &satellite_name(satellite))
+}
+
+// Appends a code without a satellite: two characters are one of GPS, and three begin with the letter of the system.
+#[tactic(auto, unfolding(crate::specs::LineText::title_text))]
+fn put_title(text: &mut Vec<u8>, form: Form, code: AnyCode) -> Result<(), AllocError>
+    ensures { OnOk result (text.new.items ≡ text.old.items ++ title_text form code) }
+{
+    match code.system() {
+        System::Gps => put_name(text, form, b"\"code\":\"", &code.name()),
+        _ => put_name(text, form, b"\"code\":\"", &code.text()),
+    }
 }
 
 /// Appends the line of a code over all satellites that have it, of so many that are tracked.
@@ -194,14 +200,14 @@ pub(crate) fn put_satellite_name(
 pub(crate) fn put_code_line(
     text: &mut Vec<u8>,
     form: Form,
-    code: Code,
+    code: AnyCode,
     tracked: u64,
     numbers: &CodeNumbers,
 ) -> Result<(), AllocError>
     ensures { OnOk result (text.new.items ≡ text.old.items ++ code_line form code tracked numbers.now) }
 {
     put_start(text, form, b"code")?;
-    put_name(text, form, b"\"code\":\"", &code.name())?;
+    put_title(text, form, code)?;
     put_phases(text, form, numbers)?;
     put_having(text, form, numbers.satellites, tracked)?;
     put_counts(text, form, &numbers.counts)
@@ -212,8 +218,8 @@ pub(crate) fn put_code_line(
 pub(crate) fn put_satellite_line(
     text: &mut Vec<u8>,
     form: Form,
-    satellite: u8,
-    code: Code,
+    satellite: SatelliteIndex,
+    code: AnyCode,
     numbers: &CodeNumbers,
 ) -> Result<(), AllocError>
     ensures { OnOk result (text.new.items ≡ text.old.items ++ satellite_line form satellite code numbers.now) }
@@ -230,8 +236,8 @@ pub(crate) fn put_satellite_line(
 pub(crate) fn put_never_line(
     text: &mut Vec<u8>,
     form: Form,
-    satellite: u8,
-    code: Code,
+    satellite: SatelliteIndex,
+    code: AnyCode,
 ) -> Result<(), AllocError>
     ensures { OnOk result (text.new.items ≡ text.old.items ++ never_line form satellite code) }
 {
@@ -266,7 +272,7 @@ fn put_sums(text: &mut Vec<u8>, form: Form, sums: &PassSums) -> Result<(), Alloc
 pub(crate) fn put_tracked_line(
     text: &mut Vec<u8>,
     form: Form,
-    satellite: u8,
+    satellite: SatelliteIndex,
     sums: &PassSums,
 ) -> Result<(), AllocError>
     ensures { OnOk result (text.new.items ≡ text.old.items ++ tracked_line form satellite sums.now) }
@@ -282,7 +288,7 @@ pub(crate) fn put_tracked_line(
 pub(crate) fn put_pass_line(
     text: &mut Vec<u8>,
     form: Form,
-    satellite: u8,
+    satellite: SatelliteIndex,
     pass: &PassCounts,
 ) -> Result<(), AllocError>
     ensures { OnOk result (text.new.items ≡ text.old.items ++ pass_line form satellite pass.now) }

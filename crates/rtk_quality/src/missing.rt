@@ -13,7 +13,8 @@ ghost use Rattle.rtk_quality.specs.declared.missing.MissingCode.{MissingCode};
 use crate::largest::{Largest, Measured};
 use crate::runs::{Run, next_run};
 use crate::satellite_counts::SatelliteCounts;
-use rtk_obs::{Civil, Code};
+use crate::satellites::satellite_at;
+use rtk_obs::{AnyCode, Civil, SatelliteIndex};
 use rtk_rinex::Observed;
 use rtk_tracking::{nearness_ms, shows_phase};
 use std::alloc::{AllocError, Global};
@@ -24,8 +25,8 @@ const LONGEST_UNLISTED_MS: u64 = 120_000;
 /// A run of epochs at which a code of a satellite is missing.
 #[derive(Clone, Copy)]
 pub(crate) struct MissingCode {
-    pub(crate) satellite: u8,
-    pub(crate) code: Code,
+    pub(crate) satellite: SatelliteIndex,
+    pub(crate) code: AnyCode,
     pub(crate) run: Run,
 }
 
@@ -157,8 +158,8 @@ impl MissingCodes {
 // Notes the runs of a code that ended.
 fn note_ended(
     missing: &mut Largest<MissingCode>,
-    satellite: u8,
-    code: Code,
+    satellite: SatelliteIndex,
+    code: AnyCode,
     ended: &[Run],
 ) -> Result<(), AllocError>
     ensures { OnOk result ((all : List MissingCode) → AreLargest size_of_missing missing.old all
@@ -178,8 +179,8 @@ fn note_ended(
 fn note_runs(
     missing: &mut Largest<MissingCode>,
     interval: Option<u64>,
-    satellite: u8,
-    code: Code,
+    satellite: SatelliteIndex,
+    code: AnyCode,
     runs: &MissingRuns,
 ) -> Result<(), AllocError>
     ensures { OnOk result ((place : ℕ) (before : List Sighting) (all : List MissingCode) → StandsForMissing runs.now interval place before → AreLargest size_of_missing missing.old all
@@ -203,9 +204,9 @@ fn note_runs(
 fn note_code(
     missing: &mut Largest<MissingCode>,
     interval: Option<u64>,
-    satellite: u8,
+    satellite: SatelliteIndex,
     place: usize,
-    code: Code,
+    code: AnyCode,
     counts: &SatelliteCounts,
     runs: &MissingRuns,
 ) -> Result<(), AllocError>
@@ -223,8 +224,8 @@ fn note_code(
 fn note_satellite(
     missing: &mut Largest<MissingCode>,
     interval: Option<u64>,
-    satellite: u8,
-    codes: &[Code],
+    satellite: SatelliteIndex,
+    codes: &[AnyCode],
     counts: &SatelliteCounts,
     runs: &[MissingRuns],
 ) -> Result<(), AllocError>
@@ -245,18 +246,18 @@ fn note_satellite(
 pub(crate) fn note_missing(
     missing: &mut Largest<MissingCode>,
     interval: Option<u64>,
-    codes: &[Code],
+    codes: &[AnyCode],
     satellites: &[SatelliteCounts],
     runs: &[MissingCodes],
 ) -> Result<(), AllocError>
     requires few { length codes.now ≤ 16 }
-    requires satellites { length satellites.now ≡ 32 }
-    requires runs { length runs.now ≡ 32 }
-    ensures { OnOk result ((es : List EpochTableView) (all : List MissingCode) → StandForSatellites satellites.now interval es → StandForMissing runs.now (length codes.now) interval es
-        → AreLargest size_of_missing missing.old all → AreLargest size_of_missing missing.new (all ++ all_missing interval codes.now es)) }
+    requires satellites { length satellites.now ≤ 221 }
+    requires runs { length runs.now ≡ length satellites.now }
+    ensures { OnOk result ((most : ℕ) (es : List EpochTableView) (all : List MissingCode) → StandForSatellites satellites.now most interval es → StandForMissing runs.now (length codes.now) most interval es
+        → AreLargest size_of_missing missing.old all → AreLargest size_of_missing missing.new (all ++ all_missing most interval codes.now es)) }
 {
     for (place, counts) in satellites.iter().enumerate() {
-        let satellite = place as u8 + 1;
+        let satellite = satellite_at(place);
         let runs = runs[place].codes.as_slice();
         note_satellite(missing, interval, satellite, codes, counts, runs)?;
     }

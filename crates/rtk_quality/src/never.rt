@@ -8,7 +8,8 @@ ghost use Rattle.rtk_quality.specs.Standing.{StandsForSatellite, StandForSatelli
 
 use crate::rows::put_satellite;
 use crate::satellite_counts::SatelliteCounts;
-use rtk_obs::Code;
+use crate::satellites::satellite_at;
+use rtk_obs::AnyCode;
 use std::alloc::AllocError;
 
 /// How many satellites stand in a row behind a code.
@@ -25,9 +26,8 @@ fn is_without(counts: &SatelliteCounts, at: usize) -> bool
 // How many satellites before a place have no phase of the code at a place.
 fn without_before(satellites: &[SatelliteCounts], at: usize, place: usize) -> u64
     requires at { at < 16 }
-    requires place { place ≤ 32 }
-    requires size { length satellites.now ≡ 32 }
-    ensures { (interval : Option ℕ) (es : List EpochTableView) → StandForSatellites satellites.now interval es → result ≡ without_before interval es at place }
+    requires place { place ≤ length satellites.now }
+    ensures { (most : ℕ) (interval : Option ℕ) (es : List EpochTableView) → StandForSatellites satellites.now most interval es → result ≡ without_before interval es at place }
 {
     let mut count = 0;
     for before in 0..place {
@@ -49,7 +49,7 @@ fn put_row_end(text: &mut Vec<u8>, count: u64) -> Result<(), AllocError>
 }
 
 // Appends what stands before a satellite that follows so many others.
-fn put_start(text: &mut Vec<u8>, code: Code, count: u64) -> Result<(), AllocError>
+fn put_start(text: &mut Vec<u8>, code: AnyCode, count: u64) -> Result<(), AllocError>
     ensures { OnOk result (text.new.items ≡ text.old.items ++ row_start code count) }
 {
     if count % IN_ROW != 0 {
@@ -63,14 +63,14 @@ fn put_start(text: &mut Vec<u8>, code: Code, count: u64) -> Result<(), AllocErro
 fn put_part(
     text: &mut Vec<u8>,
     satellites: &[SatelliteCounts],
-    code: Code,
+    code: AnyCode,
     at: usize,
     place: usize,
 ) -> Result<(), AllocError>
     requires at { at < 16 }
-    requires place { place < 32 }
-    requires size { length satellites.now ≡ 32 }
-    ensures { OnOk result ((interval : Option ℕ) (es : List EpochTableView) → StandForSatellites satellites.now interval es
+    requires place { place < length satellites.now }
+    requires size { length satellites.now ≤ 221 }
+    ensures { OnOk result ((most : ℕ) (interval : Option ℕ) (es : List EpochTableView) → StandForSatellites satellites.now most interval es
         → text.new.items ≡ text.old.items ++ row_part interval es code at place) }
 {
     if !is_without(&satellites[place], at) {
@@ -78,7 +78,7 @@ fn put_part(
     }
     put_start(text, code, without_before(satellites, at, place))?;
     text.extend_from_slice(b" ")?;
-    put_satellite(text, place as u8 + 1)?;
+    put_satellite(text, satellite_at(place))?;
     Ok(())
 }
 
@@ -87,30 +87,30 @@ fn put_never_row(
     text: &mut Vec<u8>,
     satellites: &[SatelliteCounts],
     at: usize,
-    code: Code,
+    code: AnyCode,
 ) -> Result<(), AllocError>
     requires at { at < 16 }
-    requires size { length satellites.now ≡ 32 }
-    ensures { OnOk result ((interval : Option ℕ) (es : List EpochTableView) → StandForSatellites satellites.now interval es
-        → text.new.items ≡ text.old.items ++ never_row interval es at code) }
+    requires size { length satellites.now ≤ 221 }
+    ensures { OnOk result ((most : ℕ) (interval : Option ℕ) (es : List EpochTableView) → StandForSatellites satellites.now most interval es
+        → text.new.items ≡ text.old.items ++ never_row most interval es at code) }
 {
-    for place in 0..32 {
+    for place in 0..satellites.len() {
         put_part(text, satellites, code, at, place)?;
     }
-    put_row_end(text, without_before(satellites, at, 32))?;
+    put_row_end(text, without_before(satellites, at, satellites.len()))?;
     Ok(())
 }
 
 /// Appends the satellites that have no phase of a code, code by code.
 pub(crate) fn put_never_rows(
     text: &mut Vec<u8>,
-    codes: &[Code],
+    codes: &[AnyCode],
     satellites: &[SatelliteCounts],
 ) -> Result<(), AllocError>
     requires few { length codes.now ≤ 16 }
-    requires size { length satellites.now ≡ 32 }
-    ensures { OnOk result ((interval : Option ℕ) (es : List EpochTableView) → StandForSatellites satellites.now interval es
-        → text.new.items ≡ text.old.items ++ never_rows interval es codes.now) }
+    requires size { length satellites.now ≤ 221 }
+    ensures { OnOk result ((most : ℕ) (interval : Option ℕ) (es : List EpochTableView) → StandForSatellites satellites.now most interval es
+        → text.new.items ≡ text.old.items ++ never_rows most interval es codes.now) }
 {
     for (at, code) in codes.iter().enumerate() {
         put_never_row(text, satellites, at, *code)?;

@@ -4,7 +4,7 @@ ghost use Rattle.std.specs.Prelude.{◌≡◌};
 ghost use Rattle.rtk_quality.specs.Outages.{outage_of};
 
 use crate::largest::Measured;
-use rtk_obs::Civil;
+use rtk_obs::{Civil, SatelliteIndex};
 
 /// The moments of the last phase before an outage and of the first one after it, and its time in ms.
 #[derive(Clone, Copy)]
@@ -17,7 +17,7 @@ pub(crate) struct Absence {
 /// An outage of a satellite.
 #[derive(Clone, Copy)]
 pub(crate) struct Outage {
-    pub(crate) satellite: u8,
+    pub(crate) satellite: SatelliteIndex,
     pub(crate) absence: Absence,
 }
 
@@ -32,7 +32,7 @@ impl Measured for Outage {
 }
 
 /// The outage of a satellite, if it was absent.
-pub(crate) fn outage_of(satellite: u8, absence: Option<Absence>) -> Option<Outage>
+pub(crate) fn outage_of(satellite: SatelliteIndex, absence: Option<Absence>) -> Option<Outage>
     ensures { result ≡ outage_of satellite absence }
 {
     match absence {

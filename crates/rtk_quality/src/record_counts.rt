@@ -1,13 +1,12 @@
 //! The counts of records.
 
-ghost use Rattle.std.specs.Prelude.{◌≡◌, ◌<◌, ℕ, List, [], ◌∷◌};
+ghost use Rattle.std.specs.Prelude.{◌≡◌, ◌<◌, ℕ, List, [], ◌∷◌, length};
 ghost use Rattle.rtk_rinex.specs.Record.{EpochTableView};
 ghost use Rattle.rtk_tracking.specs.Epochs.{capped, newest_moment};
 ghost use Rattle.rtk_tracking.specs.Interval.{missing_in};
 ghost use Rattle.rtk_quality.specs.Records.{unit_of, record_counts_of};
 
 use rtk_obs::GpsMs;
-use rtk_rinex::EpochTable;
 use rtk_tracking::{greater, lesser, missing_between};
 
 /// The records so far, the epochs that are missing, the moment of the last record, and the satellites of
@@ -60,14 +59,12 @@ impl RecordCounts {
         }
     }
 
-    /// Counts one more record.
-    pub(crate) fn note_record(&mut self, unit_ms: u64, epoch: &EpochTable)
+    /// Counts one more record, which has the rows of so many satellites.
+    pub(crate) fn note_record(&mut self, unit_ms: u64, time: GpsMs, rows: u32)
         requires { 0 < unit_ms }
-        ensures { (es : List EpochTableView) → self.old ≡ record_counts_of unit_ms es
-            → self.new ≡ record_counts_of unit_ms (epoch.now ∷ es) }
+        ensures { (es : List EpochTableView) (e : EpochTableView) → e.time ≡ time → length e.rows ≡ rows → self.old ≡ record_counts_of unit_ms es
+            → self.new ≡ record_counts_of unit_ms (e ∷ es) }
     {
-        let time = epoch.time();
-        let rows = epoch.rows().len() as u32;
         self.missing = with_missing(self.missing, self.last, unit_ms, time);
         self.records = self.records.saturating_add(1);
         self.last = Some(time);

@@ -19,8 +19,8 @@ use crate::outages::Outage;
 use crate::pass_sums::PassSums;
 use crate::runs::HalfRun;
 use crate::satellite_counts::PassCounts;
-use crate::strengths::BandStrengths;
-use rtk_obs::{Civil, Code, put_civil, two_digits};
+use crate::strengths::{BandStrengths, ShownBands};
+use rtk_obs::{AnyCode, Civil, SatelliteIndex, put_civil, satellite_name};
 use std::alloc::AllocError;
 
 /// How much of a moment names its minute, and its second.
@@ -29,11 +29,10 @@ const MINUTE: usize = 16;
 const SECOND: usize = 19;
 
 /// Appends a satellite, as in G05.
-pub(crate) fn put_satellite(text: &mut Vec<u8>, satellite: u8) -> Result<(), AllocError>
+pub(crate) fn put_satellite(text: &mut Vec<u8>, satellite: SatelliteIndex) -> Result<(), AllocError>
     ensures { OnOk result (text.new.items ≡ text.old.items ++ satellite_mark satellite) }
 {
-    let digits = two_digits(satellite);
-    text.extend_from_slice(&[b'G', digits[0], digits[1]])
+    text.extend_from_slice(&satellite_name(satellite))
 }
 
 // Appends the numbers of a code, up to the end of their row.
@@ -69,8 +68,8 @@ fn put_numbers(text: &mut Vec<u8>, numbers: &CodeNumbers) -> Result<(), AllocErr
 #[tactic(auto, unfolding(crate::specs::Rows::signal_row))]
 pub(crate) fn put_signal_row(
     text: &mut Vec<u8>,
-    satellite: u8,
-    code: Code,
+    satellite: SatelliteIndex,
+    code: AnyCode,
     numbers: &CodeNumbers,
 ) -> Result<(), AllocError>
     ensures { OnOk result (text.new.items ≡ text.old.items ++ signal_row satellite code numbers.now) }
@@ -85,7 +84,7 @@ pub(crate) fn put_signal_row(
 #[tactic(auto, unfolding(crate::specs::Rows::code_row))]
 pub(crate) fn put_code_row(
     text: &mut Vec<u8>,
-    code: Code,
+    code: AnyCode,
     tracked: u64,
     numbers: &CodeNumbers,
 ) -> Result<(), AllocError>
@@ -105,7 +104,7 @@ pub(crate) fn put_code_row(
 #[tactic(auto, unfolding(crate::specs::Rows::tracked_row))]
 pub(crate) fn put_tracked_row(
     text: &mut Vec<u8>,
-    satellite: u8,
+    satellite: SatelliteIndex,
     sums: &PassSums,
 ) -> Result<(), AllocError>
     ensures { OnOk result (text.new.items ≡ text.old.items ++ tracked_row satellite sums.now) }
@@ -139,7 +138,7 @@ fn put_span(text: &mut Vec<u8>, from: Civil, until: Civil, width: usize) -> Resu
 #[tactic(auto, unfolding(crate::specs::Rows::pass_row))]
 pub(crate) fn put_pass_row(
     text: &mut Vec<u8>,
-    satellite: u8,
+    satellite: SatelliteIndex,
     pass: &PassCounts,
 ) -> Result<(), AllocError>
     ensures { OnOk result (text.new.items ≡ text.old.items ++ pass_row satellite pass.now) }
@@ -169,8 +168,12 @@ fn strength_cell(strengths: &BandStrengths) -> Cell
 
 /// Appends the row of an hour.
 #[tactic(auto, unfolding(crate::specs::Rows::hour_row))]
-pub(crate) fn put_hour_row(text: &mut Vec<u8>, hour: &HourCounts) -> Result<(), AllocError>
-    ensures { OnOk result (text.new.items ≡ text.old.items ++ hour_row hour.now) }
+pub(crate) fn put_hour_row(
+    text: &mut Vec<u8>,
+    bands: ShownBands,
+    hour: &HourCounts,
+) -> Result<(), AllocError>
+    ensures { OnOk result (text.new.items ≡ text.old.items ++ hour_row bands hour.now) }
 {
     let expected = hour.records.saturating_add(hour.missing);
     let mean = mean_tenths(hour.rows, hour.records);
@@ -184,9 +187,9 @@ pub(crate) fn put_hour_row(text: &mut Vec<u8>, hour: &HourCounts) -> Result<(), 
             Cell::new(11, Decimals::Tenths, mean),
             Cell::count(7, hour.locks.slips),
             Cell::count(8, hour.locks.returns),
-            strength_cell(&hour.strengths.l1),
-            strength_cell(&hour.strengths.l2),
-            strength_cell(&hour.strengths.l5),
+            strength_cell(&hour.strengths.of(bands.first)),
+            strength_cell(&hour.strengths.of(bands.second)),
+            strength_cell(&hour.strengths.of(bands.third)),
         ],
     )?;
     text.extend_from_slice(b"\n")

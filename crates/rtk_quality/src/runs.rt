@@ -4,7 +4,7 @@ ghost use Rattle.std.specs.Prelude.{◌≡◌};
 ghost use Rattle.rtk_quality.specs.Runs.{run_with, run_into, run_after, run_ended, half_run};
 
 use crate::largest::Measured;
-use rtk_obs::Civil;
+use rtk_obs::{Civil, SatelliteIndex};
 
 /// Epochs of a satellite that follow one another: the moments of the first and the last one, and how many.
 #[derive(Clone, Copy)]
@@ -17,7 +17,7 @@ pub(crate) struct Run {
 /// A run of half cycles of a satellite.
 #[derive(Clone, Copy)]
 pub(crate) struct HalfRun {
-    pub(crate) satellite: u8,
+    pub(crate) satellite: SatelliteIndex,
     pub(crate) run: Run,
 }
 
@@ -93,7 +93,7 @@ pub(crate) fn next_run(run: Option<Run>, begins: bool, half: bool, reading: Civi
 }
 
 /// The run of a satellite, if there is one.
-pub(crate) fn half_run(satellite: u8, run: Option<Run>) -> Option<HalfRun>
+pub(crate) fn half_run(satellite: SatelliteIndex, run: Option<Run>) -> Option<HalfRun>
     ensures { result ≡ half_run satellite run }
 {
     match run {

@@ -1,6 +1,6 @@
 //! The codes and the satellites.
 
-ghost use Rattle.std.specs.Prelude.{◌≡◌, ◌<◌, ◌≤◌, ℕ, ◌+◌, List, ◌++◌, length, reverse, flat_map, OnOk, Option};
+ghost use Rattle.std.specs.Prelude.{◌≡◌, ◌==◌, ◌<◌, ◌≤◌, ℕ, ◌+◌, List, ◌++◌, length, reverse, flat_map, OnOk, Option};
 ghost use Rattle.rtk_rinex.specs.Record.{EpochTableView};
 ghost use Rattle.rtk_tracking.specs.Passes.{Sighting};
 ghost use Rattle.rtk_quality.specs.Entries.{code_entry, pass_entry};
@@ -18,7 +18,8 @@ use crate::lines::put_never_line;
 use crate::lists::{begin_list, end_list};
 use crate::never::put_never_rows;
 use crate::satellite_counts::SatelliteCounts;
-use rtk_obs::Code;
+use crate::satellites::satellite_at;
+use rtk_obs::{AnyCode, SatelliteIndex};
 use std::alloc::AllocError;
 
 /// What a section has of each satellite.
@@ -64,12 +65,12 @@ fn section_key(section: Section) -> &'static [u8]
 fn put_each_code(
     text: &mut Vec<u8>,
     form: Form,
-    codes: &[Code],
+    codes: &[AnyCode],
     satellites: &[SatelliteCounts],
 ) -> Result<(), AllocError>
     requires { length codes.now ≤ 16 }
-    ensures { OnOk result ((interval : Option ℕ) (es : List EpochTableView) → StandForSatellites satellites.now interval es
-        → text.new.items ≡ text.old.items ++ each_code (λ place code. code_entry form code (satellites_in interval es) (code_of_station interval es place)) 0 codes.now) }
+    ensures { OnOk result ((most : ℕ) (interval : Option ℕ) (es : List EpochTableView) → StandForSatellites satellites.now most interval es
+        → text.new.items ≡ text.old.items ++ each_code (λ place code. code_entry form code (satellites_in most interval es) (code_of_station most interval es place)) 0 codes.now) }
 {
     let tracked = satellites_in(satellites) as u64;
     let possible = possible_in(satellites);
@@ -84,12 +85,12 @@ fn put_each_code(
 pub(crate) fn put_codes(
     text: &mut Vec<u8>,
     form: Form,
-    codes: &[Code],
+    codes: &[AnyCode],
     satellites: &[SatelliteCounts],
 ) -> Result<(), AllocError>
     requires { length codes.now ≤ 16 }
-    ensures { OnOk result ((interval : Option ℕ) (es : List EpochTableView) → StandForSatellites satellites.now interval es
-        → text.new.items ≡ text.old.items ++ codes_text form codes.now interval es) }
+    ensures { OnOk result ((most : ℕ) (interval : Option ℕ) (es : List EpochTableView) → StandForSatellites satellites.now most interval es
+        → text.new.items ≡ text.old.items ++ codes_text form codes.now most interval es) }
 {
     let start = begin_list(
         text,
@@ -107,8 +108,8 @@ fn put_code_in(
     text: &mut Vec<u8>,
     form: Form,
     section: Section,
-    satellite: u8,
-    code: Code,
+    satellite: SatelliteIndex,
+    code: AnyCode,
     numbers: &CodeNumbers,
 ) -> Result<(), AllocError>
     ensures { OnOk result (text.new.items ≡ text.old.items ++ code_in form section satellite code numbers.now) }
@@ -129,8 +130,8 @@ fn put_codes_in(
     text: &mut Vec<u8>,
     form: Form,
     section: Section,
-    codes: &[Code],
-    satellite: u8,
+    codes: &[AnyCode],
+    satellite: SatelliteIndex,
     counts: &SatelliteCounts,
 ) -> Result<(), AllocError>
     requires { length codes.now ≤ 16 }
@@ -143,17 +144,24 @@ fn put_codes_in(
     Ok(())
 }
 
+// Is a pass of this satellite?
+fn is_of(one: &EndedPass, satellite: SatelliteIndex) -> bool
+    ensures { result ≡ (one.now.satellite == satellite) }
+{
+    one.satellite.index() == satellite.index()
+}
+
 // Appends the passes of a satellite that ended.
 fn put_ended(
     text: &mut Vec<u8>,
     form: Form,
-    satellite: u8,
+    satellite: SatelliteIndex,
     ended: &[EndedPass],
 ) -> Result<(), AllocError>
     ensures { OnOk result (text.new.items ≡ text.old.items ++ flat_map (pass_entry form satellite) (ended_of satellite ended.now)) }
 {
     for one in ended {
-        if one.satellite == satellite {
+        if is_of(one, satellite) {
             put_pass_entry(text, form, satellite, &one.pass)?;
         }
     }
@@ -164,7 +172,7 @@ fn put_ended(
 fn put_passes(
     text: &mut Vec<u8>,
     form: Form,
-    satellite: u8,
+    satellite: SatelliteIndex,
     counts: &SatelliteCounts,
     ended: &[EndedPass],
 ) -> Result<(), AllocError>
@@ -186,8 +194,8 @@ fn put_part(
     text: &mut Vec<u8>,
     form: Form,
     section: Section,
-    codes: &[Code],
-    satellite: u8,
+    codes: &[AnyCode],
+    satellite: SatelliteIndex,
     counts: &SatelliteCounts,
     ended: &[EndedPass],
 ) -> Result<(), AllocError>
@@ -209,17 +217,17 @@ fn put_parts(
     text: &mut Vec<u8>,
     form: Form,
     section: Section,
-    codes: &[Code],
+    codes: &[AnyCode],
     satellites: &[SatelliteCounts],
     ended: &[EndedPass],
 ) -> Result<(), AllocError>
     requires few { length codes.now ≤ 16 }
-    requires size { length satellites.now ≡ 32 }
-    ensures { OnOk result ((interval : Option ℕ) (es : List EpochTableView) → StandForSatellites satellites.now interval es → StandForEnded ended.now interval es
-        → text.new.items ≡ text.old.items ++ parts_of form section codes.now interval es) }
+    requires size { length satellites.now ≤ 221 }
+    ensures { OnOk result ((most : ℕ) (interval : Option ℕ) (es : List EpochTableView) → StandForSatellites satellites.now most interval es → StandForEnded ended.now most interval es
+        → text.new.items ≡ text.old.items ++ parts_of form section codes.now most interval es) }
 {
     for (place, counts) in satellites.iter().enumerate() {
-        let satellite = place as u8 + 1;
+        let satellite = satellite_at(place);
         put_part(text, form, section, codes, satellite, counts, ended)?;
     }
     Ok(())
@@ -229,14 +237,14 @@ fn put_parts(
 fn put_never(
     text: &mut Vec<u8>,
     form: Form,
-    codes: &[Code],
+    codes: &[AnyCode],
     satellites: &[SatelliteCounts],
     ended: &[EndedPass],
 ) -> Result<(), AllocError>
     requires few { length codes.now ≤ 16 }
-    requires size { length satellites.now ≡ 32 }
-    ensures { OnOk result ((interval : Option ℕ) (es : List EpochTableView) → StandForSatellites satellites.now interval es → StandForEnded ended.now interval es
-        → text.new.items ≡ text.old.items ++ section_entries form Never codes.now interval es) }
+    requires size { length satellites.now ≤ 221 }
+    ensures { OnOk result ((most : ℕ) (interval : Option ℕ) (es : List EpochTableView) → StandForSatellites satellites.now most interval es → StandForEnded ended.now most interval es
+        → text.new.items ≡ text.old.items ++ section_entries form Never codes.now most interval es) }
 {
     match form {
         Form::Table => put_never_rows(text, codes, satellites),
@@ -251,14 +259,14 @@ fn put_entries(
     text: &mut Vec<u8>,
     form: Form,
     section: Section,
-    codes: &[Code],
+    codes: &[AnyCode],
     satellites: &[SatelliteCounts],
     ended: &[EndedPass],
 ) -> Result<(), AllocError>
     requires few { length codes.now ≤ 16 }
-    requires size { length satellites.now ≡ 32 }
-    ensures { OnOk result ((interval : Option ℕ) (es : List EpochTableView) → StandForSatellites satellites.now interval es → StandForEnded ended.now interval es
-        → text.new.items ≡ text.old.items ++ section_entries form section codes.now interval es) }
+    requires size { length satellites.now ≤ 221 }
+    ensures { OnOk result ((most : ℕ) (interval : Option ℕ) (es : List EpochTableView) → StandForSatellites satellites.now most interval es → StandForEnded ended.now most interval es
+        → text.new.items ≡ text.old.items ++ section_entries form section codes.now most interval es) }
 {
     match section {
         Section::Never => put_never(text, form, codes, satellites, ended),
@@ -273,14 +281,14 @@ pub(crate) fn put_section(
     text: &mut Vec<u8>,
     form: Form,
     section: Section,
-    codes: &[Code],
+    codes: &[AnyCode],
     satellites: &[SatelliteCounts],
     ended: &[EndedPass],
 ) -> Result<(), AllocError>
     requires few { length codes.now ≤ 16 }
-    requires size { length satellites.now ≡ 32 }
-    ensures { OnOk result ((interval : Option ℕ) (es : List EpochTableView) → StandForSatellites satellites.now interval es → StandForEnded ended.now interval es
-        → text.new.items ≡ text.old.items ++ section_text form section codes.now interval es) }
+    requires size { length satellites.now ≤ 221 }
+    ensures { OnOk result ((most : ℕ) (interval : Option ℕ) (es : List EpochTableView) → StandForSatellites satellites.now most interval es → StandForEnded ended.now most interval es
+        → text.new.items ≡ text.old.items ++ section_text form section codes.now most interval es) }
 {
     let heading = section_heading(section);
     let key = section_key(section);

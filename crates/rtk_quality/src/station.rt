@@ -3,7 +3,7 @@
 ghost use Rattle.std.specs.Prelude.{◌≡◌, ◌++◌, flat_map, OnOk};
 ghost use Rattle.rtk_quality.specs.Entries.{hour_entry, fall_part};
 ghost use Rattle.rtk_quality.specs.Lists.{more_text, largest_text};
-ghost use Rattle.rtk_quality.specs.QualityText.{hours_text, gaps_text, outages_text, moments_text, bursts_text, runs_text, missing_text, falls_of, falls_text};
+ghost use Rattle.rtk_quality.specs.QualityText.{hours_heading, hours_text, gaps_text, outages_text, moments_text, bursts_text, runs_text, missing_text, falls_of, falls_text};
 
 use crate::bursts::Burst;
 use crate::entries::{Listed, put_fall_entry, put_hour_entry};
@@ -17,15 +17,16 @@ use crate::missing::MissingCode;
 use crate::moments::Moment;
 use crate::outages::Outage;
 use crate::runs::HalfRun;
-use rtk_message::put_number;
-use rtk_obs::{Band, Code};
+use crate::strengths::{CodeBand, system_of_codes};
+use rtk_message::{System, put_number};
+use rtk_obs::AnyCode;
 use std::alloc::AllocError;
 
 // Appends each hour.
 fn put_each_hour(
     text: &mut Vec<u8>,
     form: Form,
-    codes: &[Code],
+    codes: &[AnyCode],
     hours: &[HourCounts],
 ) -> Result<(), AllocError>
     ensures { OnOk result (text.new.items ≡ text.old.items ++ flat_map (hour_entry form codes.now) hours.now) }
@@ -36,21 +37,33 @@ fn put_each_hour(
     Ok(())
 }
 
+// The heading of the columns of hours, with the bands of a system.
+fn hours_heading(system: System) -> &'static [u8]
+    ensures { result.now ≡ hours_heading system }
+{
+    match system {
+        System::Galileo => {
+            b"\nhour             records    of satellites  slips returns  band 1  band 5  band 7\n"
+        }
+        System::Beidou => {
+            b"\nhour             records    of satellites  slips returns  band 2  band 6  band 7\n"
+        }
+        _ =>
+            b"\nhour             records    of satellites  slips returns  band 1  band 2  band 5\n",
+    }
+}
+
 /// Appends the hours.
 pub(crate) fn put_hours(
     text: &mut Vec<u8>,
     form: Form,
-    codes: &[Code],
+    codes: &[AnyCode],
     hours: &[HourCounts],
 ) -> Result<(), AllocError>
     ensures { OnOk result (text.new.items ≡ text.old.items ++ hours_text form codes.now hours.now) }
 {
-    let start = begin_list(
-        text,
-        form,
-        b"\nhour             records    of satellites  slips returns  band 1  band 2  band 5\n",
-        b",\n\"hours\":[",
-    )?;
+    let heading = hours_heading(system_of_codes(codes));
+    let start = begin_list(text, form, heading, b",\n\"hours\":[")?;
     put_each_hour(text, form, codes, hours)?;
     end_list(text, form, start)?;
     Ok(())
@@ -214,7 +227,7 @@ fn put_fall(
     text: &mut Vec<u8>,
     form: Form,
     hours: &[HourCounts],
-    band: Band,
+    band: CodeBand,
 ) -> Result<(), AllocError>
     ensures { OnOk result (text.new.items ≡ text.old.items ++ fall_part form hours.now band) }
 {
@@ -229,9 +242,12 @@ fn put_fall(
 fn put_each_fall(text: &mut Vec<u8>, form: Form, hours: &[HourCounts]) -> Result<(), AllocError>
     ensures { OnOk result (text.new.items ≡ text.old.items ++ falls_of form hours.now) }
 {
-    put_fall(text, form, hours, Band::L1)?;
-    put_fall(text, form, hours, Band::L2)?;
-    put_fall(text, form, hours, Band::L5)?;
+    put_fall(text, form, hours, CodeBand::B1)?;
+    put_fall(text, form, hours, CodeBand::B2)?;
+    put_fall(text, form, hours, CodeBand::B5)?;
+    put_fall(text, form, hours, CodeBand::B6)?;
+    put_fall(text, form, hours, CodeBand::B7)?;
+    put_fall(text, form, hours, CodeBand::B8)?;
     Ok(())
 }
 

@@ -1,7 +1,7 @@
 //! The lines of hours, of falls, and of the lists of the ten largest things.
 
 ghost use Rattle.std.specs.Prelude.{◌≡◌, ◌++◌, OnOk};
-ghost use Rattle.rtk_quality.specs.StationText.{has_band, strength_words, strength_key, strength_text, hour_counts_text, hour_line, gap_line, outage_line, together_line, burst_line, run_line, missing_line, fall_line};
+ghost use Rattle.rtk_quality.specs.StationText.{has_band, strength_words, strength_key, strength_text, all_strengths_text, hour_counts_text, hour_line, gap_line, outage_line, together_line, burst_line, run_line, missing_line, fall_line};
 
 use crate::bursts::Burst;
 use crate::code_numbers::{mean_hundredths, mean_tenths};
@@ -14,37 +14,43 @@ use crate::missing::MissingCode;
 use crate::moments::Moment;
 use crate::outages::Outage;
 use crate::runs::HalfRun;
-use crate::strengths::{Strengths, number_of};
-use rtk_obs::{Band, Code};
+use crate::strengths::{CodeBand, Strengths, band_of, number_of};
+use rtk_obs::AnyCode;
 use std::alloc::AllocError;
 
 // Is a code of this band?
-fn has_band(codes: &[Code], band: Band) -> bool
+fn has_band(codes: &[AnyCode], band: CodeBand) -> bool
     ensures { result ≡ has_band codes.now band }
 {
     let number = number_of(band);
-    codes.iter().any(|code| number_of(code.band()) == number)
+    codes.iter().any(|code| number_of(band_of(*code)) == number)
 }
 
 // The words before the mean strength of a band in a line.
-fn strength_words(band: Band) -> &'static [u8]
+fn strength_words(band: CodeBand) -> &'static [u8]
     ensures { result.now ≡ strength_words band }
 {
     match band {
-        Band::L1 => b" mean-strength-1 ",
-        Band::L2 => b" mean-strength-2 ",
-        Band::L5 => b" mean-strength-5 ",
+        CodeBand::B1 => b" mean-strength-1 ",
+        CodeBand::B2 => b" mean-strength-2 ",
+        CodeBand::B5 => b" mean-strength-5 ",
+        CodeBand::B6 => b" mean-strength-6 ",
+        CodeBand::B7 => b" mean-strength-7 ",
+        CodeBand::B8 => b" mean-strength-8 ",
     }
 }
 
 // The key of the mean strength of a band.
-fn strength_key(band: Band) -> &'static [u8]
+fn strength_key(band: CodeBand) -> &'static [u8]
     ensures { result.now ≡ strength_key band }
 {
     match band {
-        Band::L1 => b",\"mean_strength_1_centidbhz\":",
-        Band::L2 => b",\"mean_strength_2_centidbhz\":",
-        Band::L5 => b",\"mean_strength_5_centidbhz\":",
+        CodeBand::B1 => b",\"mean_strength_1_centidbhz\":",
+        CodeBand::B2 => b",\"mean_strength_2_centidbhz\":",
+        CodeBand::B5 => b",\"mean_strength_5_centidbhz\":",
+        CodeBand::B6 => b",\"mean_strength_6_centidbhz\":",
+        CodeBand::B7 => b",\"mean_strength_7_centidbhz\":",
+        CodeBand::B8 => b",\"mean_strength_8_centidbhz\":",
     }
 }
 
@@ -52,9 +58,9 @@ fn strength_key(band: Band) -> &'static [u8]
 fn put_strength(
     text: &mut Vec<u8>,
     form: Form,
-    codes: &[Code],
+    codes: &[AnyCode],
     strengths: &Strengths,
-    band: Band,
+    band: CodeBand,
 ) -> Result<(), AllocError>
     ensures { OnOk result (text.new.items ≡ text.old.items ++ strength_text form codes.now strengths.now band) }
 {
@@ -66,6 +72,25 @@ fn put_strength(
     let words = strength_words(band);
     let key = strength_key(band);
     put_value(text, form, words, key, Decimals::Hundredths, mean)
+}
+
+// Appends the mean strengths of all bands.
+#[tactic(auto, unfolding(crate::specs::StationText::all_strengths_text))]
+fn put_strengths(
+    text: &mut Vec<u8>,
+    form: Form,
+    codes: &[AnyCode],
+    strengths: &Strengths,
+) -> Result<(), AllocError>
+    ensures { OnOk result (text.new.items ≡ text.old.items ++ all_strengths_text form codes.now strengths.now) }
+{
+    put_strength(text, form, codes, strengths, CodeBand::B1)?;
+    put_strength(text, form, codes, strengths, CodeBand::B2)?;
+    put_strength(text, form, codes, strengths, CodeBand::B5)?;
+    put_strength(text, form, codes, strengths, CodeBand::B6)?;
+    put_strength(text, form, codes, strengths, CodeBand::B7)?;
+    put_strength(text, form, codes, strengths, CodeBand::B8)?;
+    Ok(())
 }
 
 // Appends the numbers of an hour.
@@ -101,7 +126,7 @@ fn put_hour_counts(text: &mut Vec<u8>, form: Form, hour: &HourCounts) -> Result<
 pub(crate) fn put_hour_line(
     text: &mut Vec<u8>,
     form: Form,
-    codes: &[Code],
+    codes: &[AnyCode],
     hour: &HourCounts,
 ) -> Result<(), AllocError>
     ensures { OnOk result (text.new.items ≡ text.old.items ++ hour_line form codes.now hour.now) }
@@ -109,9 +134,7 @@ pub(crate) fn put_hour_line(
     put_start(text, form, b"hour")?;
     put_moment(text, form, b" ", b"\"hour\":", start_of(hour.hour))?;
     put_hour_counts(text, form, hour)?;
-    put_strength(text, form, codes, &hour.strengths, Band::L1)?;
-    put_strength(text, form, codes, &hour.strengths, Band::L2)?;
-    put_strength(text, form, codes, &hour.strengths, Band::L5)?;
+    put_strengths(text, form, codes, &hour.strengths)?;
     put_end(text, form)?;
     Ok(())
 }
@@ -227,7 +250,7 @@ pub(crate) fn put_missing_line(
 pub(crate) fn put_fall_line(
     text: &mut Vec<u8>,
     form: Form,
-    band: Band,
+    band: CodeBand,
     fall: &Fall,
 ) -> Result<(), AllocError>
     ensures { OnOk result (text.new.items ≡ text.old.items ++ fall_line form band fall.now) }

@@ -1,9 +1,9 @@
 -- What one more record adds to the hours, and one more phase to the outages. What came is listed newest first.
 use Rattle.std.specs.Prelude.{◌≡◌, ℕ, ◌-◌, ◌/◌, ◌+◌, ◌%◌, ◌==◌, min, List, [], ◌∷◌, ◌++◌, length, reverse, Option, None, Some, if◌then◌else◌}
-use Rattle.rtk_obs.specs.Code.{band_of}
-use Rattle.rtk_obs.specs.declared.code.Band.{Band}
-use Rattle.rtk_obs.specs.declared.code.Band.TheVariants.{L1, L2, L5}
-use Rattle.rtk_obs.specs.declared.code.Code.{Code}
+use Rattle.rtk_quality.specs.Strengths.{band_in_name}
+use Rattle.rtk_quality.specs.declared.strengths.CodeBand.{CodeBand}
+use Rattle.rtk_quality.specs.declared.strengths.CodeBand.TheVariants.{B1, B2, B5, B6, B7, B8}
+use Rattle.rtk_obs.specs.declared.any_code.AnyCode.{AnyCode}
 use Rattle.rtk_obs.specs.declared.time.Civil.{Civil}
 use Rattle.rtk_rinex.specs.Record.{EpochTableView}
 use Rattle.rtk_rinex.specs.declared.epoch_table.Observed.{Observed}
@@ -72,7 +72,7 @@ abbrev pub no_strengths : BandStrengths
 no_strengths = record { count = 0; sum = 0 }
 
 abbrev pub all_without : Strengths
-all_without = record { l1 = no_strengths; l2 = no_strengths; l5 = no_strengths }
+all_without = record { b1 = no_strengths; b2 = no_strengths; b5 = no_strengths; b6 = no_strengths; b7 = no_strengths; b8 = no_strengths }
 
 -- with one strength more, if it is there
 abbrev pub with_one : BandStrengths → Option ℕ → BandStrengths
@@ -80,19 +80,22 @@ with_one b None = b
 with_one b (Some strength) = record { count = plus b.count 1; sum = plus b.sum strength }
 
 -- with the strength of a band
-abbrev pub with_strength : Band → Option ℕ → Strengths → Strengths
-with_strength L1 strength s = record { l1 = with_one s.l1 strength; l2 = s.l2; l5 = s.l5 }
-with_strength L2 strength s = record { l1 = s.l1; l2 = with_one s.l2 strength; l5 = s.l5 }
-with_strength L5 strength s = record { l1 = s.l1; l2 = s.l2; l5 = with_one s.l5 strength }
+abbrev pub with_strength : CodeBand → Option ℕ → Strengths → Strengths
+with_strength B1 strength s = record { b1 = with_one s.b1 strength; b2 = s.b2; b5 = s.b5; b6 = s.b6; b7 = s.b7; b8 = s.b8 }
+with_strength B2 strength s = record { b1 = s.b1; b2 = with_one s.b2 strength; b5 = s.b5; b6 = s.b6; b7 = s.b7; b8 = s.b8 }
+with_strength B5 strength s = record { b1 = s.b1; b2 = s.b2; b5 = with_one s.b5 strength; b6 = s.b6; b7 = s.b7; b8 = s.b8 }
+with_strength B6 strength s = record { b1 = s.b1; b2 = s.b2; b5 = s.b5; b6 = with_one s.b6 strength; b7 = s.b7; b8 = s.b8 }
+with_strength B7 strength s = record { b1 = s.b1; b2 = s.b2; b5 = s.b5; b6 = s.b6; b7 = with_one s.b7 strength; b8 = s.b8 }
+with_strength B8 strength s = record { b1 = s.b1; b2 = s.b2; b5 = s.b5; b6 = s.b6; b7 = s.b7; b8 = with_one s.b8 strength }
 
 -- with the strengths of a satellite, each of which counts for the band of its code
-abbrev pub with_row : List Code → List Observed → Strengths → Strengths
+abbrev pub with_row : List AnyCode → List Observed → Strengths → Strengths
 with_row [] os s = s
 with_row (c ∷ cs) [] s = s
-with_row (c ∷ cs) (o ∷ os) s = with_row cs os (with_strength (band_of c) o.strength_millidbhz s)
+with_row (c ∷ cs) (o ∷ os) s = with_row cs os (with_strength (band_in_name c) o.strength_millidbhz s)
 
 -- with the strengths of the rows of a record
-abbrev pub with_rows : List Code → List SatelliteRow → Strengths → Strengths
+abbrev pub with_rows : List AnyCode → List SatelliteRow → Strengths → Strengths
 with_rows listed [] s = s
 with_rows listed (r ∷ rows) s = with_rows listed rows (with_row listed r.observed.items s)
 
@@ -103,7 +106,7 @@ abbrev pub without_records : ℕ → HourCounts
 without_records hour = record { hour = hour; records = 0; missing = 0; rows = 0; locks = no_locks; strengths = all_without }
 
 -- an hour with one more record, before which so many epochs are missing in it
-abbrev pub with_record : ℕ → List Code → List SatelliteRow → Locks → HourCounts → HourCounts
+abbrev pub with_record : ℕ → List AnyCode → List SatelliteRow → Locks → HourCounts → HourCounts
 with_record missing listed rows locks h =
     record {
       hour = h.hour;
@@ -138,13 +141,13 @@ older_hours [] = []
 older_hours (h ∷ hs) = hs
 
 -- hours with one more record
-abbrev pub hours_with : Option ℕ → ℕ → Option ℕ → List Code → ℕ → List SatelliteRow → Locks → List HourCounts → List HourCounts
+abbrev pub hours_with : Option ℕ → ℕ → Option ℕ → List AnyCode → ℕ → List SatelliteRow → Locks → List HourCounts → List HourCounts
 hours_with interval unit last listed t rows locks hs =
     with_record (missing_since interval unit last t) listed rows locks (hour_onto (hour_at interval t) (newest_hour hs))
     ∷ ended_by (hour_at interval t) (missing_until interval unit last t) (newest_hour hs) ++ older_hours hs
 
 -- the hours of records that were noted one after another
-abbrev pub noted_hours : Option ℕ → ℕ → List Code → List EpochTableView → List HourCounts
+abbrev pub noted_hours : Option ℕ → ℕ → List AnyCode → List EpochTableView → List HourCounts
 noted_hours interval unit listed [] = []
 noted_hours interval unit listed (e ∷ es) =
     hours_with interval unit (newest_moment es) listed e.time e.rows (locks_onto interval es e.time no_locks e.rows) (noted_hours interval unit listed es)

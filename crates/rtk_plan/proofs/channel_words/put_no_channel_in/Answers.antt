@@ -10,6 +10,6 @@ returns c =
     let ss = c.args.surveys.now in
     let setup = c.args.setup.now in
     c.in_ok-put_no_channel_if.ensures
-    ∙ ap (λ (n : ℕ). old ++ no_channel_lines ss n c.kinds.result.glonass c.glonass.result) c.station.ensures.value
-    ∙ ap (λ (ks : SystemKinds). old ++ no_channel_lines ss setup.station ks.glonass c.glonass.result) c.kinds.ensures
+    ∙ ap (λ (n : ℕ). old ++ no_channel_lines ss n c.kinds-kind.result.glonass c.glonass.result) c.station.ensures.value
+    ∙ ap (λ (ks : SystemKinds). old ++ no_channel_lines ss setup.station ks.glonass c.glonass.result) c.kinds-kind.ensures
     ∙ ap (λ (g : Option GlonassView). old ++ no_channel_lines ss setup.station setup.kinds.glonass g) (c.glonass.ensures.value ∙ ap (λ (h : MixedHeadView). h.glonass) c.head.ensures.value)

@@ -12,7 +12,7 @@ pub loop-field-preserved : goal.loop-field-preserved
 loop-field-preserved c =
     let counts : ℕ → ℕ = count_told c.args.surveys.now c.args.source c.args.slot in
     let n : ℕ = c.loop-field.field in
-    let is : c.most_told_with.result ≡ most_told_with c.loop-field.told n (counts n) = c.most_told_with.ensures ∙ ap (λ (k : ℕ). most_told_with c.loop-field.told n k) c.count_told.ensures in
+    let is : c.most_told_with-told.result ≡ most_told_with c.loop-field.told n (counts n) = c.most_told_with-told.ensures ∙ ap (λ (k : ℕ). most_told_with c.loop-field.told n k) c.count_told.ensures in
     subst (λ (t : MostTold). IsToldSoFar counts (n + 1) t) (sym is) (told-step counts n c.loop-field.told c.loop-field.invariant)
 
 pub returns : goal.returns

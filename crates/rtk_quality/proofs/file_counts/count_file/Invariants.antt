@@ -9,7 +9,7 @@ invariant-loop-record l = record {
   size : length l.counts.satellites.items ≡ 32;
   codes : length l.counts.codes.items ≡ 32;
   counts : (t : WellFormedTable) → IsWellFormedTable t → l.table.text ≡ table_text t
-      → HasCome (λ counts es. IsCounting counts l.interval l.unit_ms l.codes es) l.records l.counts t.epochs;
+      → HasCome (λ counts es. IsCounting counts 32 l.interval l.unit_ms l.codes es) l.records l.counts t.epochs;
 }
 
 abbrev pub decreases-loop-record : goal.decreases-loop-record

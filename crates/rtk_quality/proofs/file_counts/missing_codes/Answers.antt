@@ -1,4 +1,4 @@
-use Rattle.std.proofs.Common.{◌≡◌, ◌∙◌, ◌<◌, ◌+◌, ◌++◌, ◌∷◌, [], ℕ, List, length, ap, arith, subst, sym, All, Option}
+use Rattle.std.proofs.Common.{◌≡◌, ◌∙◌, ◌<◌, ◌+◌, [], ℕ, List, length, ap, arith, subst, sym, All, Option}
 use Rattle.std.proofs.lemmas.List.{length_push}
 use Rattle.std.proofs.lemmas.List.Elements.{All-push}
 use Rattle.rtk_quality.specs.Standing.{StandForCodes}
@@ -18,7 +18,7 @@ loop-satellite-preserved c =
 
 pub returns : goal.returns
 returns c = λ interval.
-    let size : length c.loop-satellite.missing.items ≡ 32 = omega (arith, c.loop-satellite.invariant.size, c.loop-satellite-test.false, c.loop-satellite.auto._satellite-end) in
+    let size : length c.loop-satellite.missing.items ≡ c.args.most = omega (arith, c.loop-satellite.invariant.size, c.loop-satellite-test.false, c.loop-satellite.auto._satellite-end) in
     record {
       size = size;
       each = λ place d within.

@@ -14,8 +14,8 @@ use Rattle.rtk_quality.proofs.file_counts.note_last.Given as goal
 abbrev pub invariant-loop-place : goal.invariant-loop-place
 invariant-loop-place l = record {
   outages : l.events.outages ≡ l.fn.events.outages;
-  runs : (interval : Option ℕ) (es : List EpochTableView) (all : List HalfRun) → StandForSatellites l.satellites interval es → AreLargest size_of_run l.fn.events.runs all
+  runs : (most : ℕ) (interval : Option ℕ) (es : List EpochTableView) (all : List HalfRun) → StandForSatellites l.satellites most interval es → AreLargest size_of_run l.fn.events.runs all
       → AreLargest size_of_run l.events.runs (all ++ flat_map (λ satellite. list_of (half_run satellite (open_run interval (sightings_of satellite es)))) (range_with_len 1 l.place));
-  bursts : (interval : Option ℕ) (es : List EpochTableView) (all : List Burst) → StandForSatellites l.satellites interval es → AreLargest size_of_burst l.fn.events.bursts all
+  bursts : (most : ℕ) (interval : Option ℕ) (es : List EpochTableView) (all : List Burst) → StandForSatellites l.satellites most interval es → AreLargest size_of_burst l.fn.events.bursts all
       → AreLargest size_of_burst l.events.bursts (all ++ flat_map (λ satellite. list_of (burst_of satellite (last_hour interval (sightings_of satellite es)))) (range_with_len 1 l.place));
 }

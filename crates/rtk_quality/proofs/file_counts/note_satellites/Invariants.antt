@@ -6,6 +6,6 @@ use Rattle.rtk_quality.proofs.file_counts.note_satellites.Given as goal
 
 abbrev pub invariant-loop-place : goal.invariant-loop-place
 invariant-loop-place l = record {
-  size : length l.satellites.items ≡ 32;
-  satellites : (interval : Option ℕ) (time : ℕ) (es : List EpochTableView) → StandForSatellites l.fn.satellites.items interval es → AreUpTo l.place l.satellites.items interval (without_rows time) es;
+  size : length l.satellites.items ≡ length l.fn.satellites.items;
+  satellites : (most : ℕ) (interval : Option ℕ) (time : ℕ) (es : List EpochTableView) → StandForSatellites l.fn.satellites.items most interval es → AreUpTo l.place most l.satellites.items interval (without_rows time) es;
 }

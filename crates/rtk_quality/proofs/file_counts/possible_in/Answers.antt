@@ -8,14 +8,14 @@ use Rattle.rtk_quality.proofs.FileLemmas.{possible-more}
 use Rattle.rtk_quality.proofs.file_counts.possible_in.Goals as goal
 
 pub loop-satellite-preserved : goal.loop-satellite-preserved
-loop-satellite-preserved c = λ interval es stand.
-    let within : c.loop-satellite.satellite-index < 32 = omega (arith, c.loop-satellite-test.true, stand.size) in
+loop-satellite-preserved c = λ most interval es stand.
+    let within : c.loop-satellite.satellite-index < most = omega (arith, c.loop-satellite-test.true, stand.size) in
     possible-more interval es c.loop-satellite.satellite-index c.loop-satellite.possible c.possible.result c.saturating_add-possible.result
-    (c.loop-satellite.invariant interval es stand) (c.possible.ensures interval (sightings_of (c.loop-satellite.satellite-index + 1) es) (stand.each c.loop-satellite.satellite-index _ within)) c.saturating_add-possible.ensures
+    (c.loop-satellite.invariant most interval es stand) (c.possible.ensures interval (sightings_of (c.loop-satellite.satellite-index + 1) es) (stand.each c.loop-satellite.satellite-index _ within)) c.saturating_add-possible.ensures
 
 pub returns : goal.returns
 unfolding possible_in
-returns c = λ interval es stand.
-    let end : c.loop-satellite.satellite-index ≡ 32 = omega (arith, c.loop-satellite-test.false, c.loop-satellite.auto.satellite-index-end, stand.size) in
-    c.loop-satellite.invariant interval es stand
+returns c = λ most interval es stand.
+    let end : c.loop-satellite.satellite-index ≡ most = omega (arith, c.loop-satellite-test.false, c.loop-satellite.auto.satellite-index-end, stand.size) in
+    c.loop-satellite.invariant most interval es stand
     ∙ ap (λ (k : ℕ). fold (λ n satellite. plus n (epochs_in_passes interval (sightings_of satellite es))) 0 (range_with_len 1 k)) end

@@ -9,5 +9,5 @@ use Rattle.rtk_quality.proofs.file_counts.possible_in.Given as goal
 
 abbrev pub invariant-loop-satellite : goal.invariant-loop-satellite
 invariant-loop-satellite l =
-    (interval : Option ℕ) (es : List EpochTableView) → StandForSatellites l.satellites interval es
+    (most : ℕ) (interval : Option ℕ) (es : List EpochTableView) → StandForSatellites l.satellites most interval es
     → l.possible ≡ fold (λ n satellite. plus n (epochs_in_passes interval (sightings_of satellite es))) 0 (range_with_len 1 l.satellite-index)

@@ -9,6 +9,6 @@ use Rattle.rtk_quality.proofs.file_counts.satellites_in.Given as goal
 abbrev pub invariant-loop-satellite : goal.invariant-loop-satellite
 invariant-loop-satellite l = record {
   few : l.seen ≤ l.satellite-index;
-  many : (interval : Option ℕ) (es : List EpochTableView) → StandForSatellites l.satellites interval es
+  many : (most : ℕ) (interval : Option ℕ) (es : List EpochTableView) → StandForSatellites l.satellites most interval es
       → l.seen ≡ count_by (λ satellite. is_in_file interval (sightings_of satellite es)) (range_with_len 1 l.satellite-index);
 }

@@ -8,5 +8,5 @@ use Rattle.rtk_quality.proofs.file_counts.station_sums.Given as goal
 
 abbrev pub invariant-loop-satellite : goal.invariant-loop-satellite
 invariant-loop-satellite l =
-    (interval : Option ℕ) (es : List EpochTableView) → StandForSatellites l.satellites interval es
+    (most : ℕ) (interval : Option ℕ) (es : List EpochTableView) → StandForSatellites l.satellites most interval es
     → l.sums ≡ fold (λ sums satellite. sums_plus sums (sums_in interval (sightings_of satellite es))) no_sums (range_with_len 1 l.satellite-index)

@@ -8,5 +8,5 @@ use Rattle.rtk_quality.proofs.file_counts.totals_of.Given as goal
 
 abbrev pub invariant-loop-satellite : goal.invariant-loop-satellite
 invariant-loop-satellite l =
-    (interval : Option ℕ) (es : List EpochTableView) → StandForSatellites l.satellites interval es
+    (most : ℕ) (interval : Option ℕ) (es : List EpochTableView) → StandForSatellites l.satellites most interval es
     → l.totals ≡ fold (λ total satellite. with_satellite total (numbers_of interval (sightings_of satellite es) l.place)) no_numbers (range_with_len 1 l.satellite-index)

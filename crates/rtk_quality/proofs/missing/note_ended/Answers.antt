@@ -1,4 +1,4 @@
-use Rattle.std.proofs.Common.{◌≡◌, ◌≤◌, ◌++◌, List, length, map, take, sym, subst, arith}
+use Rattle.std.proofs.Common.{◌≤◌, ◌++◌, List, length, map, sym, subst, arith}
 use Rattle.std.proofs.lemmas.List.{append-nil, take_all}
 use Rattle.rtk_quality.specs.Largest.{AreLargest}
 use Rattle.rtk_quality.specs.Missing.{missing_code, size_of_missing}

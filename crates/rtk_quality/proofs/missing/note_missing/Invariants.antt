@@ -1,4 +1,4 @@
-use Rattle.std.proofs.Common.{◌++◌, List, length}
+use Rattle.std.proofs.Common.{◌++◌, ℕ, List, length}
 use Rattle.std.specs.Prelude.{flat_map}
 use Rattle.std.specs.List.{range_with_len}
 use Rattle.rtk_rinex.specs.Record.{EpochTableView}
@@ -11,6 +11,6 @@ use Rattle.rtk_quality.proofs.missing.note_missing.Given as goal
 
 abbrev pub invariant-loop-place : goal.invariant-loop-place
 invariant-loop-place l =
-    (es : List EpochTableView) (all : List MissingCode) → StandForSatellites l.satellites l.interval es → StandForMissing l.runs (length l.codes) l.interval es
+    (most : ℕ) (es : List EpochTableView) (all : List MissingCode) → StandForSatellites l.satellites most l.interval es → StandForMissing l.runs (length l.codes) most l.interval es
     → AreLargest size_of_missing l.fn.missing all
     → AreLargest size_of_missing l.missing (all ++ flat_map (λ satellite. missing_from l.interval (sightings_of satellite es) satellite 0 l.codes) (range_with_len 1 l.place))

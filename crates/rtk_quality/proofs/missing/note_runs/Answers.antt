@@ -1,6 +1,5 @@
-use Rattle.std.proofs.Common.{◌≡◌, ◌∙◌, ◌++◌, ◌∷◌, [], ℕ, List, Option, Some, None, map, ap, subst, sym}
+use Rattle.std.proofs.Common.{◌≡◌, ◌∙◌, ◌++◌, List, Option, Some, None, map, ap, subst, sym}
 use Rattle.std.proofs.lemmas.List.{append-nil}
-use Rattle.rtk_tracking.specs.Passes.{Sighting}
 use Rattle.rtk_quality.specs.Largest.{list_of, AreLargest}
 use Rattle.rtk_quality.specs.Missing.{if_listed, ended_missings, open_missing, missing_code, size_of_missing}
 use Rattle.rtk_quality.specs.declared.missing.MissingCode.{MissingCode}

@@ -1,6 +1,6 @@
-use Rattle.std.proofs.Common.{◌≡◌, ◌<◌, ◌≤◌, ◌++◌, ℕ, List, length, take, refl, sym, subst, arith}
+use Rattle.std.proofs.Common.{◌<◌, ◌≤◌, ◌++◌, ℕ, List, length, sym, subst, arith}
 use Rattle.std.proofs.lemmas.List.{append-nil, take_all}
-use Rattle.rtk_obs.specs.declared.code.Code.{Code}
+use Rattle.rtk_obs.specs.declared.any_code.AnyCode.{AnyCode}
 use Rattle.rtk_quality.specs.Largest.{AreLargest}
 use Rattle.rtk_quality.specs.Missing.{missing_from, size_of_missing}
 use Rattle.rtk_quality.specs.Standing.{StandsForMissing}
@@ -29,5 +29,5 @@ returns-in_default c = λ before all counts runs are.
 pub returns : goal.returns
 returns c = λ before all counts runs are.
     let end : length c.args.codes.now ≤ c.loop-place.place = omega (arith, c.loop-place-test.false) in
-    subst (λ (cs : List Code). AreLargest size_of_missing c.loop-place.missing (all ++ missing_from c.args.interval before c.args.satellite 0 cs))
+    subst (λ (cs : List AnyCode). AreLargest size_of_missing c.loop-place.missing (all ++ missing_from c.args.interval before c.args.satellite 0 cs))
     (take_all c.loop-place.place c.args.codes.now end) (c.loop-place.invariant before all counts runs are)

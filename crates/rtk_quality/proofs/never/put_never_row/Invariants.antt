@@ -8,5 +8,5 @@ use Rattle.rtk_quality.proofs.never.put_never_row.Given as goal
 
 abbrev pub invariant-loop-place : goal.invariant-loop-place
 invariant-loop-place l =
-    (interval : Option ℕ) (es : List EpochTableView) → StandForSatellites l.satellites interval es
+    (most : ℕ) (interval : Option ℕ) (es : List EpochTableView) → StandForSatellites l.satellites most interval es
     → l.text.items ≡ l.fn.text.items ++ flat_map (row_part interval es l.code l.at) (range_with_len 0 l.place)

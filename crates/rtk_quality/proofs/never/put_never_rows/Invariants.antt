@@ -6,5 +6,5 @@ use Rattle.rtk_quality.proofs.never.put_never_rows.Given as goal
 
 abbrev pub invariant-loop-at : goal.invariant-loop-at
 invariant-loop-at l =
-    (interval : Option ℕ) (es : List EpochTableView) → StandForSatellites l.satellites interval es
-    → l.fn.text.items ++ rows_from interval es 0 l.codes ≡ l.text.items ++ rows_from interval es l.at (drop l.at l.codes)
+    (most : ℕ) (interval : Option ℕ) (es : List EpochTableView) → StandForSatellites l.satellites most interval es
+    → l.fn.text.items ++ rows_from most interval es 0 l.codes ≡ l.text.items ++ rows_from most interval es l.at (drop l.at l.codes)

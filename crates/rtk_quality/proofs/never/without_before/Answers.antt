@@ -10,24 +10,24 @@ pub loop-before-preserved : goal.loop-before-preserved
 loop-before-preserved c = elim c.if-is_without.branch [
   | then-is_without w ↦ record {
     few = let was = c.loop-before.invariant.few in let now = w.count-is in omega (arith, was, now);
-    many = λ interval es stand.
-        let within : c.loop-before.before < 32 = omega (arith, c.loop-before-test.true, c.requires.place) in
+    many = λ most interval es stand.
+        let within : c.loop-before.before < most = omega (arith, c.loop-before-test.true, c.requires.place, stand.size) in
         counted (is_without_at interval es c.args.at) c.loop-before.before c.loop-before.count _ c.is_without.result
         (c.is_without.ensures interval (sightings_of (c.loop-before.before + 1) es) (stand.each c.loop-before.before _ within))
-        (c.loop-before.invariant.many interval es stand) (w.count-is ∙ sym (ap (λ (b : Bool). c.loop-before.count + cond b 1 0) w.if-is_without.true));
+        (c.loop-before.invariant.many most interval es stand) (w.count-is ∙ sym (ap (λ (b : Bool). c.loop-before.count + cond b 1 0) w.if-is_without.true));
   }
   | else-is_without w ↦ record {
     few = let was = c.loop-before.invariant.few in let now = w.count-is in omega (arith, was, now);
-    many = λ interval es stand.
-        let within : c.loop-before.before < 32 = omega (arith, c.loop-before-test.true, c.requires.place) in
+    many = λ most interval es stand.
+        let within : c.loop-before.before < most = omega (arith, c.loop-before-test.true, c.requires.place, stand.size) in
         counted (is_without_at interval es c.args.at) c.loop-before.before c.loop-before.count _ c.is_without.result
         (c.is_without.ensures interval (sightings_of (c.loop-before.before + 1) es) (stand.each c.loop-before.before _ within))
-        (c.loop-before.invariant.many interval es stand) (let none : c.loop-before.count ≡ c.loop-before.count + 0 = omega arith in w.count-is ∙ none ∙ sym (ap (λ (b : Bool). c.loop-before.count + cond b 1 0) w.if-is_without.false));
+        (c.loop-before.invariant.many most interval es stand) (let none : c.loop-before.count ≡ c.loop-before.count + 0 = omega arith in w.count-is ∙ none ∙ sym (ap (λ (b : Bool). c.loop-before.count + cond b 1 0) w.if-is_without.false));
   }
 ]
 
 pub returns : goal.returns
 unfolding without_before
-returns c = λ interval es stand.
+returns c = λ most interval es stand.
     let end : c.loop-before.before ≡ c.args.place = omega (arith, c.loop-before.auto.before-end, c.loop-before-test.false) in
-    c.loop-before.invariant.many interval es stand ∙ ap (λ (k : ℕ). count_by (is_without_at interval es c.args.at) (range_with_len 0 k)) end
+    c.loop-before.invariant.many most interval es stand ∙ ap (λ (k : ℕ). count_by (is_without_at interval es c.args.at) (range_with_len 0 k)) end

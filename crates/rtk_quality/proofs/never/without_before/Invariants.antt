@@ -8,6 +8,6 @@ use Rattle.rtk_quality.proofs.never.without_before.Given as goal
 abbrev pub invariant-loop-before : goal.invariant-loop-before
 invariant-loop-before l = record {
   few : l.count ≤ l.before;
-  many : (interval : Option ℕ) (es : List EpochTableView) → StandForSatellites l.satellites interval es
+  many : (most : ℕ) (interval : Option ℕ) (es : List EpochTableView) → StandForSatellites l.satellites most interval es
       → l.count ≡ count_by (is_without_at interval es l.at) (range_with_len 0 l.before);
 }

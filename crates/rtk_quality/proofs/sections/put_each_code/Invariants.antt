@@ -8,6 +8,6 @@ use Rattle.rtk_quality.proofs.sections.put_each_code.Given as goal
 
 abbrev pub invariant-loop-at : goal.invariant-loop-at
 invariant-loop-at l =
-    (interval : Option ℕ) (es : List EpochTableView) → StandForSatellites l.satellites interval es
-    → l.fn.text.items ++ each_code (λ place code. code_entry l.form code (satellites_in interval es) (code_of_station interval es place)) 0 l.codes
-    ≡ l.text.items ++ each_code (λ place code. code_entry l.form code (satellites_in interval es) (code_of_station interval es place)) l.at (drop l.at l.codes)
+    (most : ℕ) (interval : Option ℕ) (es : List EpochTableView) → StandForSatellites l.satellites most interval es
+    → l.fn.text.items ++ each_code (λ place code. code_entry l.form code (satellites_in most interval es) (code_of_station most interval es place)) 0 l.codes
+    ≡ l.text.items ++ each_code (λ place code. code_entry l.form code (satellites_in most interval es) (code_of_station most interval es place)) l.at (drop l.at l.codes)

@@ -9,5 +9,5 @@ use Rattle.rtk_quality.proofs.sections.put_parts.Given as goal
 
 abbrev pub invariant-loop-place : goal.invariant-loop-place
 invariant-loop-place l =
-    (interval : Option ℕ) (es : List EpochTableView) → StandForSatellites l.satellites interval es → StandForEnded l.ended interval es
+    (most : ℕ) (interval : Option ℕ) (es : List EpochTableView) → StandForSatellites l.satellites most interval es → StandForEnded l.ended most interval es
     → l.text.items ≡ l.fn.text.items ++ flat_map (λ satellite. part_of l.form l.section l.codes interval (sightings_of satellite es) satellite) (range_with_len 1 l.place)

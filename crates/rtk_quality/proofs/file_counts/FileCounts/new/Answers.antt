@@ -11,7 +11,7 @@ pub returns-clause-counts : goal.returns-clause-counts
 returns-clause-counts c = λ interval unit.
     record {
       records = c.new.ensures unit;
-      satellites = fresh-satellites c.in_ok-vec.field-0.items c.new-2.result interval (c.in_ok-vec.ensures.items_if_clones_equal (λ y same. same)) c.new-2.ensures;
+      satellites = fresh-satellites c.args.most c.in_ok-vec.field-0.items c.new-2.result interval (c.in_ok-vec.ensures.items_if_clones_equal (λ y same. same)) c.new-2.ensures;
       ended = λ place within. ap (λ (xs : List EndedPass). ended_of (place + 1) xs) c.new-3.ensures.items;
       hours = c.new-4.ensures;
       gaps = c.new-5.ensures;
