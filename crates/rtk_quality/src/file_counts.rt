@@ -97,7 +97,6 @@ fn ms_of(moment: Option<GpsMs>) -> Option<u64>
 }
 
 // Counts one more epoch of each satellite, of which no row came so far.
-#[inline(never)]
 fn note_satellites(satellites: &mut Vec<SatelliteCounts>)
     ensures size { length satellites.new.items ≡ length satellites.old.items }
     ensures satellites { (most : ℕ) (interval : Option ℕ) (time : ℕ) (es : List EpochTableView) → StandForSatellites satellites.old.items most interval es

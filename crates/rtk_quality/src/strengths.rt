@@ -5,7 +5,7 @@ ghost use Rattle.rtk_quality.specs.Strengths.{band_in_name, bands_of_system, sys
 ghost use Rattle.rtk_quality.specs.Steps.Noted.{no_strengths, all_without, with_one, with_strength, with_row, with_rows};
 
 use rtk_message::System;
-use rtk_obs::{AnyCode, Carrier};
+use rtk_obs::AnyCode::{self, *};
 use rtk_rinex::{Observed, SatelliteRow};
 
 /// The band of a code, by the first character of its name.
@@ -37,17 +37,33 @@ pub(crate) struct Strengths {
     pub(crate) b8: BandStrengths,
 }
 
-/// The band of a code. Its carrier has the band of its name, and is found sooner: each strength asks for it.
+/// The band of a code, which is found without its name: each strength asks for it.
 pub(crate) fn band_of(code: AnyCode) -> CodeBand
     ensures { result ≡ band_in_name code }
 {
-    match code.carrier() {
-        Carrier::L1 | Carrier::G1 => CodeBand::B1,
-        Carrier::L2 | Carrier::G2 | Carrier::B1 => CodeBand::B2,
-        Carrier::L5 => CodeBand::B5,
-        Carrier::B3 | Carrier::E6 => CodeBand::B6,
-        Carrier::E5b => CodeBand::B7,
-        Carrier::E5 => CodeBand::B8,
+    match code {
+        G1C | G1P | G1W | G1S | G1L | G1X => CodeBand::B1,
+        R1C | R1P => CodeBand::B1,
+        E1C | E1B | E1X => CodeBand::B1,
+        C1D | C1P | C1X => CodeBand::B1,
+        J1C | J1S | J1L | J1X => CodeBand::B1,
+        S1C => CodeBand::B1,
+        G2C | G2D | G2P | G2W | G2S | G2L | G2X => CodeBand::B2,
+        R2C | R2P => CodeBand::B2,
+        C2I | C2Q | C2X => CodeBand::B2,
+        J2S | J2L | J2X => CodeBand::B2,
+        G5I | G5Q | G5X => CodeBand::B5,
+        E5I | E5Q | E5X => CodeBand::B5,
+        C5D | C5P | C5X => CodeBand::B5,
+        J5I | J5Q | J5X => CodeBand::B5,
+        S5I | S5Q | S5X => CodeBand::B5,
+        I5A => CodeBand::B5,
+        E6C | E6B | E6X => CodeBand::B6,
+        C6I | C6Q | C6X => CodeBand::B6,
+        J6S | J6L | J6X => CodeBand::B6,
+        E7I | E7Q | E7X => CodeBand::B7,
+        C7I | C7Q | C7X | C7D => CodeBand::B7,
+        E8I | E8Q | E8X => CodeBand::B8,
     }
 }
 
