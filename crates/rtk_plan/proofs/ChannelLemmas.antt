@@ -1,15 +1,15 @@
 -- The channels that messages tell.
-use Rattle.std.proofs.Common.{◌≡◌, ◌≢◌, ◌<◌, ◌≤◌, ◌+◌, ◌-◌, ◌∙◌, ℕ, zero, suc, ℤ, Bool, true, false, List, [], ◌∷◌, length, Option, None, Some, inl, inr, refl, sym, ap, subst, arith}
+use Rattle.std.proofs.Common.{◌≡◌, ◌≢◌, ◌<◌, ◌≤◌, ◌+◌, ◌-◌, ◌∙◌, ℕ, suc, ℤ, Bool, true, false, List, [], ◌∷◌, length, Option, None, Some, inl, inr, refl, sym, ap, subst, arith}
 use Rattle.std.specs.Prelude.{nat_lt, slice_index_or, if◌then◌else◌}
 use Rattle.std.proofs.lemmas.Bool.{cases_lt, cases_order, cases_Bool, ltb-true, ltb-false}
 use Rattle.rtk_message.specs.declared.msm_kind.MsmKind.{MsmKind}
-use Rattle.rtk_obs.specs.Carriers.{AreChannels, IsSlot, channel_at}
+use Rattle.rtk_obs.specs.Carriers.{IsSlot, channel_at}
 use Rattle.rtk_obs.specs.LeapSeconds.{IsLastRow}
 use Rattle.rtk_obs.specs.declared.any_code.AnyCode.{AnyCode}
-use Rattle.rtk_rinex.specs.MixedHead.{GlonassView, has_glonass}
+use Rattle.rtk_rinex.specs.MixedHead.{GlonassView}
 use Rattle.rtk_setup.specs.declared.system_kinds.SystemKinds.{SystemKinds}
 use Rattle.rtk_survey.specs.declared.survey.CaptureSurvey.{CaptureSurvey}
-use Rattle.rtk_plan.specs.SlotChannels.{count_told, IsMostTold, IsToldField, IsSlotField, channel_if, is_slot_given, IsChannelFound, AreChannelsFound, IsGlonassOf, IsGlonassFound}
+use Rattle.rtk_plan.specs.SlotChannels.{count_told, IsMostTold, IsToldField, IsSlotField, channel_if, is_slot_given, IsChannelFound, AreChannelsFound, IsGlonassFound}
 use Rattle.rtk_plan.specs.Steps.ToldFields.{most_told_with}
 use Rattle.rtk_plan.specs.Values.{or_else}
 use Rattle.rtk_plan.specs.declared.slot_channels.MostTold.{MostTold}

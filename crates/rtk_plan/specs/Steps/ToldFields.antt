@@ -1,5 +1,5 @@
 -- The field that is told most often so far.
-use Rattle.std.specs.Prelude.{◌≡◌, ℕ, nat_lt, Option, None, Some, if◌then◌else◌}
+use Rattle.std.specs.Prelude.{ℕ, nat_lt, Some, if◌then◌else◌}
 use Rattle.rtk_plan.specs.declared.slot_channels.MostTold.{MostTold}
 
 -- a field more, which is told so often

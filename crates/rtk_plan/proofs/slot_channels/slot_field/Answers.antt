@@ -1,5 +1,3 @@
-use Rattle.std.proofs.Common.{ℕ, Option, ap, ◌∙◌}
-use Rattle.rtk_plan.specs.Values.{or_else}
 use Rattle.rtk_plan.proofs.slot_channels.slot_field.Goals as goal
 
 pub returns-clause-field : goal.returns-clause-field

@@ -1,4 +1,4 @@
-use Rattle.std.proofs.Common.{◌≡◌, ◌+◌, ◌∙◌, ℕ, Option, sym, ap, subst, arith}
+use Rattle.std.proofs.Common.{◌≡◌, ◌+◌, ◌∙◌, ℕ, sym, ap, subst, arith}
 use Rattle.rtk_plan.specs.SlotChannels.{count_told, IsToldField}
 use Rattle.rtk_plan.specs.Steps.ToldFields.{most_told_with}
 use Rattle.rtk_plan.specs.declared.slot_channels.MostTold.{MostTold}
