@@ -1,4 +1,5 @@
 -- Definitions that only private clauses use.
 pub mod LegacyFields
+pub mod GlonassFields
 pub mod MsmRows
 pub mod Marks
