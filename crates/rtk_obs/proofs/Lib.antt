@@ -24,6 +24,10 @@ mod AnyCodeLemmas
 mod SignalCellLemmas
 mod OwnCodeLemmas
 mod DistinctEntryLemmas
+mod SeenLemmas
+mod GlonassLemmas
+mod GlonassEntryLemmas
+mod SbasLemmas
 mod SignalEntryLemmas
 mod LeapLemmas
 mod ClockLemmas
