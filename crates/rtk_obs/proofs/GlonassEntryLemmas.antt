@@ -65,14 +65,14 @@ at-l2 : (s : GlonassSatellite) (channel : Option ℤ) (n i : ℕ) (o : Option An
 at-l2 s channel n i None e = tt
 at-l2 s channel n i (Some c) e = (e, tt)
 
-at : (s : GlonassSatellite) (channel : Option ℤ) (n : ℕ) (o : Option ℕ) → IfSome o (λ i. i ≡ n) → AllByRecursion (IsAt n) (glonass_entries s channel o)
-at s channel n None e = tt
-at s channel n (Some i) e = (e, at-l2 s channel n i (glonass_l2_code s.l2_code) e)
+stands-at : (s : GlonassSatellite) (channel : Option ℤ) (n : ℕ) (o : Option ℕ) → IfSome o (λ i. i ≡ n) → AllByRecursion (IsAt n) (glonass_entries s channel o)
+stands-at s channel n None e = tt
+stands-at s channel n (Some i) e = (e, at-l2 s channel n i (glonass_l2_code s.l2_code) e)
 
 two-if : (s : GlonassSatellite) (channel : Option ℤ) (i : ℕ) (o : Option AnyCode) → IfSome o IsL2
     → Pairs AreDifferentEntries (glonass_l1_entry s channel i (glonass_l1_code s.l1_code) ∷ glonass_l2_entries s channel i o)
-two-if s channel i None is = (tt, (tt, tt))
-two-if s channel i (Some c) is = ((λ same. two_codes s.l1_code c is, tt), (tt, (tt, tt)))
+two-if s channel i None is = (tt, tt)
+two-if s channel i (Some c) is = ((λ same. two_codes s.l1_code c is, tt), (tt, tt))
 
 two : (s : GlonassSatellite) (channel : Option ℤ) (o : Option ℕ) → Pairs AreDifferentEntries (glonass_entries s channel o)
 two s channel None = tt
@@ -82,8 +82,8 @@ abbrev IsOwn : SignalEntry → Type 0
 IsOwn e = IsSignal e.satellite e.code
 
 own-l2 : (s : GlonassSatellite) (channel : Option ℤ) (i : ℕ) (o : Option AnyCode) → IsSatelliteIndex i → system_at i ≡ Glonass → IfSome o IsL2 → AllByRecursion IsOwn (glonass_l2_entries s channel i o)
-own-l2 s channel i None is at is_code = tt
-own-l2 s channel i (Some c) is at is_code = ((is, is_code.0 ∙ sym at), tt)
+own-l2 s channel i None is of is_code = tt
+own-l2 s channel i (Some c) is of is_code = ((is, is_code.0 ∙ sym of), tt)
 
 own-if : (s : GlonassSatellite) (channel : Option ℤ) (o : Option ℕ) → IfSome o (λ i. IsSatelliteIndex i × (system_at i ≡ Glonass)) → AllByRecursion IsOwn (glonass_entries s channel o)
 own-if s channel None is = tt
@@ -145,7 +145,7 @@ module _ (channels : List (Option ℤ)) where
   away a n is [] o = tt
   away a n is (t ∷ ts) o =
       all_append (AreDifferentEntries a) (slot_entries channels t) (flat_map (slot_entries channels) ts)
-      (all_from (IsAt (32 + t.slot)) (AreDifferentEntries a) (λ b there same. absurd (o.0 (omega (arith, is, there, same)))) (slot_entries channels t) (at t (glonass_channel channels t) (32 + t.slot) (index_in Glonass t.slot) (index-of t.slot)))
+      (all_from (IsAt (32 + t.slot)) (AreDifferentEntries a) (λ b there same. absurd (o.0 (omega (arith, is, there, same)))) (slot_entries channels t) (stands-at t (glonass_channel channels t) (32 + t.slot) (index_in Glonass t.slot) (index-of t.slot)))
       (away a n is ts o.1)
 
   pairs-flat : (ss : List GlonassSatellite) → Pairs AreOtherSlots ss → Pairs AreDifferentEntries (flat_map (slot_entries channels) ss)
@@ -154,7 +154,7 @@ module _ (channels : List (Option ℤ)) where
       pairs-append AreDifferentEntries (slot_entries channels s) (flat_map (slot_entries channels) ss)
       (two s (glonass_channel channels s) (index_in Glonass s.slot)) (pairs-flat ss p.1)
       (all_from (IsAt (32 + s.slot)) (λ (a : SignalEntry). AllByRecursion (AreDifferentEntries a) (flat_map (slot_entries channels) ss))
-      (λ a there. away a s.slot there ss p.0) (slot_entries channels s) (at s (glonass_channel channels s) (32 + s.slot) (index_in Glonass s.slot) (index-of s.slot)))
+      (λ a there. away a s.slot there ss p.0) (slot_entries channels s) (stands-at s (glonass_channel channels s) (32 + s.slot) (index_in Glonass s.slot) (index-of s.slot)))
 
   pub glonass-own : (ss : List GlonassSatellite) → All IsOwn (entries_of_1012 channels ss)
   glonass-own ss =

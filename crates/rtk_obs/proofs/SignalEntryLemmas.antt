@@ -113,7 +113,7 @@ frequency-of-gps G5I = refl
 frequency-of-gps G5Q = refl
 frequency-of-gps G5X = refl
 
-same-code : (c d : Code) → code_of_gps c ≡ code_of_gps d → c ≡ d
+pub same-code : (c d : Code) → code_of_gps c ≡ code_of_gps d → c ≡ d
 same-code c d e = same_code c d (sym (name-of-gps c) ∙ ap any_code.name_of e ∙ name-of-gps d)
 
 -- the first code is the same, and so are the others
@@ -198,7 +198,7 @@ module _ (m : Msm) (valid : IsValidMsm m) where
 abbrev IsOwn : SignalEntry → Type 0
 IsOwn e = IsSignal e.satellite e.code
 
-own : (e : CellEntry) → IsSatellite e.satellite → IsOwn (signal_of e)
+pub own : (e : CellEntry) → IsSatellite e.satellite → IsOwn (signal_of e)
 own e h = ((h.0, omega (arith, h.1)), code-of-gps e.code ∙ sym (at-gps e.satellite h.1))
 
 pub entries_of-own : (channels : List (Option ℤ)) (m : AnyMessage) → All IsOwn (entries_of channels m)
