@@ -3,3 +3,4 @@ pub mod LegacyFields
 pub mod GlonassFields
 pub mod MsmRows
 pub mod Marks
+pub mod RollLimits
