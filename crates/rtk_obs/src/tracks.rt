@@ -161,7 +161,7 @@ impl Tracks {
         ensures bound { unsigned_abs result.rolls ≤ epoch }
         ensures same { track_at self.new satellite place_code
             ≡ last_after (roll_frequency (carrier_of code)) (track_at self.old satellite place_code) (epoch_cell epoch cell.now) }
-        ensures others { (s : ℕ) (c : Code) → place_of_signal s c ≢ place_of_signal satellite place
+        ensures others { (s : ℕ) (c : Code) → place_of_signal s c ≢ place_of_signal satellite place_code
             → track_at self.new s c ≡ track_at self.old s c }
     {
         if cell.phase_millicycles.is_none() {
