@@ -262,11 +262,11 @@ whole h ns satellites cells = header_table h ++ (numbers (signal_count h) ns ++ 
 
 -- the header, the cell mask, the columns of the satellites and those of the cells are read one after
 -- another
-pub all_read : {any_day : Bool} {t : MsmType} {h : MsmHeader} {ns : List ℕ} {mid new : Msm} {b0 b1 b2 b3 b4 : List Bool} → mid.system ≡ t.system → mid.kind ≡ t.kind → mid.header ≡ h → mid.cell_mask ≡ ns → ChangesCells mid new
+pub all_read : (any_day : Bool) {t : MsmType} {h : MsmHeader} {ns : List ℕ} {mid new : Msm} {b0 b1 b2 b3 b4 : List Bool} → mid.system ≡ t.system → mid.kind ≡ t.kind → mid.header ≡ h → mid.cell_mask ≡ ns → ChangesCells mid new
     → TakesAll (header_table h) b0 b1 → TakesAll (numbers (signal_count h) ns) b1 b2 → TakesAll (satellite_table mid) b2 b3 → TakesAll (cell_table (form_of t.kind) new) b3 b4
     → tells_time any_day t.system h.tow ≡ true → satellite_count h * signal_count h ≤ 64 → length ns ≡ satellite_count h → HasSatellites (satellite_count h) (if_rates t.kind (satellite_count h)) mid → HasCells (sum_by count_ones ns) (if_rates t.kind (sum_by count_ones ns)) new
     → HasForm new × (type_of new ≡ t) × TakesAll (table new) b0 b4 × IsTrue (tells_time any_day new.system new.header.tow)
-all_read {any_day = any_day} {t = t} {h = h} {ns = ns} {mid = mid} {new = new} {b0 = b0} {b4 = b4} is_system is_kind is_header is_mask second head rows satellites cells time few len s c =
+all_read any_day {t = t} {h = h} {ns = ns} {mid = mid} {new = new} {b0 = b0} {b4 = b4} is_system is_kind is_header is_mask second head rows satellites cells time few len s c =
     let system : new.system ≡ t.system = ap (λ (x : Msm). x.system) second ∙ is_system in
     let kind : new.kind ≡ t.kind = ap (λ (x : Msm). x.kind) second ∙ is_kind in
     let header : new.header ≡ h = ap (λ (x : Msm). x.header) second ∙ is_header in

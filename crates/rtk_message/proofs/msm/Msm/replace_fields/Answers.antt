@@ -53,7 +53,7 @@ returns-clause-fields c =
     let ns = c.read_mask-cells.new.mask in
     let few : c.satellite_count-satellites.result * c.signal_count-signals.result ≤ 64 = few_of c.has_too_many_cells.ensures c.if-has_too_many_cells.false in
     let mask : TakesAll (numbers (signal_count h) ns) c.next_header-self.new.reader c.read_mask-cells.new.reader = rw (← c.signal_count-signals.ensures.value) c.read_mask-cells.ensures.fields in
-    let read = all_read {any_day = c.args.any_day} {t = c.args.msm_type} {h = h} {ns = ns} {mid = c.read_satellites.new.self} {new = c.read_cells.new.self} (ap (λ (m : Msm). m.system) c.read_satellites.ensures.rest) (ap (λ (m : Msm). m.kind) c.read_satellites.ensures.rest) (ap (λ (m : Msm). m.header) c.read_satellites.ensures.rest) (ap (λ (m : Msm). m.cell_mask) c.read_satellites.ensures.rest) c.read_cells.ensures.rest
+    let read = all_read c.args.any_day {t = c.args.msm_type} {h = h} {ns = ns} {mid = c.read_satellites.new.self} {new = c.read_cells.new.self} (ap (λ (m : Msm). m.system) c.read_satellites.ensures.rest) (ap (λ (m : Msm). m.kind) c.read_satellites.ensures.rest) (ap (λ (m : Msm). m.header) c.read_satellites.ensures.rest) (ap (λ (m : Msm). m.cell_mask) c.read_satellites.ensures.rest) c.read_cells.ensures.rest
     c.next_header-self.ensures.fields mask c.read_satellites.ensures.fields c.read_cells.ensures.fields (sym c.tells_time.ensures ∙ c.if-not-tells_time.false)
     (rw (← c.satellite_count-satellites.ensures.value, ← c.signal_count-signals.ensures.value) few) (c.read_mask-cells.ensures.count ∙ c.satellite_count-satellites.ensures.value)
     (rw (← c.satellite_count-satellites.ensures.value) c.read_satellites.ensures.lengths)
