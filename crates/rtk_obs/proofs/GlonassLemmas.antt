@@ -75,19 +75,19 @@ module _ (channels : List (Option ℤ)) where
   -- its slot gives no entries
   pub put-none : (ss : List GlonassSatellite) (s : GlonassSatellite) (is_new : Bool) (stood : List SignalEntry) → is_new ≡ not (list_any (λ m. nat_eq m s.slot) (map (λ t. t.slot) ss))
       → is_new ≡ true → index_in Glonass s.slot ≡ None → stood ≡ entries_of_1012 channels ss → stood ≡ entries_of_1012 channels (ss ++ s ∷ [])
-  put-none ss s is_new stood e yes none is =
-      is ∙ sym (entries-used ss s (sym (ap not (slots-any ss s.slot)) ∙ sym e ∙ yes)
+  put-none ss s is_new stood e is_first none is =
+      is ∙ sym (entries-used ss s (sym (ap not (slots-any ss s.slot)) ∙ sym e ∙ is_first)
       ∙ ap (λ (o : Option ℕ). entries_of_1012 channels ss ++ glonass_entries s (glonass_channel channels s) o) none ∙ append-nil (entries_of_1012 channels ss))
 
   -- its entries are put
   pub put-new : (ss : List GlonassSatellite) (s : GlonassSatellite) (is_new : Bool) (index : ℕ) (channel : Option ℤ) (stood found : List SignalEntry)
       → is_new ≡ not (list_any (λ m. nat_eq m s.slot) (map (λ t. t.slot) ss)) → is_new ≡ true → index_in Glonass s.slot ≡ Some index → channel ≡ glonass_channel channels s
       → found ≡ stood ++ glonass_entries s channel (Some index) → stood ≡ entries_of_1012 channels ss → found ≡ entries_of_1012 channels (ss ++ s ∷ [])
-  put-new ss s is_new index channel stood found e yes some of put is =
+  put-new ss s is_new index channel stood found e is_first some of put is =
       put ∙ ap (λ (es : List SignalEntry). es ++ glonass_entries s channel (Some index)) is
       ∙ ap (λ (k : Option ℤ). entries_of_1012 channels ss ++ glonass_entries s k (Some index)) of
       ∙ ap (λ (o : Option ℕ). entries_of_1012 channels ss ++ glonass_entries s (glonass_channel channels s) o) (sym some)
-      ∙ sym (entries-used ss s (sym (ap not (slots-any ss s.slot)) ∙ sym e ∙ yes))
+      ∙ sym (entries-used ss s (sym (ap not (slots-any ss s.slot)) ∙ sym e ∙ is_first))
 
   -- no satellite came yet
   pub none-yet : [] ≡ entries_of_1012 channels []

@@ -60,9 +60,9 @@ put-again ss s is_new stood e not_new is =
 -- its entries are put
 pub put-new : (ss : List Satellite) (s : Satellite) (is_new : Bool) (stood found : List SignalEntry) → is_new ≡ not (list_any (λ m. nat_eq m s.satellite) (map (λ t. t.satellite) ss))
     → is_new ≡ true → found ≡ stood ++ satellite_signals s → stood ≡ signals_of_1004 ss → found ≡ signals_of_1004 (ss ++ s ∷ [])
-put-new ss s is_new stood found e yes put is =
+put-new ss s is_new stood found e is_first put is =
     put ∙ ap (λ (es : List SignalEntry). es ++ satellite_signals s) is
-    ∙ sym (signals-snoc ss s ∙ ap (λ (es : List SignalEntry). signals_of_1004 ss ++ es) (new s (list_any (has_number s.satellite) ss) (sym (ap not (numbers-any ss s.satellite)) ∙ sym e ∙ yes)))
+    ∙ sym (signals-snoc ss s ∙ ap (λ (es : List SignalEntry). signals_of_1004 ss ++ es) (new s (list_any (has_number s.satellite) ss) (sym (ap not (numbers-any ss s.satellite)) ∙ sym e ∙ is_first)))
 
 -- no satellite came yet
 pub none-yet : [] ≡ signals_of_1004 []

@@ -1,5 +1,6 @@
 -- The last phase of a list of epochs, and the places of a Tracks after a step.
 use Rattle.std.proofs.Common.{get_or-set_same, get_or-set_other, ◌≡◌, ◌≢◌, ℕ, zero, suc, length, set, replicate, ◌+◌, ◌-◌, ◌*◌, ◌<◌, ◌≤◌, [], ◌∷◌, List, refl, sym, ap, subst, ◌∙◌, arith, get_or, Some, None, Option, true, false, Bool, nat_eq, ◌&&◌, cond, inl, inr}
+use Rattle.std.proofs.lemmas.List.{length-set}
 use Rattle.std.specs.Prelude.{filter, MatchOption}
 use Rattle.std.specs.List.{AllByRecursion}
 use Rattle.std.proofs.lemmas.Bool.Decides.{nat_tests}
@@ -13,7 +14,7 @@ use Rattle.rtk_obs.specs.Slip.{EpochCell, has_phase, slip_since}
 use Rattle.rtk_obs.specs.Cell.{IsSatellite}
 use Rattle.rtk_obs.specs.Rollover.{last_after, last_phase, track_of, rolls_since, digits_since}
 use Rattle.rtk_obs.specs.CellSteps.{Step, epoch_cells_of, IsFalling, PhasesFall}
-use Rattle.rtk_obs.specs.Tracks.{IsLater, track_at, place_of_signal, RepresentsSteps}
+use Rattle.rtk_obs.specs.Tracks.{IsBounded, IsLater, HasPlaces, track_at, place_of_signal, RepresentsSteps}
 use Rattle.rtk_obs.specs.TracksLaws.{IsGreatest, LastIsGreatest, LaterThanSteps, LaterAfterStep, AllLaterAfterStep}
 
 pub get_or-replicate : {X : Type 0} (n i : ℕ) (y : X) → get_or (replicate n y) i y ≡ y
@@ -223,6 +224,15 @@ represents_more old new steps a b e ha later same others r = record {
       ∙ ap (λ (o : Option Track). last_after (frequency_of_code c) o e) (r.last s c hs)))
       (λ ne. rw (other_test a (place_of b) s (place_of c) (place_bound b) (place_bound c) ne)
       (others s c (λ p. ne (sym p)) ∙ r.last s c hs));
+}
+
+-- one place that was written
+pub places-set : (places : List (Option Track)) (k : ℕ) (t : Option Track) → HasPlaces places → k < 512 → IsBounded t → HasPlaces (set places k t)
+places-set places k t h inside bounded = record {
+  count = length-set places k t ∙ h.count;
+  bounded = λ j. by_eq j k
+      (λ same. rw (ap (λ (i : ℕ). get_or (set places k t) i None) same, get_or-set_same places k t None (let n = h.count in omega arith)) bounded)
+      (λ other. rw (get_or-set_other places k j t None other) (h.bounded j));
 }
 
 -- the same of one place that was written

@@ -5,7 +5,7 @@ ghost use Rattle.std.specs.List.{All};
 ghost use Rattle.rtk_message.specs.declared.obs1012.GlonassSatellite.{GlonassSatellite};
 ghost use Rattle.rtk_message.specs.Obs1012.{IsValid};
 ghost use Rattle.rtk_obs.specs.Carriers.{IsSlot};
-ghost use Rattle.rtk_obs.specs.GlonassCells.{glonass_l1_code, glonass_l2_code, tells_no_channel, unless_other_in_1012, glonass_channel, glonass_length_of, glonass_phase_on, glonass_phase, glonass_offset, glonass_l1_cell, glonass_l2_cell, glonass_entries, entries_of_1012};
+ghost use Rattle.rtk_obs.specs.GlonassCells.{glonass_l1_code, glonass_l2_code, tells_no_channel, unless_other_in_1012, glonass_channel, glonass_length_of, glonass_phase_on, glonass_phase, glonass_offset, glonass_l1_cell, glonass_l2_cell, glonass_l1_entry, glonass_l2_entry, glonass_entries, entries_of_1012};
 ghost use Rattle.rtk_obs.specs.Steps.GlonassFields.{HasGlonassWidths, HasSeenNumbers};
 
 use crate::any_code::AnyCode;
@@ -156,6 +156,42 @@ fn l2_cell(satellite: &GlonassSatellite, length: i64, frequency: Option<u32>) ->
     }
 }
 
+// Returns the entry of L1 of a satellite with this index and channel.
+fn l1_entry(
+    satellite: &GlonassSatellite,
+    index: SatelliteIndex,
+    channel: Option<Channel>,
+) -> SignalEntry
+    requires { HasGlonassWidths satellite.now }
+    ensures { result ≡ glonass_l1_entry satellite.now channel index (glonass_l1_code satellite.now.l1_code) }
+{
+    let code = l1_code(satellite.l1_code);
+    let frequency = code.carrier().frequency(channel);
+    SignalEntry {
+        satellite: index,
+        code,
+        cell: l1_cell(satellite, l1_length(satellite), frequency),
+    }
+}
+
+// Returns the entry of L2 of a satellite with this index and channel.
+fn l2_entry(
+    satellite: &GlonassSatellite,
+    index: SatelliteIndex,
+    channel: Option<Channel>,
+    code: AnyCode,
+) -> SignalEntry
+    requires { HasGlonassWidths satellite.now }
+    ensures { result ≡ glonass_l2_entry satellite.now channel index code }
+{
+    let frequency = code.carrier().frequency(channel);
+    SignalEntry {
+        satellite: index,
+        code,
+        cell: l2_cell(satellite, l1_length(satellite), frequency),
+    }
+}
+
 // Puts the entries of a satellite with this index and channel.
 fn put_entries(
     found: &mut ArrayVec<SignalEntry, 64>,
@@ -168,23 +204,10 @@ fn put_entries(
     ensures entries { found.new.items ≡ found.old.items ++ glonass_entries satellite.now channel (Some index) }
     ensures few { length found.new.items ≤ length found.old.items + 2 }
 {
-    let length = l1_length(satellite);
-    let code = l1_code(satellite.l1_code);
-    let frequency = code.carrier().frequency(channel);
-    found.push(SignalEntry {
-        satellite: index,
-        code,
-        cell: l1_cell(satellite, length, frequency),
-    });
-    let Some(code) = l2_code(satellite.l2_code) else {
-        return;
-    };
-    let frequency = code.carrier().frequency(channel);
-    found.push(SignalEntry {
-        satellite: index,
-        code,
-        cell: l2_cell(satellite, length, frequency),
-    });
+    found.push(l1_entry(satellite, index, channel));
+    if let Some(code) = l2_code(satellite.l2_code) {
+        found.push(l2_entry(satellite, index, channel, code));
+    }
 }
 
 // Puts the entries of a satellite, if this is the first entry of its slot and the slot gives some.
