@@ -156,17 +156,18 @@ fn l2_cell(satellite: &GlonassSatellite, length: i64, frequency: Option<u32>) ->
     }
 }
 
-// Returns the entry of L1 of a satellite with this index and channel.
+// Returns the entry of L1 of a satellite with this index.
 fn l1_entry(
     satellite: &GlonassSatellite,
+    channels: &Channels,
     index: SatelliteIndex,
-    channel: Option<Channel>,
 ) -> SignalEntry
-    requires { HasGlonassWidths satellite.now }
-    ensures { result ≡ glonass_l1_entry satellite.now channel index (glonass_l1_code satellite.now.l1_code) }
+    requires fields { HasGlonassWidths satellite.now }
+    requires slot { IsSlot satellite.now.slot }
+    ensures { result ≡ glonass_l1_entry satellite.now (glonass_channel channels.now satellite.now) index (glonass_l1_code satellite.now.l1_code) }
 {
     let code = l1_code(satellite.l1_code);
-    let frequency = code.carrier().frequency(channel);
+    let frequency = code.carrier().frequency(channel_of(channels, satellite));
     SignalEntry {
         satellite: index,
         code,
@@ -174,17 +175,18 @@ fn l1_entry(
     }
 }
 
-// Returns the entry of L2 of a satellite with this index and channel.
+// Returns the entry of L2 of a satellite with this index.
 fn l2_entry(
     satellite: &GlonassSatellite,
+    channels: &Channels,
     index: SatelliteIndex,
-    channel: Option<Channel>,
     code: AnyCode,
 ) -> SignalEntry
-    requires { HasGlonassWidths satellite.now }
-    ensures { result ≡ glonass_l2_entry satellite.now channel index code }
+    requires fields { HasGlonassWidths satellite.now }
+    requires slot { IsSlot satellite.now.slot }
+    ensures { result ≡ glonass_l2_entry satellite.now (glonass_channel channels.now satellite.now) index code }
 {
-    let frequency = code.carrier().frequency(channel);
+    let frequency = code.carrier().frequency(channel_of(channels, satellite));
     SignalEntry {
         satellite: index,
         code,
@@ -192,21 +194,22 @@ fn l2_entry(
     }
 }
 
-// Puts the entries of a satellite with this index and channel.
+// Puts the entries of a satellite with this index.
 fn put_entries(
     found: &mut ArrayVec<SignalEntry, 64>,
+    channels: &Channels,
     satellite: &GlonassSatellite,
     index: SatelliteIndex,
-    channel: Option<Channel>,
 )
     requires fields { HasGlonassWidths satellite.now }
+    requires slot { IsSlot satellite.now.slot }
     requires room { length found.old.items ≤ 62 }
-    ensures entries { found.new.items ≡ found.old.items ++ glonass_entries satellite.now channel (Some index) }
+    ensures entries { found.new.items ≡ found.old.items ++ glonass_entries satellite.now (glonass_channel channels.now satellite.now) (Some index) }
     ensures few { length found.new.items ≤ length found.old.items + 2 }
 {
-    found.push(l1_entry(satellite, index, channel));
+    found.push(l1_entry(satellite, channels, index));
     if let Some(code) = l2_code(satellite.l2_code) {
-        found.push(l2_entry(satellite, index, channel, code));
+        found.push(l2_entry(satellite, channels, index, code));
     }
 }
 
@@ -234,8 +237,7 @@ fn put_satellite(
     let Some(index) = satellite_in(System::Glonass, satellite.slot) else {
         return;
     };
-    let channel = channel_of(channels, satellite);
-    put_entries(found, satellite, index, channel);
+    put_entries(found, channels, satellite, index);
 }
 
 // Puts the entries of the satellites of a 1012 into an empty list.

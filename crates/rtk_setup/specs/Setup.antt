@@ -121,6 +121,7 @@ taken_by s =
       qzss = kinds_taken s Qzss;
       sbas = kinds_taken s Sbas;
       navic = kinds_taken s Navic;
+      obs1012 = false;
     }
 
 -- formula
