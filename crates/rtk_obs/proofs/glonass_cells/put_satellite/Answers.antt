@@ -1,4 +1,5 @@
-use Rattle.std.proofs.Common.{sym, ◌∙◌}
+use Rattle.std.proofs.Common.{refl, sym, ◌∙◌}
+use Rattle.rtk_obs.specs.GlonassCells.{glonass_channel}
 use Rattle.rtk_obs.proofs.GlonassLemmas.{put-again, put-none, put-new, seen-map, slot-of_index}
 use Rattle.rtk_obs.proofs.glonass_cells.put_satellite.Goals as goal
 
@@ -16,13 +17,10 @@ returns-in_default-clause-entries c = λ before seen so_far.
 pub returns-in_default-clause-seen : goal.returns-in_default-clause-seen
 returns-in_default-clause-seen c = λ before seen. seen-map c.mark_number.new.seen before c.args.satellite.now (c.mark_number.ensures.seen _ seen)
 
-pub channel_of-channel-requires : goal.channel_of-channel-requires
-channel_of-channel-requires c = slot-of_index c.args.satellite.now.slot c.in-Some.index (sym c.in-Some.ensures)
-
 pub returns-clause-entries : goal.returns-clause-entries
 returns-clause-entries c = λ before seen so_far.
-    put-new c.args.channels.now before c.args.satellite.now c.mark_number.result c.in-Some.index c.channel_of-channel.result c.args.found.now.items c.put_entries.new.found.items
-    (c.mark_number.ensures.value _ seen) c.if-not-mark_number.false (sym c.in-Some.ensures) c.channel_of-channel.ensures c.put_entries.ensures.entries so_far
+    put-new c.args.channels.now before c.args.satellite.now c.mark_number.result c.in-Some.index (glonass_channel c.args.channels.now c.args.satellite.now) c.args.found.now.items c.put_entries.new.found.items
+    (c.mark_number.ensures.value _ seen) c.if-not-mark_number.false (sym c.in-Some.ensures) refl c.put_entries.ensures.entries so_far
 
 pub returns-clause-seen : goal.returns-clause-seen
 returns-clause-seen c = λ before seen. seen-map c.mark_number.new.seen before c.args.satellite.now (c.mark_number.ensures.seen _ seen)
