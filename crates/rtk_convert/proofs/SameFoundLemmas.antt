@@ -14,7 +14,6 @@ use Rattle.rtk_message.specs.declared.system.System.{System}
 use Rattle.rtk_message.specs.declared.system.System.TheVariants.{Gps, Glonass, Galileo, Beidou, Qzss, Sbas, Navic}
 use Rattle.rtk_message.specs.AnyDecoded.{number_of}
 use Rattle.rtk_obs.specs.declared.cell.Cell.{Cell}
-use Rattle.rtk_obs.specs.declared.code.Band.{Band}
 use Rattle.rtk_obs.specs.declared.any_code.AnyCode.{AnyCode}
 use Rattle.rtk_obs.specs.declared.track.Track.{Track}
 use Rattle.rtk_obs.specs.AnyCode.{IsSignal}
@@ -214,6 +213,7 @@ station-number s (any.Message (Arp1005 m)) None is = inl refl
 station-number s (any.Message (Arp1006 m)) None is = inr refl
 station-number s (any.Message (Msm1074 m)) None is = absurd is
 station-number s (any.Msm m) None is = absurd is
+station-number s (any.Obs1012 m) None is = absurd is
 
 -- a message that is dated has the number of a station message, or an epoch
 dated-number : (s : SetupView) (m : Message) (a : Arrival) → IsDatedMessage s m a → HasStationNumber a

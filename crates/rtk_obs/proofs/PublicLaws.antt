@@ -16,3 +16,5 @@ pub use Rattle.rtk_obs.proofs.SignalEntryLemmas.{entries_of-own, entries_of-in_r
 -- the clauses `bound`, `numbers` and `equality` of `any_code_laws`, and that a number is below 69
 pub use Rattle.rtk_obs.proofs.AnyCodeLemmas.{place_below, same_number, number_below}
 pub use Rattle.rtk_obs.proofs.EqualityLemmas.{any_code_same}
+-- the clauses `time` and `legacy` of `clock_laws`
+pub use Rattle.rtk_obs.proofs.ClockLemmas.{is_clock, clock-of-1012}

@@ -98,6 +98,7 @@ hit (any.Message (Obs1004 m)) read = refl
 hit (any.Message (Arp1005 m)) read = refl
 hit (any.Message (Arp1006 m)) read = refl
 hit (any.Message (Msm1074 m)) read = refl
+hit (any.Obs1012 m) read = absurd cc
 hit (any.Msm m) read =
     let is_gps : m.system ≡ Gps = takes-gps all_kinds (type_of m) (sym (accepts-type messages_read (type_of m)) ∙ read) in
     subst (λ (s : System). hits (number_of_type (record { system = s; kind = m.kind })) ≡ 1) (sym is_gps) (hit-kind m.kind)
