@@ -111,6 +111,39 @@ impl Tracks {
         }
     }
 
+    // Returns the digits of a cell at the place of a satellite and code, by the frequency of its own code.
+    #[inline(always)]
+    fn step_with<C: RollCode>(
+        &mut self,
+        satellite: u8,
+        place_code: Code,
+        code: C,
+        epoch: GpsMs,
+        cell: &Cell,
+    ) -> Digits
+        requires satellite { IsSatellite satellite }
+        requires later { IsLater (track_at self.old satellite place_code) epoch }
+        ensures digits { result ≡ digits_since (C.frequency code) (track_at self.old satellite place_code) (epoch_cell epoch cell.now) }
+        ensures bound { unsigned_abs result.rolls ≤ epoch }
+        ensures same { track_at self.new satellite place_code
+            ≡ last_after (C.frequency code) (track_at self.old satellite place_code) (epoch_cell epoch cell.now) }
+        ensures others { (s : ℕ) (c : Code) → place_of_signal s c ≢ place_of_signal satellite place_code
+            → track_at self.new s c ≡ track_at self.old s c }
+    {
+        if cell.phase_millicycles.is_none() {
+            return Digits {
+                slip: false,
+                half: false,
+                rolls: 0,
+            };
+        }
+        let epoch = epoch.ms();
+        let place = place_of_signal(satellite, place_code);
+        let digits = digits_after(code, &self.last[place], epoch, cell);
+        self.last[place] = Some(track_of(cell, epoch, digits.rolls));
+        digits
+    }
+
     /// Returns the digits of a cell of a satellite and code. The phase of the cell is the last one
     /// from then on.
     ///
@@ -130,18 +163,7 @@ impl Tracks {
         ensures after { (steps : List Step) → RepresentsSteps self.old steps
             → RepresentsSteps self.new (step_of satellite code epoch cell.now ∷ steps) }
     {
-        if cell.phase_millicycles.is_none() {
-            return Digits {
-                slip: false,
-                half: false,
-                rolls: 0,
-            };
-        }
-        let epoch = epoch.ms();
-        let place = place_of_signal(satellite, code);
-        let digits = digits_after(code, &self.last[place], epoch, cell);
-        self.last[place] = Some(track_of(cell, epoch, digits.rolls));
-        digits
+        self.step_with(satellite, code, code, epoch, cell)
     }
 
     /// Returns the digits of a cell of a code of any system, as `step` does. The cell stands at the place of a
@@ -164,17 +186,6 @@ impl Tracks {
         ensures others { (s : ℕ) (c : Code) → place_of_signal s c ≢ place_of_signal satellite place_code
             → track_at self.new s c ≡ track_at self.old s c }
     {
-        if cell.phase_millicycles.is_none() {
-            return Digits {
-                slip: false,
-                half: false,
-                rolls: 0,
-            };
-        }
-        let epoch = epoch.ms();
-        let place = place_of_signal(satellite, place_code);
-        let digits = digits_after(code, &self.last[place], epoch, cell);
-        self.last[place] = Some(track_of(cell, epoch, digits.rolls));
-        digits
+        self.step_with(satellite, place_code, code, epoch, cell)
     }
 }
