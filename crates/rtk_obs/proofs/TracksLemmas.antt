@@ -235,33 +235,6 @@ places-set places k t h inside bounded = record {
       (λ other. rw (get_or-set_other places k j t None other) (h.bounded j));
 }
 
--- the same of one place that was written
-pub represents_set : (places : List (Option Track)) (steps : List Step) (a : ℕ) (b : Code) (e : EpochCell) (t : Option Track) → IsSatellite a
-    → length places ≡ 512 → IsLater (track_at places a b) e.epoch → t ≡ last_after (frequency_of_code b) (track_at places a b) e
-    → RepresentsSteps places steps → RepresentsSteps (set places (place_of_signal a b) t) (record { satellite = a; code = b; seen = e } ∷ steps)
-represents_set places steps a b e t ha len later is r =
-    let inside : place_of_signal a b < length places = let h = place_bound b in omega (arith, ha.1) in
-    represents_more places (set places (place_of_signal a b) t) steps a b e ha later
-    (get_or-set_same places (place_of_signal a b) t None inside ∙ is)
-    (λ s c ne. get_or-set_other places (place_of_signal a b) (place_of_signal s c) t None ne)
-    r
-
--- the same by what the code computed
-pub represents_step : (places now : List (Option Track)) (steps : List Step) (a : ℕ) (b : Code) (e : EpochCell) (t : Option Track) (k : ℕ) → IsSatellite a
-    → length places ≡ 512 → places ≡ now → k ≡ place_of_signal a b → IsLater (track_at now a b) e.epoch
-    → t ≡ last_after (frequency_of_code b) (get_or places k None) e
-    → RepresentsSteps now steps → RepresentsSteps (set places k t) (record { satellite = a; code = b; seen = e } ∷ steps)
-represents_step places now steps a b e t k ha len same place later is r =
-    rw place (represents_set places steps a b e t ha len (rw same later)
-    (is ∙ ap (λ (j : ℕ). last_after (frequency_of_code b) (get_or places j None) e) place) (rw same r))
-
--- what is remembered of a phase, by its digits
-pub last_of_digits : (frequency : ℕ) (last : Option Track) (e : EpochCell) (digits : Digits) (t : Track) → has_phase e ≡ true
-    → digits ≡ digits_since frequency last e → (digits.rolls ≡ rolls_since frequency last e → t ≡ track_of frequency last e) → Some t ≡ last_after frequency last e
-last_of_digits frequency last e digits t some is made =
-    let shown : digits_since frequency last e ≡ record { slip = slip_since last e; half = e.cell.half; rolls = rolls_since frequency last e } = rw some refl in
-    rw some (ap (λ (x : Track). Some x) (made (ap (λ (d : Digits). d.rolls) (is ∙ shown))))
-
 -- ---- steps one after another
 
 pub all_later_step : AllLaterAfterStep
