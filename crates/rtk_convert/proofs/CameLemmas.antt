@@ -45,8 +45,7 @@ message-by s payload epoch m r d c =
     let is : p.0 ≡ m = sym p.2.dated.0 in
     let encodes : IfOk r (λ x. Encodes (bits payload) x) = d.message in
     let clock : IfOk r (λ x. IsTrue (takes_clock (taken_by s).obs1012 x)) = d.clock in
-    subst (λ (x : Message). Encodes (bits payload) x × IsTrue (takes s (number_of x)) × (station_of x ≡ s.station) × IsEpochOf s x epoch × IsTrue (takes_clock (taken_by s).obs1012 x)) is
-    (
+    subst (λ (x : Message). Encodes (bits payload) x × IsTrue (takes s (number_of x)) × (station_of x ≡ s.station) × IsEpochOf s x epoch × IsTrue (takes_clock (taken_by s).obs1012 x)) is (
       subst (λ (x : Result Message AnyFault). IfOk x (λ y. Encodes (bits payload) y)) p.1 encodes,
       p.2.taken,
       p.2.station,

@@ -120,11 +120,7 @@ impl Obs1004 {
 
 // Reads the satellites of a list, in place of those that it has.
 #[inline(always)]
-fn read_satellites(
-    satellites: &mut SatelliteList<Satellite>,
-    reader: &mut BitReader<'_>,
-    count: u8,
-)
+fn read_satellites(satellites: &mut SatelliteList<Satellite>, reader: &mut BitReader<'_>, count: u8)
     requires few { count ≤ 31 }
     requires enough { 125 * count ≤ length reader.old }
     ensures fields { TakesAll (flat_map satellite_table satellites.new) reader.old reader.new }

@@ -175,10 +175,7 @@ fn next_satellite(reader: &mut BitReader<'_>) -> GlonassSatellite
 }
 
 // Puts the fields of the satellites, one satellite after another.
-fn put_satellites(
-    writer: &mut BitWriter,
-    satellites: &[GlonassSatellite],
-) -> Result<(), AllocError>
+fn put_satellites(writer: &mut BitWriter, satellites: &[GlonassSatellite]) -> Result<(), AllocError>
     requires { FieldsFit (flat_map satellite_table satellites.now) }
     ensures { OnOk result (PutsAll (flat_map satellite_table satellites.now) writer.old writer.new) }
 {

@@ -1,6 +1,6 @@
 -- The entries of a 1012: each is of a code of GLONASS and has a strength that messages give, no two are of one
 -- satellite and code, and all are legacy ones.
-use Rattle.std.proofs.Common.{◌≡◌, ◌≢◌, ◌∙◌, ℕ, suc, zero, ℤ, ◌+◌, ◌<◌, ◌≤◌, Bool, true, false, not, cond, nat_eq, List, [], ◌∷◌, ◌++◌, filter, Option, Some, None, refl, sym, ap, arith}
+use Rattle.std.proofs.Common.{◌≡◌, ◌≢◌, ◌∙◌, ℕ, ℤ, ◌+◌, ◌<◌, ◌≤◌, Bool, true, false, not, cond, nat_eq, List, [], ◌∷◌, filter, Option, Some, None, refl, sym, ap, arith}
 use Rattle.std.specs.Prelude.{IfSome}
 use Rattle.std.specs.List.{All, AllPairs, AllByRecursion, flat_map}
 use Rattle.std.proofs.lemmas.Bool.Decides.{nat_tests}
@@ -10,7 +10,7 @@ use Rattle.rtk_message.specs.declared.obs1012.Obs1012.{Obs1012}
 use Rattle.rtk_message.specs.declared.system.System.TheVariants.{Glonass}
 use Rattle.rtk_message.specs.Obs1012.{IsValid}
 use Rattle.rtk_obs.specs.declared.any_code.AnyCode.{AnyCode}
-use Rattle.rtk_obs.specs.declared.any_code.AnyCode.TheVariants.{R1C, R1P, R2C, R2P}
+use Rattle.rtk_obs.specs.declared.any_code.AnyCode.TheVariants.{R2C, R2P}
 use Rattle.rtk_obs.specs.declared.cell.CellSource.TheVariants.{Legacy}
 use Rattle.rtk_obs.specs.declared.signal_cells.SignalEntry.{SignalEntry}
 use Rattle.rtk_obs.specs.AnyCode.{system_of, place_of, IsSignal}

@@ -14,9 +14,7 @@ use Rattle.rtk_message.specs.declared.any_message.AnyMessage.TheVariants as any
 use Rattle.rtk_message.specs.declared.message.Message.TheVariants.{Obs1004, Arp1005, Arp1006, Msm1074}
 use Rattle.rtk_message.specs.declared.obs1004.Obs1004 as declared_obs1004
 use Rattle.rtk_message.specs.declared.obs1004.Satellite.{Satellite}
-use Rattle.rtk_message.specs.declared.system.System.TheVariants.{Gps, Sbas}
-use Rattle.rtk_obs.specs.declared.any_code.AnyCode.TheVariants.{S1C}
-use Rattle.rtk_obs.specs.declared.cell.CellEntry.{CellEntry}
+use Rattle.rtk_message.specs.declared.system.System.TheVariants.{Sbas}
 use Rattle.rtk_obs.specs.declared.cell.CellSource.TheVariants.{Legacy}
 use Rattle.rtk_obs.specs.declared.signal_cells.SignalEntry.{SignalEntry}
 use Rattle.rtk_obs.specs.AnyCode.{IsSignal}

@@ -1,5 +1,5 @@
 -- The last phase of a list of epochs, and the places of a Tracks after a step.
-use Rattle.std.proofs.Common.{get_or-set_same, get_or-set_other, ◌≡◌, ◌≢◌, ℕ, zero, suc, length, set, replicate, ◌+◌, ◌-◌, ◌*◌, ◌<◌, ◌≤◌, [], ◌∷◌, List, refl, sym, ap, subst, ◌∙◌, arith, get_or, Some, None, Option, true, false, Bool, nat_eq, ◌&&◌, cond, inl, inr}
+use Rattle.std.proofs.Common.{get_or-set_same, get_or-set_other, ◌≡◌, ◌≢◌, ℕ, zero, suc, set, replicate, ◌+◌, ◌-◌, ◌*◌, ◌<◌, ◌≤◌, [], ◌∷◌, List, refl, sym, ap, subst, ◌∙◌, arith, get_or, Some, None, Option, true, false, Bool, nat_eq, ◌&&◌, cond, inl, inr}
 use Rattle.std.proofs.lemmas.List.{length-set}
 use Rattle.std.specs.Prelude.{filter, MatchOption}
 use Rattle.std.specs.List.{AllByRecursion}
@@ -8,11 +8,10 @@ use Rattle.std.proofs.lemmas.Bool.{cases_order}
 use Rattle.rtk_obs.specs.declared.code.Code.{Code}
 use Rattle.rtk_obs.specs.declared.code.Code.TheVariants.{G1C, G1P, G1W, G1S, G1L, G1X, G2C, G2D, G2P, G2W, G2S, G2L, G2X, G5I, G5Q, G5X}
 use Rattle.rtk_obs.specs.declared.track.Track.{Track}
-use Rattle.rtk_obs.specs.declared.track.Digits.{Digits}
 use Rattle.rtk_obs.specs.Code.{place_of, frequency_of_code}
-use Rattle.rtk_obs.specs.Slip.{EpochCell, has_phase, slip_since}
+use Rattle.rtk_obs.specs.Slip.{EpochCell, has_phase}
 use Rattle.rtk_obs.specs.Cell.{IsSatellite}
-use Rattle.rtk_obs.specs.Rollover.{last_after, last_phase, track_of, rolls_since, digits_since}
+use Rattle.rtk_obs.specs.Rollover.{last_after, last_phase, track_of, rolls_since}
 use Rattle.rtk_obs.specs.CellSteps.{Step, epoch_cells_of, IsFalling, PhasesFall}
 use Rattle.rtk_obs.specs.Tracks.{IsBounded, IsLater, HasPlaces, track_at, place_of_signal, RepresentsSteps}
 use Rattle.rtk_obs.specs.TracksLaws.{IsGreatest, LastIsGreatest, LaterThanSteps, LaterAfterStep, AllLaterAfterStep}

@@ -91,10 +91,7 @@ fn phase_on(frequency: u32, length: i64, offset: Option<i32>) -> Option<i64>
     ensures { result ≡ glonass_phase_on frequency length offset }
 {
     match offset {
-        Some(offset) => Some(phase_from_length_on(
-            frequency,
-            length + i64::from(offset),
-        )),
+        Some(offset) => Some(phase_from_length_on(frequency, length + i64::from(offset))),
         None => None,
     }
 }
@@ -157,11 +154,7 @@ fn l2_cell(satellite: &GlonassSatellite, length: i64, frequency: Option<u32>) ->
 }
 
 // Returns the entry of L1 of a satellite with this index.
-fn l1_entry(
-    satellite: &GlonassSatellite,
-    channels: &Channels,
-    index: SatelliteIndex,
-) -> SignalEntry
+fn l1_entry(satellite: &GlonassSatellite, channels: &Channels, index: SatelliteIndex) -> SignalEntry
     requires fields { HasGlonassWidths satellite.now }
     requires slot { IsSlot satellite.now.slot }
     ensures { result ≡ glonass_l1_entry satellite.now (glonass_channel channels.now satellite.now) index (glonass_l1_code satellite.now.l1_code) }

@@ -1,6 +1,6 @@
 use Rattle.std.proofs.Common.{refl, sym, ◌∙◌}
 use Rattle.rtk_obs.specs.GlonassCells.{glonass_channel}
-use Rattle.rtk_obs.proofs.GlonassLemmas.{put-again, put-none, put-new, seen-map, slot-of_index}
+use Rattle.rtk_obs.proofs.GlonassLemmas.{put-again, put-none, put-new, seen-map}
 use Rattle.rtk_obs.proofs.glonass_cells.put_satellite.Goals as goal
 
 pub returns-then-not-mark_number-clause-entries : goal.returns-then-not-mark_number-clause-entries
