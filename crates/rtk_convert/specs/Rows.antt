@@ -12,6 +12,7 @@ use Rattle.rtk_obs.specs.declared.track.Track.{Track}
 use Rattle.rtk_obs.specs.declared.track.Digits.{Digits}
 use Rattle.rtk_obs.specs.AnyCode.{number_of, place_of}
 use Rattle.rtk_obs.specs.SatelliteIndex.{letter_of, system_at}
+use Rattle.rtk_obs.specs.Code.{frequency_of}
 use Rattle.rtk_obs.specs.Slip.{EpochCell, epoch_cell}
 use Rattle.rtk_obs.specs.Rollover.{last_phase, digits_since, rolled_phase}
 use Rattle.rtk_collect.specs.EpochSet.{EpochSetView, is_from}
@@ -54,8 +55,8 @@ cells_at_epochs (e ∷ below) satellite code = and_below e.epoch (cell_at e.cell
 abbrev pub band_at : ℕ → Band
 band_at place = if nat_lt place 6 then L1 else if nat_lt place 13 then L2 else L5
 
--- the band by whose frequency the rolls of a code are counted. Only phases of a 1004 roll, which is of GPS: that
--- of a code of another system tells nothing
+-- the frequency by which the rolls of a code are counted, in Hz: that of the code of GPS with its place. Only phases of a
+-- 1004 roll, which is of GPS: that of a code of another system tells nothing
 abbrev pub rolling_frequency : AnyCode → ℕ
 rolling_frequency code = frequency_of (band_at (place_of code))
 
