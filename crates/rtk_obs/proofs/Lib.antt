@@ -27,6 +27,7 @@ mod DistinctEntryLemmas
 mod SeenLemmas
 mod GlonassLemmas
 mod GlonassEntryLemmas
+mod NormalFieldLemmas
 mod SbasLemmas
 mod SignalEntryLemmas
 mod LeapLemmas

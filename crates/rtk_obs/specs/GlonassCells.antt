@@ -2,7 +2,7 @@
 -- times and what is left out are those of a 1004, but for the unit of DF044, the carriers, and codes of L2 that give
 -- no cell.
 -- Source: RTCM 10403.3, message 1012
-use Rattle.std.specs.Prelude.{ℕ, ◌==◌, ℤ, pos, ◌+ℤ◌, Bool, true, false, not, ◌&&◌, ◌||◌, List, [], ◌∷◌, filter, Option, Some, None, nat_le, if◌then◌else◌}
+use Rattle.std.specs.Prelude.{ℕ, ◌==◌, ℤ, pos, ◌+ℤ◌, Bool, true, false, not, ◌&&◌, ◌||◌, List, [], ◌∷◌, filter, Option, Some, None, nat_le, unsigned_abs, if◌then◌else◌}
 use Rattle.std.specs.List.{flat_map}
 use Rattle.std.specs.Ordering.{int_eq}
 use Rattle.rtk_message.specs.declared.obs1012.GlonassSatellite.{GlonassSatellite}
@@ -52,6 +52,37 @@ unless_other_in_1012 field (Some k) = if agrees_in_1012 k field then Some k else
 -- the channel of a satellite
 abbrev pub glonass_channel : List (Option ℤ) → GlonassSatellite → Option ℤ
 glonass_channel channels s = unless_other_in_1012 s.channel (channel_at channels s.slot)
+
+-- ---- the normal form of a field
+
+-- formula
+-- what the field of a satellite becomes by the channel of its slot: 31 if the slot has none, a number that is 7 greater if
+-- the field does not tell another one, and else 30, which is the mark of a contradiction (this project's rule)
+abbrev pub normal_field : Option ℤ → ℕ → ℕ
+normal_field None field = 31
+normal_field (Some k) field = if agrees_in_1012 k field then unsigned_abs (k +ℤ pos 7) else 30
+
+-- a satellite with this field
+abbrev pub with_field : ℕ → GlonassSatellite → GlonassSatellite
+with_field field s = record {
+  slot = s.slot;
+  l1_code = s.l1_code;
+  channel = field;
+  l1_range = s.l1_range;
+  l1_phase_difference = s.l1_phase_difference;
+  l1_lock_indicator = s.l1_lock_indicator;
+  modulus_ambiguity = s.modulus_ambiguity;
+  l1_cnr = s.l1_cnr;
+  l2_code = s.l2_code;
+  l2_range_difference = s.l2_range_difference;
+  l2_phase_difference = s.l2_phase_difference;
+  l2_lock_indicator = s.l2_lock_indicator;
+  l2_cnr = s.l2_cnr;
+}
+
+-- a satellite whose field has its normal form
+abbrev pub normal_satellite : List (Option ℤ) → GlonassSatellite → GlonassSatellite
+normal_satellite channels s = with_field (normal_field (channel_at channels s.slot) s.channel) s
 
 -- ---- the values of a cell
 

@@ -38,6 +38,7 @@ ghost use Rattle.rtk_obs.specs.Dating.{IsDated};
 ghost use Rattle.rtk_obs.specs.declared.glonass_time.GlonassTime.{GlonassTime};
 ghost use Rattle.rtk_obs.specs.LeapSeconds.{IsLeapSecondsAt};
 ghost use Rattle.rtk_obs.specs.GlonassTime.{glonass_time_of, glonass_tow, glonass_tod, IsDatedInDay, IsNumberOf};
+ghost use Rattle.rtk_obs.specs.Carriers.{AreChannels};
 ghost use Rattle.rtk_obs.specs.Clocks.{IsClock, IsClockMoment};
 ghost use Rattle.rtk_obs.specs.Rounding.{IsRounded, rounded};
 ghost use Rattle.rtk_obs.specs.Code.{name_of, place_of};
@@ -49,7 +50,7 @@ ghost use Rattle.rtk_obs.specs.PositionFields.{HasFields};
 ghost use Rattle.rtk_obs.specs.Cell.{IsSatellite, IsInRange, AreDistinct};
 ghost use Rattle.rtk_obs.specs.LegacyCells.{cells_of_1004};
 ghost use Rattle.rtk_obs.specs.SbasCells.{is_sbas_number, signals_of_1004, entries_with_sbas};
-ghost use Rattle.rtk_obs.specs.GlonassCells.{entries_of_1012};
+ghost use Rattle.rtk_obs.specs.GlonassCells.{glonass_channel, normal_satellite, entries_of_1012};
 ghost use Rattle.rtk_obs.specs.MsmCells.{cells_of_1074, cells_of_msm};
 ghost use Rattle.rtk_obs.specs.MessageCells.{cells_of, AreOfOneKind};
 ghost use Rattle.rtk_obs.specs.Tracks.{place_of_signal};
@@ -255,6 +256,18 @@ pub fn entry_laws()
     ensures kind { (channels : List (Option ℤ)) (m : AnyMessage) → EntriesAreOfOneKind (entries_of channels m) }
     ensures gps { (channels : List (Option ℤ)) (m : Msm) → m.system ≡ Gps → signal_entries channels m ≡ map signal_of (cells_of_msm m) }
     ensures numbers { (c : Code) → any.number_of (any.code_of_gps c) ≡ place_of c }
+{}
+
+/// The field of a satellite of a 1012 (DF040) has a normal form by the channels of a setup. It may be taken twice,
+/// because a contradiction has a mark of its own. The satellites that have no phases are those with a mark, 30 or 31,
+/// and the cells of a 1012 are those of its normal form.
+pub fn normal_field_laws()
+    ensures twice { (channels : List (Option ℤ)) → AreChannels channels → (s : GlonassSatellite)
+        → normal_satellite channels (normal_satellite channels s) ≡ normal_satellite channels s }
+    ensures marks { (channels : List (Option ℤ)) → AreChannels channels → (s : GlonassSatellite)
+        → (glonass_channel channels s ≡ None) ↔ (30 ≤ (normal_satellite channels s).channel) }
+    ensures cells { (channels : List (Option ℤ)) → AreChannels channels → (satellites : List GlonassSatellite)
+        → entries_of_1012 channels (map (normal_satellite channels) satellites) ≡ entries_of_1012 channels satellites }
 {}
 
 /// What `entry_laws` says of the entries of a message holds also of those with SBAS of a 1004. Those of a 1004
