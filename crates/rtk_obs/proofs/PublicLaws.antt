@@ -18,3 +18,7 @@ pub use Rattle.rtk_obs.proofs.AnyCodeLemmas.{place_below, same_number, number_be
 pub use Rattle.rtk_obs.proofs.EqualityLemmas.{any_code_same}
 -- the clauses `time` and `legacy` of `clock_laws`
 pub use Rattle.rtk_obs.proofs.ClockLemmas.{is_clock, clock-of-1012}
+-- the clauses of `sbas_laws`: codes, range, differ, kind and plain
+pub use Rattle.rtk_obs.proofs.SbasLemmas.{sbas-own, sbas-range, sbas-differ, sbas-kind, plain-1004}
+-- the clauses of `normal_field_laws`: twice, marks and cells
+pub use Rattle.rtk_obs.proofs.NormalFieldLemmas.{normal-twice, normal-marks, normal-cells}
