@@ -3,7 +3,7 @@
 from __future__ import annotations
 
 import json
-from dataclasses import dataclass
+from dataclasses import dataclass, fields
 from datetime import datetime
 from typing import Any, Dict, Optional, Tuple
 
@@ -106,7 +106,8 @@ class Outage:
 
 @dataclass(frozen=True)
 class SlipsTogether:
-    """A record in which at least two satellites slip: its GPS time, and how many `satellites` slip of the `tracked` ones, which have a phase in it."""
+    """A record in which at least two satellites slip: its GPS time, and how many `satellites` slip of the `tracked` ones, which have a
+    phase in it."""
 
     time: datetime
     satellites: int
@@ -155,7 +156,33 @@ class Fall:
 
 
 @dataclass(frozen=True)
-class SystemQuality:
+class Lists:
+    """The lists that a file of GPS has, and each system of a file with other systems.
+
+    `codes` has the numbers of each code over all satellites, and `satellite_codes` the numbers of each code of each satellite.
+    `tracked` has the numbers of each satellite. `never` has the satellites and codes without any phase. `passes` has the passes of all
+    satellites. `hours` has the hours with a record, and `falls` the largest fall of strength of each band. `longest_outages` has up to
+    ten outages, the longest first. `most_slips_together` has up to ten of the records in which several satellites slip, the one with
+    most of them first. `largest_bursts`, `longest_half_runs` and `longest_missing_codes` have up to ten bursts, runs of half cycles and
+    times for which a code is missing, the largest first.
+    """
+
+    codes: Tuple[CodeQuality, ...]
+    satellite_codes: Tuple[CodeQuality, ...]
+    tracked: Tuple[Tracked, ...]
+    never: Tuple[Tuple[str, str], ...]
+    passes: Tuple[Pass, ...]
+    hours: Tuple[Hour, ...]
+    falls: Tuple[Fall, ...]
+    longest_outages: Tuple[Outage, ...]
+    most_slips_together: Tuple[SlipsTogether, ...]
+    largest_bursts: Tuple[Burst, ...]
+    longest_half_runs: Tuple[HalfRun, ...]
+    longest_missing_codes: Tuple[MissingCode, ...]
+
+
+@dataclass(frozen=True)
+class SystemQuality(Lists):
     """The numbers of one system in a file with other systems than GPS, by the letter of the system (`system`). The others are as in
     `Quality`, but of the satellites and codes of this system alone."""
 
@@ -172,37 +199,19 @@ class SystemQuality:
     bursts: int
     half_runs: int
     missing_codes: int
-    codes: Tuple[CodeQuality, ...]
-    satellite_codes: Tuple[CodeQuality, ...]
-    tracked: Tuple[Tracked, ...]
-    never: Tuple[Tuple[str, str], ...]
-    passes: Tuple[Pass, ...]
-    hours: Tuple[Hour, ...]
-    falls: Tuple[Fall, ...]
-    longest_outages: Tuple[Outage, ...]
-    most_slips_together: Tuple[SlipsTogether, ...]
-    largest_bursts: Tuple[Burst, ...]
-    longest_half_runs: Tuple[HalfRun, ...]
-    longest_missing_codes: Tuple[MissingCode, ...]
 
 
 @dataclass(frozen=True)
-class Quality:
-    """The numbers of a file.
+class Quality(Lists):
+    """The numbers of a file, and its lists.
 
     `first` and `last` are the GPS times of the first and the last record, and `interval` is the most frequent step in seconds (s).
-    `records`, `missing` and `gaps` count the records, the missing epochs, and the gaps in which they are. `satellites` counts the satellites of the file, and the next
-    three numbers say how many satellites a record has. `slips`, `moments`, `outages` and `outage_time` add up all satellites, and
-    `slips_together` counts the records in which at least two satellites slip, `bursts` the hours in which a satellite slips at two
-    moments at least, `half_runs` the runs of half cycles, and `missing_codes` the times for which a code is missing. A file
-    without records has only `marker` and `records`, and all else is None or empty.
-
-    `codes` has the numbers of each code over all satellites, and `satellite_codes` the numbers of each code of each satellite.
-    `tracked` has the numbers of each satellite. `never` has the satellites and codes without any phase. `passes` has the passes of all
-    satellites. `hours` has the hours with a record, `longest_gaps` up to ten gaps, the longest first, and `falls` the largest fall of
-    strength of each band. `longest_outages` has up to ten outages, the longest first, and `most_slips_together` up to ten of the
-    records in which several satellites slip, the one with most of them first. `largest_bursts`, `longest_half_runs` and `longest_missing_codes`
-    have up to ten bursts, runs and times for which a code is missing, the largest first.
+    `records`, `missing` and `gaps` count the records, the missing epochs, and the gaps in which they are. `longest_gaps` has up to ten
+    gaps, the longest first. `satellites` counts the satellites of the file, and the next three numbers say how many satellites a record
+    has. `slips`, `moments`, `outages` and `outage_time` add up all satellites. `slips_together` counts the records in which at least two
+    satellites slip, `bursts` the hours in which a satellite slips at two moments at least, `half_runs` the runs of half cycles, and
+    `missing_codes` the times for which a code is missing. A file without records has only `marker` and `records`, and all else is None
+    or empty.
 
     `systems` is empty for a file of GPS alone. A file with other systems has `marker`, the numbers from `records` to `gaps`, and
     `longest_gaps`. All else is None or empty, and `systems` has the numbers of each system of which the file has codes.
@@ -227,19 +236,7 @@ class Quality:
     bursts: Optional[int]
     half_runs: Optional[int]
     missing_codes: Optional[int]
-    codes: Tuple[CodeQuality, ...]
-    satellite_codes: Tuple[CodeQuality, ...]
-    tracked: Tuple[Tracked, ...]
-    never: Tuple[Tuple[str, str], ...]
-    passes: Tuple[Pass, ...]
-    hours: Tuple[Hour, ...]
     longest_gaps: Tuple[Gap, ...]
-    falls: Tuple[Fall, ...]
-    longest_outages: Tuple[Outage, ...]
-    most_slips_together: Tuple[SlipsTogether, ...]
-    largest_bursts: Tuple[Burst, ...]
-    longest_half_runs: Tuple[HalfRun, ...]
-    longest_missing_codes: Tuple[MissingCode, ...]
     systems: Tuple[SystemQuality, ...] = ()
 
 
@@ -271,11 +268,9 @@ def part_of(number: Optional[int], parts: int) -> Optional[float]:
     return None if number is None else number / parts
 
 
-# What a file of GPS and a system have: numbers, and lists.
-TOTALS = ("satellites", "least_satellites", "mean_satellites", "greatest_satellites", "slips", "moments", "outages", "outage_time",
-    "slips_together", "bursts", "half_runs", "missing_codes")
-LISTS = ("codes", "satellite_codes", "tracked", "never", "passes", "hours", "falls", "longest_outages", "most_slips_together",
-    "largest_bursts", "longest_half_runs", "longest_missing_codes")
+# What a file of GPS and a system have: lists, and numbers.
+LISTS = tuple(it.name for it in fields(Lists))
+TOTALS = tuple(it.name for it in fields(SystemQuality) if it.name not in (*LISTS, "system"))
 
 
 def none_of(names: Tuple[str, ...], it: Any) -> Dict[str, Any]:
@@ -300,11 +295,10 @@ def totals_of(row: Dict[str, Any]) -> Dict[str, Any]:
 
 def lists_of(rows: Dict[str, Any]) -> Dict[str, Any]:
     """The lists of a file of GPS or of a system."""
-    readers = (code_of, code_of, tracked_of, never_of, pass_of, hour_of, fall_of, outage_of, slips_together_of, burst_of, half_run_of,
-        missing_code_of)
-    keys = ("codes", "satellites", "tracked", "never", "passes", "hours", "falls", "outages", "slips_together", "bursts", "half_runs",
-        "missing_codes")
-    return {name: tuple(map(read, rows[key])) for name, read, key in zip(LISTS, readers, keys)}
+    readers = {"codes": code_of, "satellites": code_of, "tracked": tracked_of, "never": never_of, "passes": pass_of, "hours": hour_of,
+        "falls": fall_of, "outages": outage_of, "slips_together": slips_together_of, "bursts": burst_of, "half_runs": half_run_of,
+        "missing_codes": missing_code_of}
+    return {name: tuple(map(read, rows[key])) for name, (key, read) in zip(LISTS, readers.items())}
 
 
 def system_of(rows: Dict[str, Any]) -> SystemQuality:
