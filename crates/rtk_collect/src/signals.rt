@@ -4,28 +4,35 @@ ghost use Rattle.rtk_obs.specs.SignalCells.{entries_of};
 ghost use Rattle.rtk_collect.specs.Signals.{signals};
 ghost use Rattle.std.specs.Prelude.{◌≡◌, ◌≤◌, [], length, IsTrue, IfOk, OnErr};
 ghost use Rattle.rtk_collect.specs.Key.{KeysRise};
+ghost use Rattle.rtk_collect.specs.EpochSet.{AreOfOneSource};
 ghost use Rattle.rtk_collect.specs.Offered.{AnswersArrival, ClosesBelow, ClosesLeast, LeastNeverFalls, WouldBeTaken};
 
 use crate::conflicts::{AnySatelliteCode, Conflicts};
 use crate::dated_ref::{Borrowed, DatedRef};
 use crate::entry::Entry;
 use crate::gatherer::Gatherer;
-use crate::merging::key_of;
 use crate::outcome::Outcome;
 use crate::window::{offer_cells, place_of_epoch};
 use rtk_obs::{Channels, SignalEntry};
 use std::alloc::AllocError;
 
-// Returns whether the keys of cells rise.
+// Returns whether the keys of cells of one kind of message rise. Their kind is the same in all keys.
 fn keys_rise<E: Entry>(cells: &[E]) -> bool
+    requires { AreOfOneSource E.entries cells.now }
     ensures { IsTrue result → KeysRise E.entries cells.now }
 {
-    let mut at = cells.len();
-    while at > 1 {
+    if cells.is_empty() {
+        return true;
+    }
+    let mut at = cells.len() - 1;
+    let mut above = cells[at].place();
+    while at > 0 {
         at -= 1;
-        if key_of(&cells[at - 1]) >= key_of(&cells[at]) {
+        let place = cells[at].place();
+        if place >= above {
             return false;
         }
+        above = place;
     }
     true
 }

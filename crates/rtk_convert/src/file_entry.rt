@@ -17,11 +17,11 @@ ghost use Rattle.rtk_convert.specs.LastPhases.{track_at};
 ghost use Rattle.rtk_convert.specs.Rows.{band_of};
 ghost use Rattle.rtk_convert.specs.Steps.OfferedMessage.{index_or_first};
 
-use crate::row_lines::{RowLines, SignalLines};
+use crate::row_lines::RowLines;
 use crate::signal_phases::SignalPhases;
 use rtk_collect::{AnySatelliteCode, Entry, SatelliteCode};
 use rtk_obs::{AnyCode, CellEntry, Digits, GpsMs, SatelliteIndex, SignalEntry, Tracks};
-use rtk_rinex::RecordLines;
+use rtk_rinex::{MixedRecordLines, RecordLines};
 use std::alloc::{AllocError, Global};
 
 /// A cell of a window, as a conversion shows it: one of GPS, or one of any system. Clauses see each as one of
@@ -142,7 +142,7 @@ impl FileEntry for CellEntry {
 impl FileEntry for SignalEntry {
     type Phases = SignalPhases;
 
-    type Lines = SignalLines;
+    type Lines = MixedRecordLines;
 
     ghost signal_of = { λ e. e };
 

@@ -52,12 +52,15 @@ fn add_block(blocks: &mut Vec<Tracks>) -> Result<(), AllocError>
     Ok(())
 }
 
+// The codes of GPS by their places. A constant would be copied for each cell.
+static CODES: [Code; 16] = ALL_CODES;
+
 // Returns the code of GPS with this place.
 fn code_at(place: usize) -> Code
     requires { place < 16 }
     ensures { place_of result ≡ place }
 {
-    ALL_CODES[place]
+    CODES[place]
 }
 
 impl SignalPhases {

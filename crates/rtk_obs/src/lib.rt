@@ -60,6 +60,7 @@ mod rounding;
 mod satellite_index;
 mod scaling;
 mod signal_cells;
+mod signal_rows;
 mod signals;
 mod slip;
 mod time;

@@ -22,6 +22,6 @@ returns g c =
       others = c.step-digits.ensures.others;
       row = λ row h free.
           subst (λ (o : Observed). g.E.Lines.RowLines.HasLine c.put_listed.new.lines (with_place (place_of e.code) o codes row)) shown
-          (subst (λ (p : ℕ). IsFreeOf p codes row → g.E.Lines.RowLines.HasLine c.put_listed.new.lines (with_place p c.observed-shown.result codes row)) c.code_place.ensures.value (c.put_listed.ensures.open row h) free);
+          (subst (λ (p : ℕ). IsFreeOf p codes row → g.E.Lines.RowLines.HasLine c.put_listed.new.lines (with_place p c.observed-shown.result codes row)) c.requires.place (c.put_listed.ensures.open row h) free);
       kept = c.put_listed.ensures.lines;
     }

@@ -17,6 +17,9 @@ use Rattle.rtk_collect.proofs.signals.Gatherer+SignalEntry.offer_signals.Goals a
 use Rattle.rtk_collect.specs.Signals.{signals}
 use Rattle.rtk_obs.specs.declared.signal_cells.SignalEntry.{SignalEntry}
 
+pub keys_rise-rises-requires : goal.keys_rise-rises-requires
+keys_rise-rises-requires c = subst (AreOfOneSource signals) (sym (c.as_slice-cells.ensures.value ∙ c.put_entries.ensures.cells)) (entries_of-kind _ _)
+
 pub offer_cells-requires : goal.offer_cells-requires
 offer_cells-requires c =
     let kind = subst (AreOfOneSource signals) (sym (c.as_slice-cells.ensures.value ∙ c.put_entries.ensures.cells)) (entries_of-kind _ _) in
