@@ -58,6 +58,7 @@ EpochsAreOfSatellites = (channels : List (Option ℤ)) (greatest n : ℕ) (arriv
 abbrev pub IsGpsMessage : Message → Type 0
 IsGpsMessage (any.Message m) = Unit {0}
 IsGpsMessage (any.Msm m) = m.system ≡ Gps
+IsGpsMessage (any.Obs1012 m) = ⊥
 
 -- an epoch of GPS as one of signals
 abbrev pub epoch_of_signals : EpochSetView CellEntry → EpochSetView SignalEntry

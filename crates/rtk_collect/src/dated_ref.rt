@@ -11,10 +11,10 @@ ghost use Rattle.rtk_collect.specs.Arrival.{At, epoch_of, message_of, IsWideMsm}
 ghost use Rattle.rtk_collect.specs.Steps.Borrowed.{borrowed};
 
 use arrayvec::ArrayVec;
-use rtk_message::{AnyMessage, Message, Msm};
+use rtk_message::{AnyMessage, Message, Msm, Obs1012};
 use rtk_obs::{
-    CellEntry, Channels, GpsMs, SignalEntry, put_cells_msm, put_cells_of, put_entries_of,
-    put_signal_entries,
+    CellEntry, Channels, GpsMs, SignalEntry, put_cells_msm, put_cells_of, put_entries_1012,
+    put_entries_of, put_signal_entries,
 };
 use std::marker::Model;
 
@@ -28,12 +28,13 @@ pub struct DatedRef<'a> {
     pub(crate) epoch: Option<GpsMs>,
 }
 
-/// A borrowed message: one of the four types, or an MSM that is no 1074. An `AnyMessage` owns its message,
+/// A borrowed message: one of the four types, an MSM that is no 1074, or a 1012. An `AnyMessage` owns its message,
 /// so a `&Message` can't be lent as one.
 #[derive(Clone, Copy, Drop)]
 pub(crate) enum Borrowed<'a> {
     Message(&'a Message),
     Msm(&'a Msm),
+    Obs1012(&'a Obs1012),
 }
 
 impl<'a> Borrowed<'a> {
@@ -49,6 +50,10 @@ impl<'a> Borrowed<'a> {
         match self {
             Borrowed::Message(message) => put_cells_of(message, found),
             Borrowed::Msm(message) => put_cells_msm(message, found),
+            Borrowed::Obs1012(_) => {
+                found.clear();
+                true
+            }
         }
     }
 
@@ -61,6 +66,7 @@ impl<'a> Borrowed<'a> {
         match self {
             Borrowed::Message(message) => put_entries_of(message, found),
             Borrowed::Msm(message) => put_signal_entries(message, channels, found),
+            Borrowed::Obs1012(message) => put_entries_1012(message, channels, found),
         }
     }
 }
@@ -108,10 +114,14 @@ impl<'a> DatedRef<'a> {
                 message: Borrowed::Msm(message),
                 epoch,
             },
+            AnyMessage::Obs1012(message) => DatedRef {
+                message: Borrowed::Obs1012(message),
+                epoch,
+            },
         }
     }
 
-    /// Returns the message, or `None` exactly for an MSM that is no 1074.
+    /// Returns the message, or `None` exactly for an MSM that is no 1074, and for a 1012.
     pub fn message(&self) -> Option<&'a Message>
         ensures value { IfSome result (λ m. AnyMessage.Message m.now ≡ message_of self.now) }
         ensures fits { IfSome result (λ m. IsValid m.now) }
@@ -119,7 +129,7 @@ impl<'a> DatedRef<'a> {
     {
         match self.message {
             Borrowed::Message(message) => Some(message),
-            Borrowed::Msm(_) => None,
+            Borrowed::Msm(_) | Borrowed::Obs1012(_) => None,
         }
     }
 
@@ -130,6 +140,7 @@ impl<'a> DatedRef<'a> {
         match self.message {
             Borrowed::Message(message) => message.number(),
             Borrowed::Msm(message) => message.msm_type().number(),
+            Borrowed::Obs1012(_) => 1012,
         }
     }
 

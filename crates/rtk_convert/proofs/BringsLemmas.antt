@@ -1,6 +1,7 @@
 -- The systems of which a message was taken.
-use Rattle.std.proofs.Common.{◌≡◌, ◌∙◌, ◌==◌, ℕ, Bool, true, false, List, Option, None, Some, refl, sym, ap}
-use Rattle.std.specs.Prelude.{◌&&◌, ◌||◌, ◌/◌, ◌%◌, is_some, not}
+use Rattle.std.proofs.Common.{◌≡◌, ◌∙◌, ◌==◌, ℕ, Bool, true, false, List, Option, None, Some, refl, sym, ap, arith}
+use Rattle.std.specs.Prelude.{◌&&◌, ◌||◌, ◌/◌, ◌%◌, is_some, not, if◌then◌else◌}
+use Rattle.std.proofs.lemmas.Bool.{ne_eqb}
 use Rattle.rtk_message.specs.declared.any_message.AnyMessage.{AnyMessage as Message}
 use Rattle.rtk_message.specs.declared.any_message.AnyMessage.TheVariants as any
 use Rattle.rtk_message.specs.declared.message.Message.TheVariants.{Obs1004, Arp1005, Arp1006, Msm1074}
@@ -36,7 +37,7 @@ abbrev msm_type : System → MsmKind → MsmType
 msm_type s k = record { system = s; kind = k }
 
 -- the number of a type tells it
-read-back : (s : System) (k : MsmKind) → type_of_number (number_of_type (msm_type s k)) ≡ Some (msm_type s k)
+read-back : (s : System) (k : MsmKind) → system_of_number (number_of_type (msm_type s k)) ≡ s
 read-back Gps Msm4 = refl
 read-back Gps Msm5 = refl
 read-back Gps Msm6 = refl
@@ -70,10 +71,14 @@ gps-of-both : (k : Option MsmKind) → system_of_type (type_of_both (Some Gps) k
 gps-of-both None = refl
 gps-of-both (Some k) = refl
 
+not-1012 : (number : ℕ) → number / 10 ≡ 107 → (number == 1012) ≡ false
+not-1012 number tens = ne_eqb number 1012 (λ is. let other : 1012 / 10 ≡ 107 = ap (λ (n : ℕ). n / 10) (sym is) ∙ tens in absurd (omega (arith, other)))
+
 -- the numbers of the MSM of GPS are of GPS
 pub gps-of-number : (number : ℕ) → number / 10 ≡ 107 → Gps ≡ system_of_number number
 gps-of-number number tens =
-    sym (ap (λ (n : ℕ). system_of_type (type_of_both (system_of_tens n) (kind_of_digit (number % 10)))) tens ∙ gps-of-both (kind_of_digit (number % 10)))
+    sym (ap (λ (b : Bool). if b then Glonass else system_of_type (type_of_number number)) (not-1012 number tens)
+    ∙ ap (λ (n : ℕ). system_of_type (type_of_both (system_of_tens n) (kind_of_digit (number % 10)))) tens ∙ gps-of-both (kind_of_digit (number % 10)))
 
 -- an observation of a number is of its system
 observed-by : (m : Message) (e : Option ℕ) (system : System) → is_some e ≡ is_some (tow_of m)
@@ -84,7 +89,8 @@ observed-by (any.Message (Arp1006 m)) e system h = rw h refl
 observed-by (any.Message (Msm1074 m)) e system h = ap (λ (b : Bool). b && (letter_of Gps == letter_of system)) h
 observed-by (any.Msm m) e system h =
     ap (λ (b : Bool). b && (letter_of (system_of_number (number_of (any.Msm m))) == letter_of system)) h
-    ∙ ap (λ (t : Option MsmType). is_some (tow_of (any.Msm m)) && (letter_of (system_of_type t) == letter_of system)) (read-back m.system m.kind)
+    ∙ ap (λ (s : System). is_some (tow_of (any.Msm m)) && (letter_of s == letter_of system)) (read-back m.system m.kind)
+observed-by (any.Obs1012 m) e system h = ap (λ (b : Bool). b && (letter_of Glonass == letter_of system)) h
 
 brings-by : (s : SetupView) (a : Arrival) (before : List Arrival) (class : Class) (system : System) → is_some (epoch_of a) ≡ is_some (tow_of (message_of a)) → class ≡ arrival_class s a before
     → brings_by (number_of (message_of a)) (epoch_of a) class system ≡ brings s system (Dated a) before

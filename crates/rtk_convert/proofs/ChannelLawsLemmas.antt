@@ -67,6 +67,7 @@ module _ (test : SatelliteTest) (s : SetupView) (slot : ℕ) where
   tells-by (Refused fault) h = absurd (both_ways false refl h)
   tells-by Foreign h = absurd (both_ways false refl h)
   tells-by (Dated (At e (any.Message m))) h = absurd (both_ways false refl h)
+  tells-by (Dated (At e (any.Obs1012 m))) h = absurd (both_ways false refl h)
   tells-by (Dated (At e (any.Msm m))) h =
       let p = and_parts (letter_of m.system == letter_of Glonass) (any_satellite (test (channels_of s.head.glonass) slot) m slot 0 (satellites_of m.header)) h in
       record {

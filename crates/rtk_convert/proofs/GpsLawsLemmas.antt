@@ -29,6 +29,7 @@ use Rattle.rtk_convert.proofs.GpsOfferLemmas.{entries-same, gps-message, taken-o
 of-gps : (m : Message) → IsGpsMessage m → system_of m ≡ Gps
 of-gps (any.Message m) is = refl
 of-gps (any.Msm m) is = is
+of-gps (any.Obs1012 m) is = absurd is
 
 moment-of-gps : (s : SetupView) (clock epoch : Option ℕ) → IsMomentOf s Gps clock epoch ↔ IsGpsEpoch s.near clock epoch
 moment-of-gps s None None = (λ h. h, λ h. h)

@@ -95,6 +95,7 @@ gps-message s (any.Message m) is h = tt
 gps-message s (any.Msm m) is h =
     takes-gps (kinds_taken s Gps) (type_of m)
     (ap (λ (a : Accepted). accepted.takes a (type_of m)) (sym (taken-of-gps s is)) ∙ sym (accepts-type (taken_by s) (type_of m)) ∙ accepts-taken s (number_of (any.Msm m)) h)
+gps-message s (any.Obs1012 m) is h = cc
 
 pub gps-messages : (s : SetupView) (arrivals : List Arrival) → IsTrue (is_of_gps s) → AllTaken s arrivals → All (λ (a : Arrival). IsGpsMessage (message_of a)) arrivals
 gps-messages s arrivals is h =
@@ -103,6 +104,7 @@ gps-messages s arrivals is h =
 pub entries-same : (channels : List (Option ℤ)) (m : Message) → IsGpsMessage m → entries_of channels m ≡ map signal_of (cells_of m)
 entries-same channels (any.Message m) is = refl
 entries-same channels (any.Msm m) is = entries-of-gps channels m is
+entries-same channels (any.Obs1012 m) is = absurd is
 
 -- ---- cells of GPS as cells of any system
 

@@ -146,6 +146,7 @@ module _ (s : SetupView) where
   message-up-to (any.Message (Arp1005 m)) h = All-nil (IsUpTo (greatest_satellite s))
   message-up-to (any.Message (Arp1006 m)) h = All-nil (IsUpTo (greatest_satellite s))
   message-up-to (any.Message (Msm1074 m)) h = gps-up-to (any.Message (Msm1074 m)) (takes-listed Gps Msm4 h)
+  message-up-to (any.Obs1012 m) h = absurd cc
   message-up-to (any.Msm m) h =
       let listed = takes-listed m.system m.kind (sym (accepts-type (taken_by s) (type_of m)) ∙ accepts-taken s (number_of (any.Msm m)) h) in
       let low = greatest-from m.system listed in

@@ -137,6 +137,7 @@ site_of_1005-good (Some (any.Message (Arp1005 m))) v = (coordinate m.x v.1.1.1.1
 site_of_1005-good (Some (any.Message (Arp1006 m))) v = zeros-good
 site_of_1005-good (Some (any.Message (Msm1074 m))) v = zeros-good
 site_of_1005-good (Some (any.Msm m)) v = zeros-good
+site_of_1005-good (Some (any.Obs1012 m)) v = zeros-good
 
 site-good : (short tall : Option Message) → IfValid short → IfValid tall → IsPositionView (site_of_stations short tall)
 site-good short None s t = site_of_1005-good short s
@@ -145,6 +146,7 @@ site-good short (Some (any.Message (Arp1005 m))) s t = site_of_1005-good short s
 site-good short (Some (any.Message (Arp1006 m))) s v = (coordinate m.arp.x v.1.1.1.1.1.1.0, coordinate m.arp.y v.1.1.1.1.1.1.1.1.1.0, coordinate m.arp.z v.1.1.1.1.1.1.1.1.1.1.1.0, v.1.1.1.1.1.1.1.1.1.1.1.1.0)
 site-good short (Some (any.Message (Msm1074 m))) s t = site_of_1005-good short s
 site-good short (Some (any.Msm m)) s t = site_of_1005-good short s
+site-good short (Some (any.Obs1012 m)) s t = site_of_1005-good short s
 
 -- ---- so the file is the text of a table, with as many records as are counted
 

@@ -18,7 +18,7 @@ use Rattle.rtk_obs.specs.Tracks as tracks
 use Rattle.rtk_obs.specs.Tracks.{place_of_signal}
 use Rattle.rtk_obs.proofs.PublicLaws.{place_below}
 use Rattle.rtk_convert.specs.LastPhases.{track_at}
-use Rattle.rtk_convert.specs.Rows.{band_at, band_of}
+use Rattle.rtk_convert.specs.Rows.{band_at, rolling_frequency}
 use Rattle.rtk_convert.specs.Steps.PhaseBlocks.{HasNoPhases, phase_at, phases_of}
 
 -- ---- places
@@ -59,9 +59,9 @@ band-at G5I = refl
 band-at G5Q = refl
 band-at G5X = refl
 
--- the band of a code is that of the code of GPS with its place
-pub band-same : (c : Code) (k : AnyCode) → place_of c ≡ any.place_of k → gps.band_of c ≡ band_of k
-band-same c k same = band-at c ∙ ap band_at same
+-- rolls of a code are counted by the frequency of the code of GPS with its place
+pub frequency-same : (c : Code) (k : AnyCode) → place_of c ≡ any.place_of k → gps.frequency_of_code c ≡ rolling_frequency k
+frequency-same c k same = ap gps.frequency_of (band-at c ∙ ap band_at same)
 
 -- each place below 16 is that of a code
 place-at : (k : ℕ) → k < 16 → place_of (get_or all_codes k G1C) ≡ k

@@ -9,6 +9,7 @@ use Rattle.rtk_message.specs.declared.any_message.AnyMessage.{AnyMessage as Mess
 use Rattle.rtk_message.specs.declared.any_message.AnyMessage.TheVariants as any
 use Rattle.rtk_message.specs.declared.message.Message.{Message as GpsMessage}
 use Rattle.rtk_message.specs.declared.msm.Msm.{Msm}
+use Rattle.rtk_message.specs.declared.obs1012.Obs1012.{Obs1012}
 use Rattle.rtk_message.specs.declared.system.System.{System}
 use Rattle.rtk_message.specs.declared.system.System.TheVariants.{Gps, Glonass, Galileo, Beidou, Qzss, Sbas, Navic}
 use Rattle.rtk_obs.specs.Carriers.{IsSlot, channel_at}
@@ -207,6 +208,10 @@ module _ (channels : List (Option ℤ)) where
   pub message-none : (m : GpsMessage) (old : Remarks) → PutsSlots channels (any.Message m) old old
   message-none m old = record { systems = refl; other_channels = λ slot is. refl; no_channels = λ slot is. refl }
 
+  -- or a 1012
+  pub legacy-none : (m : Obs1012) (old : Remarks) → PutsSlots channels (any.Obs1012 m) old old
+  legacy-none m old = record { systems = refl; other_channels = λ slot is. refl; no_channels = λ slot is. refl }
+
   -- an MSM of GLONASS
   pub msm-put : (m : Msm) (old new : Remarks) → m.system ≡ Glonass → PutsSatellites channels m old new → PutsSlots channels (any.Msm m) old new
   msm-put m old new of puts =
@@ -240,6 +245,7 @@ without-same channels others slot field h = ap (λ (o : Option ℤ). not (is_som
 has-same : (test : SatelliteTest) (channels others : List (Option ℤ)) (slot : ℕ) (m : Message) → ((field : ℕ) → test channels slot field ≡ test others slot field)
     → has_such_satellite test channels slot m ≡ has_such_satellite test others slot m
 has-same test channels others slot (any.Message m) h = refl
+has-same test channels others slot (any.Obs1012 m) h = refl
 has-same test channels others slot (any.Msm m) h =
     ap (λ (f : ℕ → Bool). (letter_of m.system == letter_of Glonass) && any_satellite f m slot 0 (satellites_of m.header)) (fun_ext h)
 

@@ -12,6 +12,7 @@ use Rattle.rtk_obs.specs.declared.track.Track.{Track}
 use Rattle.rtk_obs.specs.declared.track.Digits.{Digits}
 use Rattle.rtk_obs.specs.AnyCode.{number_of, place_of}
 use Rattle.rtk_obs.specs.SatelliteIndex.{letter_of, system_at}
+use Rattle.rtk_obs.specs.Code.{frequency_of}
 use Rattle.rtk_obs.specs.Slip.{EpochCell, epoch_cell}
 use Rattle.rtk_obs.specs.Rollover.{last_phase, digits_since, rolled_phase}
 use Rattle.rtk_collect.specs.EpochSet.{EpochSetView, is_from}
@@ -54,14 +55,14 @@ cells_at_epochs (e ∷ below) satellite code = and_below e.epoch (cell_at e.cell
 abbrev pub band_at : ℕ → Band
 band_at place = if nat_lt place 6 then L1 else if nat_lt place 13 then L2 else L5
 
--- the band by whose frequency the rolls of a code are counted. Only phases of a 1004 roll, which is of GPS: that
--- of a code of another system tells nothing
-abbrev pub band_of : AnyCode → Band
-band_of code = band_at (place_of code)
+-- the frequency by which the rolls of a code are counted, in Hz: that of the code of GPS with its place. Only phases of a
+-- 1004 roll, which is of GPS: that of a code of another system tells nothing
+abbrev pub rolling_frequency : AnyCode → ℕ
+rolling_frequency code = frequency_of (band_at (place_of code))
 
 -- the last phase of a satellite and code at these epochs
 abbrev pub last_phase_of : List (EpochSetView SignalEntry) → ℕ → AnyCode → Option Track
-last_phase_of below satellite code = last_phase (band_of code) (cells_at_epochs below satellite code)
+last_phase_of below satellite code = last_phase (rolling_frequency code) (cells_at_epochs below satellite code)
 
 -- ---- what a cell shows (RINEX 3.05, Table A3)
 
@@ -77,7 +78,7 @@ observed_with c d =
 -- what the cell of a code shows at an epoch, after the last phase
 abbrev pub observed_after : Option Track → AnyCode → ℕ → Option Cell → Option Observed
 observed_after last code epoch None = None
-observed_after last code epoch (Some c) = Some (observed_with c (digits_since (band_of code) last (epoch_cell epoch c)))
+observed_after last code epoch (Some c) = Some (observed_with c (digits_since (rolling_frequency code) last (epoch_cell epoch c)))
 
 -- what a satellite and code show at an epoch, given the epochs below
 abbrev pub observed_at : EpochSetView SignalEntry → List (EpochSetView SignalEntry) → ℕ → AnyCode → Option Observed

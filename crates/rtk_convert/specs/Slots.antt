@@ -50,6 +50,7 @@ any_satellite test m slot row (bit ∷ bits) = ((bit == slot) && test (field_of_
 abbrev pub has_such_satellite : SatelliteTest → List (Option ℤ) → ℕ → Message → Bool
 has_such_satellite test channels slot (any.Message m) = false
 has_such_satellite test channels slot (any.Msm m) = (letter_of m.system == letter_of Glonass) && any_satellite (test channels slot) m slot 0 (satellites_of m.header)
+has_such_satellite test channels slot (any.Obs1012 m) = false
 
 -- a found frame is a dated message with such a satellite
 abbrev pub tells_slot : SatelliteTest → SetupView → ℕ → FrameClass → Bool

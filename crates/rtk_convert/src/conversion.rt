@@ -249,6 +249,7 @@ fn system_of(number: u16) -> System
 {
     match number {
         1004 | 1074..=1077 => System::Gps,
+        1012 => System::Glonass,
         _ => match MsmType::of_number(number) {
             Some(msm_type) => msm_type.system,
             None => System::Gps,

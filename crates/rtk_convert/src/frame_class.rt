@@ -48,6 +48,7 @@ fn system_of(message: &AnyMessage) -> System
     match message {
         AnyMessage::Message(_) => System::Gps,
         AnyMessage::Msm(msm) => msm.system,
+        AnyMessage::Obs1012(_) => System::Glonass,
     }
 }
 

@@ -126,6 +126,7 @@ impl Remarks {
         match message {
             AnyMessage::Message(_) => {}
             AnyMessage::Msm(message) => put_msm(self, channels, message),
+            AnyMessage::Obs1012(_) => {}
         }
     }
 

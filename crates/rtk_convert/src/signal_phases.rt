@@ -10,7 +10,7 @@ ghost use Rattle.rtk_obs.specs.Rollover.{digits_since, last_after};
 ghost use Rattle.rtk_obs.specs.Slip.{epoch_cell};
 ghost use Rattle.rtk_obs.specs.Tracks.{IsLater};
 ghost use Rattle.rtk_convert.specs.LastPhases.{track_at};
-ghost use Rattle.rtk_convert.specs.Rows.{band_of};
+ghost use Rattle.rtk_convert.specs.Rows.{rolling_frequency};
 ghost use Rattle.rtk_convert.specs.Steps.PhaseBlocks.{HasNoPhases};
 
 use rtk_obs::{ALL_CODES, Code, Digits, GpsMs, SignalEntry, Tracks};
@@ -79,10 +79,10 @@ impl SignalPhases {
     pub(crate) fn step(&mut self, entry: &SignalEntry, epoch: GpsMs) -> Digits
         requires range { IsSignalInRange entry.now }
         requires later { IsLater (track_at self.old entry.now.satellite entry.now.code) epoch }
-        ensures digits { result ≡ digits_since (band_of entry.now.code) (track_at self.old entry.now.satellite entry.now.code) (epoch_cell epoch entry.now.cell) }
+        ensures digits { result ≡ digits_since (rolling_frequency entry.now.code) (track_at self.old entry.now.satellite entry.now.code) (epoch_cell epoch entry.now.cell) }
         ensures bound { unsigned_abs result.rolls ≤ epoch }
         ensures same { track_at self.new entry.now.satellite entry.now.code
-            ≡ last_after (band_of entry.now.code) (track_at self.old entry.now.satellite entry.now.code) (epoch_cell epoch entry.now.cell) }
+            ≡ last_after (rolling_frequency entry.now.code) (track_at self.old entry.now.satellite entry.now.code) (epoch_cell epoch entry.now.cell) }
         ensures others { (s : ℕ) (c : AnyCode) → signal_place s c ≢ signal_place entry.now.satellite entry.now.code
             → track_at self.new s c ≡ track_at self.old s c }
     {

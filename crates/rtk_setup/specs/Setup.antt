@@ -1,5 +1,5 @@
 -- What a conversion is set up with, and which messages it takes.
-use Rattle.std.specs.Prelude.{◌≡◌, ℕ, ◌+◌, ◌≤◌, ◌==◌, ℤ, Bool, List, [], map, Option, None, Some, IfSome, if◌then◌else◌}
+use Rattle.std.specs.Prelude.{◌≡◌, ℕ, ◌+◌, ◌≤◌, ◌==◌, ℤ, Bool, false, List, [], map, Option, None, Some, IfSome, if◌then◌else◌}
 use Rattle.std.specs.Int.{IsInRange}
 use Rattle.std.specs.List.{list_any, list_all}
 use Rattle.rtk_message.specs.declared.accepted.Accepted.{Accepted}
@@ -121,6 +121,7 @@ taken_by s =
       qzss = kinds_taken s Qzss;
       sbas = kinds_taken s Sbas;
       navic = kinds_taken s Navic;
+      obs1012 = false;
     }
 
 -- formula

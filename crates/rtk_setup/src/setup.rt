@@ -90,6 +90,7 @@ fn accepted_by(listed: &[AnyCode], kinds: SystemKinds) -> Accepted
         qzss: kinds_taken(listed, System::Qzss, kinds.qzss),
         sbas: kinds_taken(listed, System::Sbas, kinds.sbas),
         navic: kinds_taken(listed, System::Navic, kinds.navic),
+        obs1012: false,
     }
 }
 

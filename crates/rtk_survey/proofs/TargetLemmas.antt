@@ -59,6 +59,7 @@ timed (any.Message (Arp1005 m)) holds none = cc
 timed (any.Message (Arp1006 m)) holds none = cc
 timed (any.Message (Msm1074 m)) holds none = cc
 timed (any.Msm m) holds none = cc
+timed (any.Obs1012 m) holds none = cc
 
 kept-if : (k : ℕ) (b : Bool) (n : ℕ) (t : Option ℕ) → cond b (station_at (Some k) n t) (Some k) ≡ Some k
 kept-if k true n None = refl

@@ -50,6 +50,10 @@ fn put_entries(message: &AnyMessage, found: &mut ArrayVec<CellEntry, 64>)
     let _ = match message {
         AnyMessage::Message(message) => put_cells_of(message, found),
         AnyMessage::Msm(message) => put_cells_msm(message, found),
+        AnyMessage::Obs1012(_) => {
+            found.clear();
+            true
+        }
     };
 }
 

@@ -15,3 +15,7 @@ returns-in-Message-clause-ranges c =
 pub returns-in-Msm-clause-ranges : goal.returns-in-Msm-clause-ranges
 returns-in-Msm-clause-ranges c =
     subst (All IsSignalInRange) (sym c.put_signal_entries.ensures) (entries_of-in_range c.args.channels.now (any.Msm c.in-Msm.message.now) (subst (λ (b : Borrowed). IsValid (borrowed b)) c.in-Msm.is c.requires))
+
+pub returns-in-Obs1012-clause-ranges : goal.returns-in-Obs1012-clause-ranges
+returns-in-Obs1012-clause-ranges c =
+    subst (All IsSignalInRange) (sym c.put_entries_1012.ensures) (entries_of-in_range c.args.channels.now (any.Obs1012 c.in-Obs1012.message.now) (subst (λ (b : Borrowed). IsValid (borrowed b)) c.in-Obs1012.is c.requires))
