@@ -1,7 +1,9 @@
-mod HeadLemmas
+mod ChannelLemmas
+mod CodeLemmas
 mod LinkLemmas
 mod OnePlanLemmas
 mod PutLemmas
+mod RefusedLemmas
 mod SumLemmas
 mod TakenLemmas
 mod ToldLabelLemmas

@@ -1,22 +1,24 @@
 -- Surveys and words have one plan.
 use Rattle.std.proofs.Common.{◌≡◌, ◌-◌, ◌%◌, ℕ, Bool, true, false, List, map, Option, None, Some, sym, ap, subst, ◌∙◌, arith}
-use Rattle.rtk_obs.specs.AnyCode.{code_of_gps}
 use Rattle.rtk_obs.specs.declared.any_code.AnyCode.{AnyCode}
 use Rattle.rtk_rinex.specs.MixedHead.{GlonassView}
-use Rattle.rtk_setup.specs.Setup.{SetupView, all_of}
+use Rattle.rtk_setup.specs.Setup.{SetupView}
 use Rattle.rtk_setup.specs.declared.system_kinds.SystemKinds.{SystemKinds}
 use Rattle.rtk_survey.specs.declared.placing.Placed.{Placed}
 use Rattle.rtk_survey.specs.declared.survey.CaptureSurvey.{CaptureSurvey}
 use Rattle.rtk_plan.specs.Kept.{empty_captures}
 use Rattle.rtk_plan.specs.Laws.{OnePlan, NearIsWholeSecond}
 use Rattle.rtk_plan.specs.Linking.{links_found, AreLinksOf}
-use Rattle.rtk_plan.specs.Plan.{IsChosenStation, msm_chosen, codes_chosen, marker_chosen, captures_of, IsBaseOf, IsReachOf, ArePlaced, IsNearOf, AreStrays, IsSetupFor}
+use Rattle.rtk_plan.specs.Plan.{IsChosenStation, kinds_found, codes_chosen, marker_chosen, captures_of, IsBaseOf, IsReachOf, ArePlaced, IsNearOf, AreStrays, IsSetupFor}
 use Rattle.rtk_plan.specs.Reach.{least_told, placed_if_any, reach_after, second_of}
+use Rattle.rtk_plan.specs.SlotChannels.{IsGlonassFound}
 use Rattle.rtk_plan.specs.Stray.{strays}
+use Rattle.rtk_plan.specs.SystemMsms.{kinds_listed}
 use Rattle.rtk_plan.specs.declared.reach.Base.{Base}
 use Rattle.rtk_plan.specs.declared.reach.Base.TheVariants.{Told}
 use Rattle.rtk_plan.specs.declared.station_capture.StationCapture.{StationCapture}
 use Rattle.rtk_plan.specs.declared.wanted.Wanted.{Wanted}
+use Rattle.rtk_plan.proofs.ChannelLemmas.{one-glonass}
 
 one-some : {A : Type 0} (o : Option A) (a b : A) → o ≡ Some a → o ≡ Some b → a ≡ b
 one-some o a b is also = let same : Some a ≡ Some b = sym is ∙ also in cc
@@ -68,17 +70,23 @@ setup_with station near marker listed glonass made window kinds leap_seconds =
 one-setup : (ss : List CaptureSurvey) (links : List (List ℕ)) (w : Wanted) (made : ℕ) (s t : SetupView) → IsSetupFor ss links w made s → IsSetupFor ss links w made t → s ≡ t
 one-setup ss links w made s t is also =
     let station : s.station ≡ t.station = one-station ss w.station s.station t.station is.station also.station in
-    let kinds : s.kinds ≡ t.kinds = is.kinds ∙ ap (λ (n : ℕ). all_of (msm_chosen w.msm ss links n)) station ∙ sym also.kinds in
     let listed : s.head.listed ≡ t.head.listed =
-    is.listed ∙ ap (λ (n : ℕ). map code_of_gps (codes_chosen w.codes ss n s.kinds.gps)) station
-    ∙ ap (λ (ks : SystemKinds). map code_of_gps (codes_chosen w.codes ss t.station ks.gps)) kinds ∙ sym also.listed in
+    is.listed ∙ ap (λ (n : ℕ). codes_chosen w.codes ss n (kinds_found w.msm ss links n)) station ∙ sym also.listed in
+    let kinds : s.kinds ≡ t.kinds =
+    is.kinds ∙ ap (λ (n : ℕ). kinds_listed (kinds_found w.msm ss links n) s.head.listed) station
+    ∙ ap (λ (cs : List AnyCode). kinds_listed (kinds_found w.msm ss links t.station) cs) listed ∙ sym also.kinds in
     let marker : s.head.marker ≡ t.head.marker = is.marker ∙ ap (λ (n : ℕ). marker_chosen w.marker n) station ∙ sym also.marker in
-    let glonass : s.head.glonass ≡ t.head.glonass = is.glonass ∙ sym also.glonass in
     let made_at : s.head.made ≡ t.head.made = is.made_at ∙ sym also.made_at in
     let window : s.window ≡ t.window = is.window ∙ sym also.window in
     let leap_seconds : s.leap_seconds ≡ t.leap_seconds = is.leap_seconds ∙ sym also.leap_seconds in
     let near : s.near ≡ t.near =
     one-near w.near (captures_of ss s.station) s.near t.near is.near_by (subst (λ (n : ℕ). IsNearOf w.near (captures_of ss n) t.near) (sym station) also.near_by) in
+    let told : IsGlonassFound ss s.station (kinds_found w.msm ss links s.station) s.head.listed s.near t.head.glonass =
+    subst (λ (n : ℕ). IsGlonassFound ss s.station (kinds_found w.msm ss links s.station) s.head.listed n t.head.glonass) (sym near)
+    (subst (λ (cs : List AnyCode). IsGlonassFound ss s.station (kinds_found w.msm ss links s.station) cs t.near t.head.glonass) (sym listed)
+    (subst (λ (n : ℕ). IsGlonassFound ss n (kinds_found w.msm ss links n) t.head.listed t.near t.head.glonass) (sym station) also.glonass)) in
+    let glonass : s.head.glonass ≡ t.head.glonass =
+    one-glonass ss s.station (kinds_found w.msm ss links s.station) s.head.listed s.near s.head.glonass t.head.glonass is.glonass told in
     ap (λ (n : ℕ). setup_with n s.near s.head.marker s.head.listed s.head.glonass s.head.made s.window s.kinds s.leap_seconds) station
     ∙ ap (λ (n : ℕ). setup_with t.station n s.head.marker s.head.listed s.head.glonass s.head.made s.window s.kinds s.leap_seconds) near
     ∙ ap (λ (name : List ℕ). setup_with t.station t.near name s.head.listed s.head.glonass s.head.made s.window s.kinds s.leap_seconds) marker

@@ -10,6 +10,9 @@ four-parts old a b c d = ap (λ l. l ++ d) (three-parts old a b c) ∙ append_as
 pub five-parts : (old a b c d e : List ℕ) → ((((old ++ a) ++ b) ++ c) ++ d) ++ e ≡ old ++ ((((a ++ b) ++ c) ++ d) ++ e)
 five-parts old a b c d e = ap (λ l. l ++ e) (four-parts old a b c d) ∙ append_assoc old (((a ++ b) ++ c) ++ d) e
 
+pub six-parts : (old a b c d e f : List ℕ) → (((((old ++ a) ++ b) ++ c) ++ d) ++ e) ++ f ≡ old ++ (((((a ++ b) ++ c) ++ d) ++ e) ++ f)
+six-parts old a b c d e f = ap (λ l. l ++ f) (five-parts old a b c d e) ∙ append_assoc old ((((a ++ b) ++ c) ++ d) ++ e) f
+
 -- a part more
 pub then-put : (old l new a b : List ℕ) → l ≡ old ++ a → new ≡ l ++ b → new ≡ old ++ (a ++ b)
 then-put old l new a b so_far more = more ∙ ap (λ (t : List ℕ). t ++ b) so_far ∙ append_assoc old a b

@@ -13,6 +13,7 @@ use Rattle.rtk_plan.specs.Linking.{places_of, kept_in_order, captures_of_link, i
 use Rattle.rtk_plan.specs.Laws.{times, own_places, times_taken, IsInText, EachIsTakenOnce, EachIsLeftOutOnce, LeftOutIsTold}
 use Rattle.rtk_plan.specs.Reach.{placed_if_any}
 use Rattle.rtk_plan.specs.declared.joining.Ordered.{Ordered}
+use Rattle.rtk_setup.specs.Setup.{taken_by}
 use Rattle.rtk_survey.specs.declared.placing.Placed.{Placed}
 use Rattle.rtk_plan.specs.declared.station_capture.StationCapture.{StationCapture}
 
@@ -328,7 +329,7 @@ unfolding lines_behind_late known_lines
 left-out-told names ss plan known late by_stray place lasts some =
     let skipped : List ℕ = skipped_lines names plan.captures.items plan.skipped.items in
     let epochs : List ℕ = epochs_lines names plan.captures.items (places_of plan.links.items) in
-    let rest : List ℕ = not_taken ss plan.setup.station plan.setup.kinds.gps in
+    let rest : List ℕ = not_taken ss plan.setup.station plan.setup.kinds.gps (taken_by plan.setup) in
     let line = line-of (skipped_line names plan.captures.items) plan.skipped.items place some in
     let first = before-and-after [] skipped epochs (skipped_line names plan.captures.items place) line in
     let last = before-and-after [] (skipped ++ epochs) rest (skipped_line names plan.captures.items place) first in

@@ -7,6 +7,7 @@ use Rattle.std.proofs.lemmas.List.FromFn.{filter_of_map_range_with_len_more}
 use Rattle.std.specs.Prelude.{filter, flat_map, if◌then◌else◌}
 use Rattle.std.specs.List.{range_with_len}
 use Rattle.std.specs.declared.vec.Vec.{Vec}
+use Rattle.rtk_message.specs.declared.accepted.Accepted.{Accepted}
 use Rattle.rtk_survey.specs.declared.survey.CaptureSurvey.{CaptureSurvey}
 use Rattle.rtk_survey.specs.declared.placing.Placed.{Placed}
 use Rattle.rtk_plan.specs.Reach.{is_out_of_reach}
@@ -87,11 +88,11 @@ link-empty {A} f k links new none same held =
 
 -- ---- lines of numbers one after another
 
-pub numbered-step : (words : List ℕ) (fs : List CaptureSurvey) (a b m k : ℕ) → m ≡ k + 1 → b ≡ a + 1
-    → unread_lines_from words fs a m ≡ unread_line words fs a ++ unread_lines_from words fs b k
-numbered-step words fs a b m k more next =
-    ap (λ (n : ℕ). unread_lines_from words fs a n) (more ∙ add-one k)
-    ∙ ap (λ (n : ℕ). unread_line words fs a ++ unread_lines_from words fs n k) (sym next)
+pub numbered-step : (words : List ℕ) (taken : Accepted) (fs : List CaptureSurvey) (a b m k : ℕ) → m ≡ k + 1 → b ≡ a + 1
+    → unread_lines_from words taken fs a m ≡ unread_line words taken fs a ++ unread_lines_from words taken fs b k
+numbered-step words taken fs a b m k more next =
+    ap (λ (n : ℕ). unread_lines_from words taken fs a n) (more ∙ add-one k)
+    ∙ ap (λ (n : ℕ). unread_line words taken fs a ++ unread_lines_from words taken fs n k) (sym next)
 
 -- ---- captures with their dated epochs
 

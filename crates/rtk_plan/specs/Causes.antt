@@ -15,7 +15,7 @@ use Rattle.rtk_plan.specs.declared.station_capture.StationCapture.{StationCaptur
 use Rattle.rtk_plan.specs.declared.reach.Base.{Base}
 use Rattle.rtk_plan.specs.Kept.{empty_captures}
 use Rattle.rtk_plan.specs.Linking.{AreLinksOf}
-use Rattle.rtk_plan.specs.Plan.{IsChosenStation, msm_chosen, codes_chosen, captures_of, IsBaseOf, IsReachOf, some_out_of_reach}
+use Rattle.rtk_plan.specs.Plan.{IsChosenStation, kinds_found, codes_chosen, captures_of, IsBaseOf, IsReachOf, some_out_of_reach}
 use Rattle.rtk_plan.specs.Positions.{some_are_far}
 use Rattle.rtk_plan.specs.declared.refusal.PlanFault.{PlanFault}
 use Rattle.rtk_plan.specs.declared.refusal.PlanFault.TheVariants.{Refused, OutOfMemory}
@@ -99,10 +99,10 @@ IsDatingCause given cs refusal = (base : Base) × IsBaseOf given cs base × IsRe
 
 -- ---- the values of the conversion of a station
 
--- no codes are named, and none is found of the MSM of these links
+-- no codes are named, and none is found in the MSM of these links
 abbrev pub HasNoCode : List CaptureSurvey → List (List ℕ) → Wanted → ℕ → Type 0
 HasNoCode ss links w station =
-    (w.codes ≡ None) × (codes_chosen w.codes ss station (msm_chosen w.msm ss links station) ≡ [])
+    (w.codes ≡ None) × (codes_chosen w.codes ss station (kinds_found w.msm ss links station) ≡ [])
 
 abbrev pub IsSetupCause : List CaptureSurvey → List (List ℕ) → Wanted → ℕ → ℕ → Refusal → Type 0
 IsSetupCause ss links w station near NoCode = HasNoCode ss links w station

@@ -3,6 +3,7 @@ use Rattle.std.specs.Prelude.{ℕ, ◌+◌, ◌==◌, Bool, not, ◌&&◌, List,
 use Rattle.std.specs.Borrow.{Bor}
 use Rattle.std.specs.List.{list_any, sum_by}
 use Rattle.std.specs.Option.{is_none}
+use Rattle.rtk_message.specs.declared.accepted.Accepted.{Accepted}
 use Rattle.rtk_message.specs.declared.msm_kind.MsmKind.{MsmKind}
 use Rattle.rtk_message.specs.declared.system.System.{System}
 use Rattle.rtk_message.specs.declared.system.System.TheVariants.{Gps, Glonass, Galileo, Beidou, Qzss, Sbas, Navic}
@@ -10,6 +11,7 @@ use Rattle.rtk_obs.specs.AnyCode.{system_of, place_of}
 use Rattle.rtk_obs.specs.Code.{name_of, all_codes}
 use Rattle.rtk_obs.specs.declared.any_code.AnyCode.{AnyCode}
 use Rattle.rtk_obs.specs.declared.code.Code.{Code}
+use Rattle.rtk_setup.specs.Setup.{taken_by}
 use Rattle.rtk_survey.specs.Counting.{shown_count}
 use Rattle.rtk_survey.specs.Placing.{placed}
 use Rattle.rtk_survey.specs.declared.equipment.Equipment.{Equipment}
@@ -17,6 +19,7 @@ use Rattle.rtk_survey.specs.declared.span.Span.{Span}
 use Rattle.rtk_survey.specs.declared.survey.CaptureSurvey.{CaptureSurvey}
 use Rattle.rtk_survey.specs.declared.tellings.Told.{Told}
 use Rattle.rtk_plan.specs.CaptureNames.{capture_name, lines_by}
+use Rattle.rtk_plan.specs.ChannelWords.{no_channel_lines}
 use Rattle.rtk_plan.specs.FewPhases.{has_few_phases}
 use Rattle.rtk_plan.specs.Linking.{places_of}
 use Rattle.rtk_plan.specs.Lists.{date_line, undated_line, stray_line, capture_line, name_line, msm_lines, doppler_line, sbas_line, all_unread}
@@ -121,6 +124,7 @@ lines_before_late names ss plan told =
     undated_lines plan.span.source names plan.captures.items
     ++ all_other_dates names plan.setup.station plan.setup.near ss
     ++ few_phases_lines ss plan.setup.station plan.setup.kinds.gps plan.setup.head.listed
+    ++ no_channel_lines ss plan.setup.station plan.setup.kinds.glonass plan.setup.head.glonass
     ++ texts_left_out told
     ++ stray_lines names plan.span.until plan.strays.items
 
@@ -158,15 +162,16 @@ epochs_lines_of names cs link = flat_map (epochs_line_at names cs) link
 abbrev pub epochs_lines : List (Bor (List ℕ)) → List StationCapture → List (List ℕ) → List ℕ
 epochs_lines names cs links = flat_map (epochs_lines_of names cs) links
 
--- the observations that are not taken
-unfoldable pub not_taken : List CaptureSurvey → ℕ → MsmKind → List ℕ
-not_taken ss station kind = msm_lines kind ss station ++ doppler_line kind ss station ++ sbas_line ss station ++ all_unread ss
+-- the observations that are not taken, if these messages are and this is the MSM of GPS
+unfoldable pub not_taken : List CaptureSurvey → ℕ → MsmKind → Accepted → List ℕ
+not_taken ss station kind taken =
+    msm_lines taken ss station ++ doppler_line kind ss station ++ sbas_line ss station ++ all_unread taken ss
 
 unfoldable pub lines_behind_late : List (Bor (List ℕ)) → List CaptureSurvey → Plan → List ℕ
 lines_behind_late names ss plan =
     skipped_lines names plan.captures.items plan.skipped.items
     ++ epochs_lines names plan.captures.items (places_of plan.links.items)
-    ++ not_taken ss plan.setup.station plan.setup.kinds.gps
+    ++ not_taken ss plan.setup.station plan.setup.kinds.gps (taken_by plan.setup)
 
 -- ---- the links with a stray epoch
 

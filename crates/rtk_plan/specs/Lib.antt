@@ -1,6 +1,7 @@
 pub mod CaptureEquipment
 pub mod CaptureNames
 pub mod Causes
+pub mod ChannelWords
 pub mod ChosenStation
 pub mod FewPhases
 pub mod Joining
@@ -16,11 +17,13 @@ pub mod Reach
 pub mod RefusalLists
 pub mod Reported
 pub mod SaidCommand
+pub mod SlotChannels
 pub mod Sources
 pub mod SpanLine
 pub mod StationCaptures
 pub mod Steps
 pub mod Stray
+pub mod SystemMsms
 pub mod TextsLeftOut
 pub mod ToldLabel
 pub mod Values

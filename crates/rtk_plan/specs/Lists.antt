@@ -3,8 +3,10 @@ use Rattle.std.specs.Prelude.{ℕ, ℤ, ◌+◌, ◌/◌, ◌%◌, ◌==◌, Boo
 use Rattle.std.specs.Fmt.{sign_text}
 use Rattle.std.specs.Int.{is_negative}
 use Rattle.std.specs.List.{range_with_len}
+use Rattle.rtk_message.specs.declared.accepted.Accepted.{Accepted}
 use Rattle.rtk_message.specs.declared.msm_kind.MsmKind.{MsmKind}
 use Rattle.rtk_message.specs.declared.msm_kind.MsmKind.TheVariants.{Msm4, Msm5, Msm6, Msm7}
+use Rattle.rtk_message.specs.Accepted.{accepts}
 use Rattle.rtk_message.specs.Systems.{number_of_kind}
 use Rattle.rtk_message.specs.ShellText.{sh_quoted}
 use Rattle.rtk_survey.specs.declared.survey.CaptureSurvey.{CaptureSurvey}
@@ -82,49 +84,51 @@ abbrev pub count_line_of : List ℕ → ℕ → ℕ → List ℕ
 count_line_of words number count = if count == 0 then [] else words ++ decimal number ++ codes ", " ++ decimal count ++ codes " messages\n"
 
 -- formula
--- a line for each of so many message numbers from a first one, with how many such messages were not read
-abbrev pub unread_line : List ℕ → List CaptureSurvey → ℕ → List ℕ
-unread_line words ss number = count_line_of words number (others_in_captures ss number)
+-- a line for each of so many message numbers from a first one, with how many such messages are in the captures, but for
+-- those that are taken
+abbrev pub unread_line : List ℕ → Accepted → List CaptureSurvey → ℕ → List ℕ
+unread_line words taken ss number = if accepts taken number then [] else count_line_of words number (others_in_captures ss number)
 
-abbrev pub unread_lines_from : List ℕ → List CaptureSurvey → ℕ → ℕ → List ℕ
-unread_lines_from words ss first count = flat_map (unread_line words ss) (range_with_len first count)
+abbrev pub unread_lines_from : List ℕ → Accepted → List CaptureSurvey → ℕ → ℕ → List ℕ
+unread_lines_from words taken ss first count = flat_map (unread_line words taken ss) (range_with_len first count)
 
 -- table
--- GPS observations that are not read: 1001 to 1003, and MSM 1071 to 1073
+-- GPS observations that no conversion takes: 1001 to 1003, and MSM 1071 to 1073
 -- Source: RTCM 10403.3, message types
-unfoldable pub unread_gps : List CaptureSurvey → List ℕ
-unread_gps ss = unread_lines_from (codes " not in the file: GPS ") ss 1001 3 ++ unread_lines_from (codes " not in the file: GPS ") ss 1071 3
+unfoldable pub unread_gps : Accepted → List CaptureSurvey → List ℕ
+unread_gps taken ss = unread_lines_from (codes " not in the file: GPS ") taken ss 1001 3 ++ unread_lines_from (codes " not in the file: GPS ") taken ss 1071 3
 
 -- table
 -- observations of GLONASS: 1009 to 1012, and MSM 1081 to 1087; of Galileo: MSM 1091 to 1097; of SBAS: MSM
 -- 1101 to 1107
 -- Source: RTCM 10403.3, message types
-unfoldable pub unread_glonass_to_sbas : List CaptureSurvey → List ℕ
-unread_glonass_to_sbas ss =
-    unread_lines_from (codes " not in the file: GLONASS ") ss 1009 4 ++ unread_lines_from (codes " not in the file: GLONASS ") ss 1081 7
-    ++ unread_lines_from (codes " not in the file: Galileo ") ss 1091 7 ++ unread_lines_from (codes " not in the file: SBAS ") ss 1101 7
+unfoldable pub unread_glonass_to_sbas : Accepted → List CaptureSurvey → List ℕ
+unread_glonass_to_sbas taken ss =
+    unread_lines_from (codes " not in the file: GLONASS ") taken ss 1009 4 ++ unread_lines_from (codes " not in the file: GLONASS ") taken ss 1081 7
+    ++ unread_lines_from (codes " not in the file: Galileo ") taken ss 1091 7 ++ unread_lines_from (codes " not in the file: SBAS ") taken ss 1101 7
 
 -- table
 -- observations of QZSS: MSM 1111 to 1117; of BeiDou: MSM 1121 to 1127; of NavIC: MSM 1131 to 1137
 -- Source: RTCM 10403.3, message types
-unfoldable pub unread_qzss_to_navic : List CaptureSurvey → List ℕ
-unread_qzss_to_navic ss =
-    unread_lines_from (codes " not in the file: QZSS ") ss 1111 7 ++ unread_lines_from (codes " not in the file: BeiDou ") ss 1121 7
-    ++ unread_lines_from (codes " not in the file: NavIC ") ss 1131 7
+unfoldable pub unread_qzss_to_navic : Accepted → List CaptureSurvey → List ℕ
+unread_qzss_to_navic taken ss =
+    unread_lines_from (codes " not in the file: QZSS ") taken ss 1111 7 ++ unread_lines_from (codes " not in the file: BeiDou ") taken ss 1121 7
+    ++ unread_lines_from (codes " not in the file: NavIC ") taken ss 1131 7
 
 -- formula
--- all observations that are not read
-unfoldable pub all_unread : List CaptureSurvey → List ℕ
-all_unread ss = unread_gps ss ++ unread_glonass_to_sbas ss ++ unread_qzss_to_navic ss
+-- all observations that are not taken, but for the MSM of GPS that a survey reads
+unfoldable pub all_unread : Accepted → List CaptureSurvey → List ℕ
+all_unread taken ss = unread_gps taken ss ++ unread_glonass_to_sbas taken ss ++ unread_qzss_to_navic taken ss
 
 -- formula
--- an MSM of a station, unless it is the one that is taken
-abbrev pub msm_line : MsmKind → List CaptureSurvey → ℕ → MsmKind → List ℕ
-msm_line taken ss station kind =
-    if number_of_kind kind == number_of_kind taken then [] else
-    count_line_of (codes " not in the file: GPS ") (number_of_kind kind) (messages_in_captures ss station kind)
+-- an MSM of GPS of a station, unless it is taken
+abbrev pub msm_line_of : Accepted → ℕ → ℕ → List ℕ
+msm_line_of taken number count = if accepts taken number then [] else count_line_of (codes " not in the file: GPS ") number count
 
-unfoldable pub msm_lines : MsmKind → List CaptureSurvey → ℕ → List ℕ
+abbrev pub msm_line : Accepted → List CaptureSurvey → ℕ → MsmKind → List ℕ
+msm_line taken ss station kind = msm_line_of taken (number_of_kind kind) (messages_in_captures ss station kind)
+
+unfoldable pub msm_lines : Accepted → List CaptureSurvey → ℕ → List ℕ
 msm_lines taken ss station =
     msm_line taken ss station Msm4 ++ msm_line taken ss station Msm5 ++ msm_line taken ss station Msm6 ++ msm_line taken ss station Msm7
 

@@ -2,11 +2,12 @@
 use Rattle.std.specs.Prelude.{◌≡◌, ℕ, Bool, false, ◌||◌, List, [], ◌∷◌, map, Option, None, Some}
 use Rattle.std.specs.declared.vec.Vec.{Vec}
 use Rattle.rtk_message.specs.declared.msm_kind.MsmKind.{MsmKind}
+use Rattle.rtk_obs.specs.declared.any_code.AnyCode.{AnyCode}
 use Rattle.rtk_obs.specs.declared.code.Code.{Code}
 use Rattle.rtk_obs.specs.AnyCode.{code_of_gps}
 use Rattle.rtk_obs.specs.CivilText.{last_digits}
 use Rattle.rtk_setup.specs.Setup.{SetupView, all_of}
-use Rattle.rtk_survey.specs.Proposal.{proposed}
+use Rattle.rtk_setup.specs.declared.system_kinds.SystemKinds.{SystemKinds}
 use Rattle.rtk_survey.specs.declared.placing.Placed.{Placed}
 use Rattle.rtk_survey.specs.declared.survey.CaptureSurvey.{CaptureSurvey}
 use Rattle.rtk_plan.specs.ChosenStation.{IsObservedStation, IsOnlyObserved}
@@ -18,7 +19,9 @@ use Rattle.rtk_plan.specs.declared.reach.Base.TheVariants.{Given, Told}
 use Rattle.rtk_plan.specs.StationCaptures.{capture_of}
 use Rattle.rtk_plan.specs.Sources.{dated_span_of}
 use Rattle.rtk_plan.specs.Stray.{strays}
-use Rattle.rtk_plan.specs.Values.{most_epochs, codes_in_captures}
+use Rattle.rtk_plan.specs.SlotChannels.{IsGlonassFound}
+use Rattle.rtk_plan.specs.SystemMsms.{kinds_listed}
+use Rattle.rtk_plan.specs.Values.{kinds_in_links, codes_in_captures}
 use Rattle.rtk_plan.specs.declared.wanted.Wanted.{Wanted}
 
 -- the station that is named, if it has observations; else the only one that has
@@ -26,15 +29,16 @@ abbrev pub IsChosenStation : List CaptureSurvey → Option ℕ → ℕ → Type 
 IsChosenStation ss None station = IsOnlyObserved ss station
 IsChosenStation ss (Some named) station = (station ≡ named) × IsObservedStation ss station
 
--- the MSM that is named; else the one of which the station has most epochs with a value on one of these links
-abbrev pub msm_chosen : Option MsmKind → List CaptureSurvey → List (List ℕ) → ℕ → MsmKind
-msm_chosen None ss links station = proposed (most_epochs ss links station)
-msm_chosen (Some named) ss links station = named
+-- the MSM that is named, of all systems; else of each system the one of which the station has most epochs with a
+-- value on one of these links
+abbrev pub kinds_found : Option MsmKind → List CaptureSurvey → List (List ℕ) → ℕ → SystemKinds
+kinds_found None ss links station = kinds_in_links ss links station
+kinds_found (Some named) ss links station = all_of named
 
--- the codes that are named; else all of which the station has a value
-abbrev pub codes_chosen : {A : Type 0} → Option (Vec Code A) → List CaptureSurvey → ℕ → MsmKind → List Code
-codes_chosen None ss station msm = codes_in_captures ss station msm
-codes_chosen (Some named) ss station msm = named.items
+-- the codes that are named, which are of GPS; else all of which the station has a value in the MSM of these kinds
+abbrev pub codes_chosen : {A : Type 0} → Option (Vec Code A) → List CaptureSurvey → ℕ → SystemKinds → List AnyCode
+codes_chosen None ss station kinds = codes_in_captures ss station kinds
+codes_chosen (Some named) ss station kinds = map code_of_gps named.items
 
 -- formula
 -- the marker that is named; else the station's number in four digits
@@ -86,14 +90,14 @@ abbrev pub captures_of : List CaptureSurvey → ℕ → List StationCapture
 captures_of ss station = map (capture_of station) ss
 
 -- the setup of a conversion of captures with these surveys on these links, by these words and at this time of
--- making: each value is named or found; the codes are of GPS, so nothing is told of GLONASS
+-- making: each value is named or found
 pub record IsSetupFor (ss : List CaptureSurvey) (links : List (List ℕ)) (w : Wanted) (made : ℕ) (s : SetupView) : Type 0 where
   pub station : IsChosenStation ss w.station s.station
-  pub kinds : s.kinds ≡ all_of (msm_chosen w.msm ss links s.station)
-  pub listed : s.head.listed ≡ map code_of_gps (codes_chosen w.codes ss s.station s.kinds.gps)
+  pub kinds : s.kinds ≡ kinds_listed (kinds_found w.msm ss links s.station) s.head.listed
+  pub listed : s.head.listed ≡ codes_chosen w.codes ss s.station (kinds_found w.msm ss links s.station)
   pub marker : s.head.marker ≡ marker_chosen w.marker s.station
   pub made_at : s.head.made ≡ made
   pub window : s.window ≡ w.window
-  pub glonass : s.head.glonass ≡ None
+  pub glonass : IsGlonassFound ss s.station (kinds_found w.msm ss links s.station) s.head.listed s.near s.head.glonass
   pub leap_seconds : s.leap_seconds ≡ None
   pub near_by : IsNearOf w.near (captures_of ss s.station) s.near

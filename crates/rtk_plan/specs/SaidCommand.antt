@@ -6,11 +6,13 @@ use Rattle.std.specs.declared.vec.Vec.{Vec}
 use Rattle.rtk_message.specs.ShellText.{sh_quoted}
 use Rattle.rtk_obs.specs.CivilText.{date_text, clock_text}
 use Rattle.rtk_obs.specs.declared.any_code.AnyCode.{AnyCode}
-use Rattle.rtk_obs.specs.AnyCode.{name_of}
+use Rattle.rtk_obs.specs.AnyCode.{system_of, name_of, text_of}
 use Rattle.rtk_rinex.specs.MixedHead.{MixedHeadView}
 use Rattle.rtk_obs.specs.Reading.{reading_of}
-use Rattle.rtk_survey.specs.SummaryText.{msm_option}
 use Rattle.rtk_setup.specs.Setup.{SetupView}
+use Rattle.rtk_plan.specs.ChannelWords.{glonass_words}
+use Rattle.rtk_plan.specs.SystemMsms.{kinds_words}
+use Rattle.rtk_plan.specs.Values.{is_gps_system}
 
 -- formula
 -- a moment as an option writes it, its milliseconds dropped: 2024-05-17T12:00:00
@@ -34,20 +36,25 @@ unfoldable pub marker_words : MixedHeadView → List ℕ
 marker_words h = codes " --made " ++ time_text h.made ++ codes " --marker " ++ word_text h.marker
 
 -- formula
+-- a code as an option lists it: band and attribute alone for GPS, behind the letter of the system for any other
+abbrev pub said_code : AnyCode → List ℕ
+said_code c = if is_gps_system (system_of c) then name_of c else text_of c
+
+-- formula
 -- the names of codes, the first after this separator and each other one after a comma
 abbrev pub code_names : ℕ → List AnyCode → List ℕ
 code_names separator [] = []
-code_names separator (c ∷ cs) = separator ∷ name_of c ++ code_names 44 cs
+code_names separator (c ∷ cs) = separator ∷ said_code c ++ code_names 44 cs
 
 -- formula
--- the codes, the MSM of GPS and the window
+-- the codes, the MSM and the window
 unfoldable pub value_words : SetupView → List ℕ
-value_words s = codes " --codes" ++ code_names 32 s.head.listed ++ msm_option s.kinds.gps ++ codes " --window " ++ decimal s.window
+value_words s = codes " --codes" ++ code_names 32 s.head.listed ++ kinds_words s.kinds s.head.listed ++ codes " --window " ++ decimal s.window
 
 -- formula
 -- the command with its options
 unfoldable pub convert_words : SetupView → List ℕ
-convert_words s = station_words s ++ marker_words s.head ++ value_words s
+convert_words s = station_words s ++ marker_words s.head ++ value_words s ++ glonass_words s.head.glonass
 
 -- formula
 -- names of files, each after a blank

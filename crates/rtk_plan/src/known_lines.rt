@@ -3,11 +3,13 @@
 //! If memory is refused, a first part of what is put may stand there.
 
 ghost use Rattle.std.specs.Prelude.{◌≡◌, ◌++◌, IfOk, OnOk};
+ghost use Rattle.rtk_setup.specs.Setup.{taken_by};
 ghost use Rattle.rtk_plan.specs.KnownLines as spec;
 ghost use Rattle.rtk_plan.specs.Linking.{places_of};
 
 use crate::capture_lines::{put_epochs, put_other_dates, put_skipped, put_strays, put_undated};
 use crate::captures::Captures;
+use crate::channel_words::put_no_channel_in;
 use crate::message_lines::{put_doppler, put_msms, put_sbas, put_unread};
 use crate::phase_lines::put_few_phases_in;
 use crate::planning::Plan;
@@ -16,7 +18,7 @@ use crate::reported::Reported;
 use crate::span_line::{DateSource, DatedSpan, put_span};
 use crate::texts_left_out::put_texts_left_out;
 use crate::written_file::{Step, WrittenFile};
-use rtk_message::{MsmKind, put_named};
+use rtk_message::{Accepted, MsmKind, put_named};
 use rtk_setup::{Counts, Setup};
 use rtk_survey::{CaptureSurvey, Equipment};
 use std::alloc::{AllocError, Global};
@@ -126,6 +128,7 @@ fn put_first_lines(
     put_undated(lines, captures, plan)?;
     put_other_dates(lines, captures, &plan.setup)?;
     put_few_phases_in(lines, captures.surveys, &plan.setup)?;
+    put_no_channel_in(lines, captures.surveys, &plan.setup)?;
     put_texts_left_out(lines, told)?;
     put_strays(lines, captures, plan.span.until, plan.strays.as_slice())?;
     Ok(())
@@ -138,13 +141,14 @@ fn put_not_taken(
     surveys: &[CaptureSurvey],
     station: u16,
     msm: MsmKind,
+    taken: Accepted,
 ) -> Result<(), AllocError>
-    ensures { OnOk result (lines.new.items ≡ lines.old.items ++ spec.not_taken surveys.now station msm) }
+    ensures { OnOk result (lines.new.items ≡ lines.old.items ++ spec.not_taken surveys.now station msm taken) }
 {
-    put_msms(lines, surveys, station, msm)?;
+    put_msms(lines, surveys, station, taken)?;
     put_doppler(lines, surveys, station, msm)?;
     put_sbas(lines, surveys, station)?;
-    put_unread(lines, surveys)?;
+    put_unread(lines, surveys, taken)?;
     Ok(())
 }
 
@@ -155,9 +159,10 @@ fn put_not_taken_in(
     setup: &Setup,
 ) -> Result<(), AllocError>
     ensures { OnOk result (lines.new.items ≡ lines.old.items
-        ++ spec.not_taken surveys.now setup.now.station setup.now.kinds.gps) }
+        ++ spec.not_taken surveys.now setup.now.station setup.now.kinds.gps (taken_by setup.now)) }
 {
-    put_not_taken(lines, surveys, setup.station(), setup.kinds().gps)?;
+    let taken = setup.accepted();
+    put_not_taken(lines, surveys, setup.station(), setup.kinds().gps, taken)?;
     Ok(())
 }
 
@@ -193,8 +198,8 @@ fn put_last_lines(
 }
 
 /// What a person should know of a conversion, a line each, only where it is so: captures that are dated near
-/// the others; a date that is told and does not count; codes with few phases; texts that messages told and that
-/// a label does not have; captures with a stray epoch, that are left out, that have no epoch or whose time falls;
+/// the others; a date that is told and does not count; codes with few phases; satellites without a channel; texts
+/// that messages told and that a label does not have; captures with a stray epoch, that are left out, that have no epoch or whose time falls;
 /// and observations that are not taken.
 pub fn what_is_known(
     alloc: Global,

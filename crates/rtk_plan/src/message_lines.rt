@@ -5,8 +5,10 @@
 ghost use Rattle.std.specs.Prelude.{◌≡◌, ◌≤◌, ◌+◌, ◌++◌, OnOk};
 ghost use Rattle.rtk_plan.specs.Lists as spec;
 
-use crate::values::{held_in_captures, messages_in_captures, others_in_captures, sbas_in_captures};
-use rtk_message::{MsmKind, put_named};
+use crate::held_messages::{
+    held_in_captures, messages_in_captures, others_in_captures, sbas_in_captures,
+};
+use rtk_message::{Accepted, MsmKind, put_named};
 use rtk_survey::CaptureSurvey;
 use std::alloc::AllocError;
 
@@ -30,30 +32,50 @@ fn put_count_line(
     lines.extend_from_slice(b" messages\n")
 }
 
-// Appends a line for each number of messages that are not read, of so many numbers from a first one.
+// Appends the line of a number, unless its messages are taken.
+fn put_unread_line(
+    lines: &mut Vec<u8>,
+    surveys: &[CaptureSurvey],
+    words: &[u8],
+    taken: Accepted,
+    number: u16,
+) -> Result<(), AllocError>
+    ensures { OnOk result (lines.new.items ≡ lines.old.items ++ spec.unread_line words.now taken surveys.now number) }
+{
+    if taken.accepts(number) {
+        return Ok(());
+    }
+    put_count_line(lines, words, number, others_in_captures(surveys, number))
+}
+
+// Appends a line for each number of messages that are not taken, of so many numbers from a first one.
 fn put_numbered(
     lines: &mut Vec<u8>,
     surveys: &[CaptureSurvey],
     words: &[u8],
+    taken: Accepted,
     first: u16,
     count: u16,
 ) -> Result<(), AllocError>
     requires { first + count ≤ 4096 }
-    ensures { OnOk result (lines.new.items ≡ lines.old.items ++ spec.unread_lines_from words.now surveys.now first count) }
+    ensures { OnOk result (lines.new.items ≡ lines.old.items ++ spec.unread_lines_from words.now taken surveys.now first count) }
 {
     for at in 0..count {
-        let number = first + at;
-        put_count_line(lines, words, number, others_in_captures(surveys, number))?;
+        put_unread_line(lines, surveys, words, taken, first + at)?;
     }
     Ok(())
 }
 
-// Appends the lines of GPS observations that are not read.
-fn put_unread_gps(lines: &mut Vec<u8>, surveys: &[CaptureSurvey]) -> Result<(), AllocError>
-    ensures { OnOk result (lines.new.items ≡ lines.old.items ++ spec.unread_gps surveys.now) }
+// Appends the lines of GPS observations that no conversion takes.
+fn put_unread_gps(
+    lines: &mut Vec<u8>,
+    surveys: &[CaptureSurvey],
+    taken: Accepted,
+) -> Result<(), AllocError>
+    ensures { OnOk result (lines.new.items ≡ lines.old.items ++ spec.unread_gps taken surveys.now) }
 {
-    put_numbered(lines, surveys, b" not in the file: GPS ", 1001, 3)?;
-    put_numbered(lines, surveys, b" not in the file: GPS ", 1071, 3)?;
+    put_numbered(lines, surveys, b" not in the file: GPS ", taken, 1001, 3)?;
+    put_numbered(lines, surveys, b" not in the file: GPS ", taken, 1071, 3)?;
     Ok(())
 }
 
@@ -61,13 +83,35 @@ fn put_unread_gps(lines: &mut Vec<u8>, surveys: &[CaptureSurvey]) -> Result<(), 
 fn put_unread_glonass_to_sbas(
     lines: &mut Vec<u8>,
     surveys: &[CaptureSurvey],
+    taken: Accepted,
 ) -> Result<(), AllocError>
-    ensures { OnOk result (lines.new.items ≡ lines.old.items ++ spec.unread_glonass_to_sbas surveys.now) }
+    ensures { OnOk result (lines.new.items ≡ lines.old.items ++ spec.unread_glonass_to_sbas taken surveys.now) }
 {
-    put_numbered(lines, surveys, b" not in the file: GLONASS ", 1009, 4)?;
-    put_numbered(lines, surveys, b" not in the file: GLONASS ", 1081, 7)?;
-    put_numbered(lines, surveys, b" not in the file: Galileo ", 1091, 7)?;
-    put_numbered(lines, surveys, b" not in the file: SBAS ", 1101, 7)?;
+    put_numbered(
+        lines,
+        surveys,
+        b" not in the file: GLONASS ",
+        taken,
+        1009,
+        4,
+    )?;
+    put_numbered(
+        lines,
+        surveys,
+        b" not in the file: GLONASS ",
+        taken,
+        1081,
+        7,
+    )?;
+    put_numbered(
+        lines,
+        surveys,
+        b" not in the file: Galileo ",
+        taken,
+        1091,
+        7,
+    )?;
+    put_numbered(lines, surveys, b" not in the file: SBAS ", taken, 1101, 7)?;
     Ok(())
 }
 
@@ -75,48 +119,66 @@ fn put_unread_glonass_to_sbas(
 fn put_unread_qzss_to_navic(
     lines: &mut Vec<u8>,
     surveys: &[CaptureSurvey],
+    taken: Accepted,
 ) -> Result<(), AllocError>
-    ensures { OnOk result (lines.new.items ≡ lines.old.items ++ spec.unread_qzss_to_navic surveys.now) }
+    ensures { OnOk result (lines.new.items ≡ lines.old.items ++ spec.unread_qzss_to_navic taken surveys.now) }
 {
-    put_numbered(lines, surveys, b" not in the file: QZSS ", 1111, 7)?;
-    put_numbered(lines, surveys, b" not in the file: BeiDou ", 1121, 7)?;
-    put_numbered(lines, surveys, b" not in the file: NavIC ", 1131, 7)?;
+    put_numbered(lines, surveys, b" not in the file: QZSS ", taken, 1111, 7)?;
+    put_numbered(lines, surveys, b" not in the file: BeiDou ", taken, 1121, 7)?;
+    put_numbered(lines, surveys, b" not in the file: NavIC ", taken, 1131, 7)?;
     Ok(())
 }
 
-/// Appends the lines of observations that are not read: of GPS and of other systems.
-pub(crate) fn put_unread(lines: &mut Vec<u8>, surveys: &[CaptureSurvey]) -> Result<(), AllocError>
-    ensures { OnOk result (lines.new.items ≡ lines.old.items ++ spec.all_unread surveys.now) }
+/// Appends the lines of observations that are not taken: of GPS and of other systems.
+pub(crate) fn put_unread(
+    lines: &mut Vec<u8>,
+    surveys: &[CaptureSurvey],
+    taken: Accepted,
+) -> Result<(), AllocError>
+    ensures { OnOk result (lines.new.items ≡ lines.old.items ++ spec.all_unread taken surveys.now) }
 {
-    put_unread_gps(lines, surveys)?;
-    put_unread_glonass_to_sbas(lines, surveys)?;
-    put_unread_qzss_to_navic(lines, surveys)?;
+    put_unread_gps(lines, surveys, taken)?;
+    put_unread_glonass_to_sbas(lines, surveys, taken)?;
+    put_unread_qzss_to_navic(lines, surveys, taken)?;
     Ok(())
 }
 
-// Appends the line of an MSM that is not taken, if there is a message of it.
+// Appends the line of a number of which a station has so many messages, unless it is taken.
+fn put_msm_numbered(
+    lines: &mut Vec<u8>,
+    taken: Accepted,
+    number: u16,
+    count: u64,
+) -> Result<(), AllocError>
+    ensures { OnOk result (lines.new.items ≡ lines.old.items ++ spec.msm_line_of taken number count) }
+{
+    if taken.accepts(number) {
+        return Ok(());
+    }
+    put_count_line(lines, b" not in the file: GPS ", number, count)
+}
+
+// Appends the line of an MSM of GPS, if there is a message of it and it is not taken.
 fn put_msm(
     lines: &mut Vec<u8>,
     surveys: &[CaptureSurvey],
     station: u16,
-    taken: MsmKind,
+    taken: Accepted,
     msm: MsmKind,
 ) -> Result<(), AllocError>
     ensures { OnOk result (lines.new.items ≡ lines.old.items ++ spec.msm_line taken surveys.now station msm) }
 {
-    if msm.number() == taken.number() {
-        return Ok(());
-    }
     let count = messages_in_captures(surveys, station, msm);
-    put_count_line(lines, b" not in the file: GPS ", msm.number(), count)
+    put_msm_numbered(lines, taken, msm.number(), count)?;
+    Ok(())
 }
 
-/// Appends the lines of the MSM of a station that are not taken.
+/// Appends the lines of the MSM of GPS of a station that are not taken.
 pub(crate) fn put_msms(
     lines: &mut Vec<u8>,
     surveys: &[CaptureSurvey],
     station: u16,
-    taken: MsmKind,
+    taken: Accepted,
 ) -> Result<(), AllocError>
     ensures { OnOk result (lines.new.items ≡ lines.old.items ++ spec.msm_lines taken surveys.now station) }
 {

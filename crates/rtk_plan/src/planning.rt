@@ -2,15 +2,11 @@
 
 ghost use Rattle.std.specs.Prelude.{◌≡◌, ◌<◌, ◌≤◌, None, Some, [], true, false, length, IfOk, IfErr, IsOk};
 ghost use Rattle.std.specs.List.{list_any};
-ghost use Rattle.std.specs.Option.{ForSome};
-ghost use Rattle.rtk_obs.specs.CivilText.{last_digits};
-ghost use Rattle.rtk_rinex.specs.Header.{IsCodeList};
-ghost use Rattle.rtk_plan.specs.Causes.{IfRefused, IsStationCause, IsEmptyCause, IsSetupCause, IsCaptureCause, IsCauseOf, has_frames};
+ghost use Rattle.rtk_plan.specs.Causes.{IfRefused, IsStationCause, IsEmptyCause, IsCaptureCause, IsCauseOf, has_frames};
 ghost use Rattle.rtk_plan.specs.Kept.{empty_captures};
 ghost use Rattle.rtk_plan.specs.Linking.{places_of, AreLinksOf};
 ghost use Rattle.rtk_plan.specs.Positions.{some_are_far};
-ghost use Rattle.rtk_plan.specs.Plan.{IsChosenStation, msm_chosen, codes_chosen, marker_chosen, captures_of, IsNearOf, ArePlaced, AreStrays, IsSpanOf, IsInReach, IsSetupFor};
-ghost use Rattle.rtk_plan.specs.Values.{codes_in_captures};
+ghost use Rattle.rtk_plan.specs.Plan.{IsChosenStation, captures_of, ArePlaced, AreStrays, IsSpanOf, IsInReach, IsSetupFor};
 
 use crate::captures::{Captures, StationCaptures, list_held};
 use crate::chosen_station::{OnlyStation, is_observed, only_station};
@@ -21,11 +17,9 @@ use crate::positions::agree_on_position;
 use crate::refusal::{PlanFault, Refusal, refused};
 use crate::span_line::DatedSpan;
 use crate::station_capture::{StationCapture, captures_of};
-use crate::values::{codes_in_captures, msm_of_links};
+use crate::station_setup::setup_near;
 use crate::wanted::Wanted;
-use rtk_message::MsmKind;
-use rtk_obs::{Code, GpsMs};
-use rtk_rinex::{CreationTime, Head, Marker};
+use rtk_rinex::CreationTime;
 use rtk_setup::{Reference, Setup, Station};
 use rtk_survey::{CaptureSurvey, Placed};
 use std::alloc::{AllocError, Global};
@@ -121,106 +115,6 @@ fn captures_to_skip(
         return refused(Refusal::Empty { station }, captured.list_empty(alloc)?);
     }
     Ok(empty)
-}
-
-// The codes that are converted.
-fn codes_to_convert(
-    alloc: Global,
-    surveys: &[CaptureSurvey],
-    station: u16,
-    msm: MsmKind,
-    wanted: &Option<Vec<Code>>,
-) -> Result<Vec<Code>, PlanFault>
-    requires { ForSome wanted.now (λ codes. IsCodeList codes.items) }
-    ensures codes { IfOk result (λ codes. codes.items ≡ codes_chosen wanted.now surveys.now station msm) }
-    ensures good { IfOk result (λ codes. IsCodeList codes.items) }
-    ensures refused { IfErr result (IfRefused (λ refusal. (refusal ≡ Refusal.NoCode) × (wanted.now ≡ None)
-        × (codes_in_captures surveys.now station msm ≡ []))) }
-{
-    if let Some(codes) = wanted {
-        return Ok(Vec::from_slice(alloc, codes.as_slice())?);
-    }
-    let codes = codes_in_captures(alloc, surveys, station, msm)?;
-    if codes.is_empty() {
-        return refused(Refusal::NoCode, list_held(alloc, surveys)?);
-    }
-    Ok(codes)
-}
-
-// The four digits of a station's number.
-fn digits_of(station: u16) -> [u8; 4]
-    ensures { result ≡ last_digits 4 station }
-{
-    let digit = |number: u16| b'0' + (number % 10) as u8;
-    [
-        digit(station / 10 / 10 / 10),
-        digit(station / 10 / 10),
-        digit(station / 10),
-        digit(station),
-    ]
-}
-
-// The head of the file. If no marker is named, the station's number stands for it.
-fn head_of(station: u16, marker: &Option<Marker>, codes: &[Code], made: CreationTime) -> Head
-    requires { IsCodeList codes.now }
-    ensures { result ≡ record { marker = marker_chosen marker.now station; listed = codes.now; made = made } }
-{
-    let digits = digits_of(station);
-    let name = match marker {
-        Some(marker) => marker.as_bytes(),
-        None => digits.as_slice(),
-    };
-    let Ok(marker) = Marker::new(name) else {
-        unreachable!();
-    };
-    let Ok(head) = Head::from_parts(marker, codes, made) else {
-        unreachable!();
-    };
-    head
-}
-
-// The MSM that is converted.
-fn msm_to_convert(
-    surveys: &[CaptureSurvey],
-    links: &[Vec<usize>],
-    wanted: Option<MsmKind>,
-    station: u16,
-) -> MsmKind
-    ensures { result ≡ msm_chosen wanted surveys.now (places_of links.now) station }
-{
-    match wanted {
-        Some(msm) => msm,
-        None => msm_of_links(surveys, links, station),
-    }
-}
-
-// What the conversion of a station near this moment is told.
-fn setup_near(
-    alloc: Global,
-    surveys: &[CaptureSurvey],
-    links: &[Vec<usize>],
-    wanted: &Wanted,
-    made: CreationTime,
-    station: u16,
-    near: GpsMs,
-) -> Result<Setup, PlanFault>
-    requires bound { station < 4096 }
-    requires chosen { IsChosenStation surveys.now wanted.now.station station }
-    requires near { IsNearOf wanted.now.near (captures_of surveys.now station) near }
-    ensures setup { IfOk result (IsSetupFor surveys.now (places_of links.now) wanted.now made) }
-    ensures station { IfOk result (λ setup. (setup.station ≡ station) × (setup.near ≡ near)) }
-    ensures refused { IfErr result (IfRefused (IsSetupCause surveys.now (places_of links.now) wanted.now station near)) }
-{
-    let msm = msm_to_convert(surveys, links, wanted.msm, station);
-    let codes = codes_to_convert(alloc, surveys, station, msm, &wanted.codes)?;
-    let head = head_of(station, &wanted.marker, codes.as_slice(), made);
-    let Ok(station) = Station::new(station) else {
-        unreachable!();
-    };
-    let Ok(near) = Reference::new(near) else {
-        return refused(Refusal::OutsideDates, Vec::new(alloc));
-    };
-    Ok(Setup::from_parts(station, near, head, wanted.window).with_msm(msm))
 }
 
 // The links of the captures, however many.

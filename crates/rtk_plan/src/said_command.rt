@@ -5,10 +5,12 @@
 ghost use Rattle.std.specs.Prelude.{◌≡◌, ◌≤◌, ◌++◌, OnOk};
 ghost use Rattle.rtk_obs.specs.declared.time.TheConstants.{LAST_MS};
 ghost use Rattle.rtk_obs.specs.Reading.{reading_of};
-ghost use Rattle.rtk_survey.specs.SummaryText.{msm_option};
 ghost use Rattle.rtk_plan.specs.SaidCommand as spec;
 
-use rtk_message::{MsmKind, put_named, put_sh_quoted};
+use crate::channel_words::put_glonass_words;
+use crate::system_msms::put_kinds_words;
+use crate::values::is_gps_system;
+use rtk_message::{put_named, put_sh_quoted};
 use rtk_obs::{AnyCode, Civil, GpsMs, civil, put_clock, put_date};
 use rtk_rinex::MixedHead;
 use rtk_setup::Setup;
@@ -55,6 +57,17 @@ pub(crate) fn put_word(line: &mut Vec<u8>, word: &[u8]) -> Result<(), AllocError
     put_sh_quoted(line, &word[at..])
 }
 
+// Appends a code as an option lists it.
+fn put_code(line: &mut Vec<u8>, code: AnyCode) -> Result<(), AllocError>
+    ensures { OnOk result (line.new.items ≡ line.old.items ++ spec.said_code code) }
+{
+    if is_gps_system(code.system()) {
+        line.extend_from_slice(&code.name())
+    } else {
+        line.extend_from_slice(&code.text())
+    }
+}
+
 // Appends codes, the first after this separator.
 fn put_codes(line: &mut Vec<u8>, codes: &[AnyCode]) -> Result<(), AllocError>
     ensures { OnOk result (line.new.items ≡ line.old.items ++ spec.code_names 32 codes.now) }
@@ -62,22 +75,10 @@ fn put_codes(line: &mut Vec<u8>, codes: &[AnyCode]) -> Result<(), AllocError>
     let mut separator = b' ';
     for code in codes {
         line.push(separator)?;
-        line.extend_from_slice(&code.name())?;
+        put_code(line, *code)?;
         separator = b',';
     }
     Ok(())
-}
-
-// The option that names an MSM.
-fn msm_option(msm: MsmKind) -> &'static [u8]
-    ensures { result.now ≡ msm_option msm }
-{
-    match msm {
-        MsmKind::Msm4 => b"",
-        MsmKind::Msm5 => b" --msm 5",
-        MsmKind::Msm6 => b" --msm 6",
-        MsmKind::Msm7 => b" --msm 7",
-    }
 }
 
 // Appends the command with the station and the reference.
@@ -107,14 +108,14 @@ fn put_marker_words(line: &mut Vec<u8>, head: &MixedHead) -> Result<(), AllocErr
     Ok(())
 }
 
-// Appends the codes, the MSM of GPS and the window.
+// Appends the codes, the MSM and the window.
 #[tactic(auto, unfolding(crate::specs::SaidCommand::value_words))]
 fn put_value_words(line: &mut Vec<u8>, setup: &Setup) -> Result<(), AllocError>
     ensures { OnOk result (line.new.items ≡ line.old.items ++ spec.value_words setup.now) }
 {
     line.extend_from_slice(b" --codes")?;
     put_codes(line, setup.head().codes())?;
-    line.extend_from_slice(msm_option(setup.kinds().gps))?;
+    put_kinds_words(line, setup.kinds(), setup.head().codes())?;
     put_named(line, b" --window ", setup.window() as u64)?;
     Ok(())
 }
@@ -127,6 +128,7 @@ fn put_convert_words(line: &mut Vec<u8>, setup: &Setup) -> Result<(), AllocError
     put_station_words(line, setup)?;
     put_marker_words(line, setup.head())?;
     put_value_words(line, setup)?;
+    put_glonass_words(line, setup.head().glonass())?;
     Ok(())
 }
 

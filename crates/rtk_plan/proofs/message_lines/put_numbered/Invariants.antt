@@ -5,4 +5,4 @@ use Rattle.rtk_plan.proofs.message_lines.put_numbered.Given as goal
 -- the lines so far and those of the numbers that are left are all
 abbrev pub invariant-loop-at : goal.invariant-loop-at
 invariant-loop-at l =
-    l.lines.items ++ unread_lines_from l.words l.surveys (l.first + l.at) (l.count - l.at) ≡ l.fn.lines.items ++ unread_lines_from l.words l.surveys l.first l.count
+    l.lines.items ++ unread_lines_from l.words l.taken l.surveys (l.first + l.at) (l.count - l.at) ≡ l.fn.lines.items ++ unread_lines_from l.words l.taken l.surveys l.first l.count

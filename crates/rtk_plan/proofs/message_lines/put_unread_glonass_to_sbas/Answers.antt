@@ -6,10 +6,10 @@ use Rattle.rtk_plan.proofs.message_lines.put_unread_glonass_to_sbas.Goals as goa
 pub returns : goal.returns
 unfolding unread_glonass_to_sbas
 returns c =
-    let a = unread_lines_from (codes " not in the file: GLONASS ") c.args.surveys.now 1009 4 in
-    let b = unread_lines_from (codes " not in the file: GLONASS ") c.args.surveys.now 1081 7 in
-    let d = unread_lines_from (codes " not in the file: Galileo ") c.args.surveys.now 1091 7 in
-    let e = unread_lines_from (codes " not in the file: SBAS ") c.args.surveys.now 1101 7 in
+    let a = unread_lines_from (codes " not in the file: GLONASS ") c.args.taken c.args.surveys.now 1009 4 in
+    let b = unread_lines_from (codes " not in the file: GLONASS ") c.args.taken c.args.surveys.now 1081 7 in
+    let d = unread_lines_from (codes " not in the file: Galileo ") c.args.taken c.args.surveys.now 1091 7 in
+    let e = unread_lines_from (codes " not in the file: SBAS ") c.args.taken c.args.surveys.now 1101 7 in
     c.in_ok-put_numbered-4.ensures
     ∙ ap (λ l. l ++ e) (c.in_ok-put_numbered-3.ensures
     ∙ ap (λ l. l ++ d) (c.in_ok-put_numbered-2.ensures ∙ ap (λ l. l ++ b) (c.in_ok-put_numbered.ensures)))

@@ -1,24 +1,31 @@
-use Rattle.std.proofs.Common.{Bool, ◌∙◌, sym}
+use Rattle.std.proofs.Common.{◌++◌, Bool, List, ℕ, drop, ◌≡◌, ◌∙◌, sym, ap, arith}
+use Rattle.std.proofs.lemmas.List.{append-nil}
 use Rattle.std.specs.Prelude.{filter}
-use Rattle.std.specs.List.{list_any}
-use Rattle.rtk_obs.specs.declared.code.Code.{Code}
-use Rattle.rtk_obs.specs.declared.code.Code.TheVariants.{G1C}
-use Rattle.rtk_obs.specs.Code.{all_codes}
-use Rattle.rtk_survey.proofs.PublicLaws.{code-kept, code-left}
-use Rattle.rtk_plan.specs.Values.{gives_code}
-use Rattle.rtk_plan.proofs.values.codes_in_captures.Goals.{then-is_given+in_ok-push, else-is_given}
+use Rattle.rtk_obs.specs.declared.any_code.AnyCode.{AnyCode}
+use Rattle.rtk_obs.specs.declared.any_code.AnyCode.TheVariants.{G1C}
+use Rattle.rtk_obs.specs.AnyCode.{all_any_codes}
+use Rattle.rtk_plan.specs.Values.{is_found}
+use Rattle.rtk_plan.proofs.CodeLemmas.{any-code-kept, any-code-left}
+use Rattle.rtk_plan.proofs.values.codes_in_captures.Goals.{then-is_found+in_ok-push, else-is_found}
 use Rattle.rtk_plan.proofs.values.codes_in_captures.Goals as goal
 
 pub loop-code-preserved : goal.loop-code-preserved
 loop-code-preserved c =
-    let given : Code → Bool = λ code. list_any (gives_code c.args.station c.args.kind code) c.args.surveys.now in
-    elim c.if-is_given.branch [
-      | then-is_given+in_ok-push w ↦
+    let found : AnyCode → Bool = is_found c.args.surveys.now c.args.station c.args.kinds in
+    elim c.if-is_found.branch [
+      | then-is_found+in_ok-push w ↦
           rw (w.codes-is, w.in_ok-push.ensures.items)
-          (code-kept given c.loop-code.codes.items c.loop-code.code-index G1C (filter given all_codes) c.loop-code-test.true
-          (sym c.is_given.ensures ∙ w.if-is_given.true) c.loop-code.invariant)
-      | else-is_given w ↦
+          (any-code-kept found c.loop-code.codes.items c.loop-code.code-index G1C (filter found all_any_codes) c.loop-code-test.true
+          (sym c.is_found.ensures ∙ w.if-is_found.true) c.loop-code.invariant)
+      | else-is_found w ↦
           rw (w.codes-is)
-          (code-left given c.loop-code.codes.items c.loop-code.code-index G1C (filter given all_codes) c.loop-code-test.true
-          (sym c.is_given.ensures ∙ w.if-is_given.false) c.loop-code.invariant)
+          (any-code-left found c.loop-code.codes.items c.loop-code.code-index G1C (filter found all_any_codes) c.loop-code-test.true
+          (sym c.is_found.ensures ∙ w.if-is_found.false) c.loop-code.invariant)
     ]
+
+pub returns : goal.returns
+returns c =
+    let found : AnyCode → Bool = is_found c.args.surveys.now c.args.station c.args.kinds in
+    let codes : List AnyCode = c.loop-code.codes.items in
+    let end : c.loop-code.code-index ≡ 69 = omega (arith, c.loop-code.auto.code-index-end, c.loop-code-test.false) in
+    sym (append-nil codes) ∙ ap (λ (k : ℕ). codes ++ filter found (drop k all_any_codes)) (sym end) ∙ c.loop-code.invariant

@@ -4,4 +4,4 @@ use Rattle.rtk_plan.proofs.values.epochs_in_link.Given as goal
 
 abbrev pub invariant-loop-place : goal.invariant-loop-place
 invariant-loop-place l =
-    epochs_after l.epochs l.station l.kind l.surveys (drop l.place-index l.link) ≡ epochs_after no_epochs l.station l.kind l.surveys l.link
+    epochs_after l.epochs l.station l.msm l.surveys (drop l.place-index l.link) ≡ epochs_after no_epochs l.station l.msm l.surveys l.link

@@ -1,0 +1,32 @@
+-- Why captures have no plan.
+use Rattle.std.proofs.Common.{◌≡◌, ◌∙◌, ℕ, List, [], None, Result, IsErrAnd, IfErr, sym, ap, subst}
+use Rattle.std.proofs.lemmas.Result.{err_from_is_err_and}
+use Rattle.rtk_setup.specs.declared.system_kinds.SystemKinds.{SystemKinds}
+use Rattle.rtk_survey.specs.declared.survey.CaptureSurvey.{CaptureSurvey}
+use Rattle.rtk_plan.specs.Causes.{IfRefused, IsSetupCause}
+use Rattle.rtk_plan.specs.Plan.{kinds_found}
+use Rattle.rtk_plan.specs.Values.{codes_in_captures}
+use Rattle.rtk_plan.specs.declared.refusal.PlanFault.{PlanFault}
+use Rattle.rtk_plan.specs.declared.refusal.PlanFault.TheVariants.{Refused, OutOfMemory}
+use Rattle.rtk_plan.specs.declared.refusal.Refusal.{Refusal}
+use Rattle.rtk_plan.specs.declared.refusal.Refusal.TheVariants.{NoCode}
+use Rattle.rtk_plan.specs.declared.wanted.Wanted.{Wanted}
+
+-- a cause that is another one too
+refused-also : (IsCause IsOther : Refusal → Type 0) (fault : PlanFault) → ((refusal : Refusal) → IsCause refusal → IsOther refusal) → IfRefused IsCause fault → IfRefused IsOther fault
+refused-also IsCause IsOther (Refused refusal list) also is = also refusal is
+refused-also IsCause IsOther OutOfMemory also is = tt
+
+-- the exit of a `?` by a cause that is another one too
+pub exit-also : {T : Type 0} (IsCause IsOther : Refusal → Type 0) (told : PlanFault) (r : Result T PlanFault) → IsErrAnd r (λ (fault : PlanFault). fault ≡ told)
+    → ((refusal : Refusal) → IsCause refusal → IsOther refusal) → IfRefused IsCause told → IfErr r (IfRefused IsOther)
+exit-also IsCause IsOther told r exits also refused =
+    let p = err_from_is_err_and r exits in
+    rw p.1 (subst (IfRefused IsOther) (sym p.2) (refused-also IsCause IsOther told also refused))
+
+-- no code is found in the MSM of these kinds
+pub no-code-found : (ss : List CaptureSurvey) (links : List (List ℕ)) (w : Wanted) (station near : ℕ) (kinds : SystemKinds) → kinds ≡ kinds_found w.msm ss links station
+    → (refusal : Refusal) → (refusal ≡ NoCode) × (w.codes ≡ None) × (codes_in_captures ss station kinds ≡ []) → IsSetupCause ss links w station near refusal
+no-code-found ss links w station near kinds same refusal (is, none, empty) =
+    subst (λ (r : Refusal). IsSetupCause ss links w station near r) (sym is)
+    (none, rw none (ap (λ (ks : SystemKinds). codes_in_captures ss station ks) (sym same) ∙ empty))

@@ -1,0 +1,19 @@
+use Rattle.std.proofs.Common.{◌≡◌, [], None}
+use Rattle.rtk_plan.specs.Causes.{IsSetupCause}
+use Rattle.rtk_plan.specs.Linking.{places_of}
+use Rattle.rtk_plan.specs.Values.{codes_in_captures}
+use Rattle.rtk_plan.specs.declared.refusal.Refusal.{Refusal}
+use Rattle.rtk_plan.specs.declared.refusal.Refusal.TheVariants.{NoCode}
+use Rattle.rtk_plan.proofs.RefusedLemmas.{exit-also, no-code-found}
+use Rattle.rtk_plan.proofs.station_setup.setup_near.Goals as goal
+
+-- no code is found
+pub returns-in_err-codes-clause-refused : goal.returns-in_err-codes-clause-refused
+returns-in_err-codes-clause-refused c =
+    let ss = c.args.surveys.now in
+    let w = c.args.wanted.now in
+    let kinds = c.kinds_to_convert-kinds.result in
+    let links = places_of c.args.links.now in
+    exit-also (λ (r : Refusal). (r ≡ NoCode) × (w.codes ≡ None) × (codes_in_captures ss c.args.station kinds ≡ [])) (IsSetupCause ss links w c.args.station c.args.near)
+    c.in_err-codes.field-0.0 c.from_residual.result c.from_residual.ensures.1
+    (no-code-found ss links w c.args.station c.args.near kinds c.kinds_to_convert-kinds.ensures) c.in_err-codes.ensures.refused

@@ -1,0 +1,245 @@
+//! What the conversion of a station is told: the MSM and the codes of each system, and the head of the file.
+
+ghost use Rattle.std.specs.Prelude.{◌≡◌, ◌<◌, ◌≤◌, None, [], map, IfOk, IfErr};
+ghost use Rattle.std.specs.Option.{ForSome};
+ghost use Rattle.rtk_obs.specs.AnyCode.{code_of_gps};
+ghost use Rattle.rtk_obs.specs.CivilText.{last_digits};
+ghost use Rattle.rtk_rinex.specs.Header.{IsCodeList};
+ghost use Rattle.rtk_obs.specs.LeapSeconds.{IsLeapSecondsAt};
+ghost use Rattle.rtk_rinex.specs.MixedHead.{IsGlonassView, IsMixedList, TellsGlonass, has_glonass};
+ghost use Rattle.rtk_plan.specs.Causes.{IfRefused, IsSetupCause};
+ghost use Rattle.rtk_plan.specs.Linking.{places_of};
+ghost use Rattle.rtk_plan.specs.Plan.{IsChosenStation, kinds_found, codes_chosen, marker_chosen, captures_of, IsNearOf, IsSetupFor};
+ghost use Rattle.rtk_plan.specs.SlotChannels.{IsGlonassOf, IsGlonassFound};
+ghost use Rattle.rtk_plan.specs.SystemMsms as msms;
+ghost use Rattle.rtk_plan.specs.Values.{codes_in_captures};
+
+use crate::captures::list_held;
+use crate::refusal::{PlanFault, Refusal, refused};
+use crate::slot_channels::channels_found;
+use crate::system_msms::kinds_listed;
+use crate::values::{codes_in_captures, kinds_in_links};
+use crate::wanted::Wanted;
+use rtk_message::{MsmKind, System};
+use rtk_obs::{AnyCode, Code, GpsMs, leap_seconds_at};
+use rtk_rinex::{CreationTime, Glonass, Marker, MixedHead};
+use rtk_setup::{Reference, Setup, Station, SystemKinds};
+use rtk_survey::CaptureSurvey;
+use std::alloc::{AllocError, Global};
+
+// ---- the codes
+
+// Codes of GPS as codes of any systems.
+fn any_codes(alloc: Global, codes: &[Code]) -> Result<Vec<AnyCode>, AllocError>
+    ensures { IfOk result (λ listed. listed.items ≡ map code_of_gps codes.now) }
+{
+    let mut listed = Vec::new(alloc);
+    for code in codes {
+        listed.push(AnyCode::of_gps(*code))?;
+    }
+    Ok(listed)
+}
+
+// The codes that are named.
+fn named_codes(alloc: Global, named: &[Code]) -> Result<Vec<AnyCode>, AllocError>
+    requires { IsCodeList named.now }
+    ensures codes { IfOk result (λ codes. codes.items ≡ map code_of_gps named.now) }
+    ensures good { IfOk result (λ codes. IsMixedList codes.items) }
+{
+    let codes = any_codes(alloc, named)?;
+    Ok(codes)
+}
+
+// The codes that are converted.
+fn codes_to_convert(
+    alloc: Global,
+    surveys: &[CaptureSurvey],
+    station: u16,
+    kinds: SystemKinds,
+    wanted: &Option<Vec<Code>>,
+) -> Result<Vec<AnyCode>, PlanFault>
+    requires { ForSome wanted.now (λ codes. IsCodeList codes.items) }
+    ensures codes { IfOk result (λ codes. codes.items ≡ codes_chosen wanted.now surveys.now station kinds) }
+    ensures good { IfOk result (λ codes. IsMixedList codes.items) }
+    ensures refused { IfErr result (IfRefused (λ refusal. (refusal ≡ Refusal.NoCode) × (wanted.now ≡ None)
+        × (codes_in_captures surveys.now station kinds ≡ []))) }
+{
+    if let Some(codes) = wanted {
+        return Ok(named_codes(alloc, codes.as_slice())?);
+    }
+    let codes = codes_in_captures(alloc, surveys, station, kinds)?;
+    if codes.is_empty() {
+        return refused(Refusal::NoCode, list_held(alloc, surveys)?);
+    }
+    Ok(codes)
+}
+
+// ---- the head
+
+// The four digits of a station's number.
+fn digits_of(station: u16) -> [u8; 4]
+    ensures { result ≡ last_digits 4 station }
+{
+    let digit = |number: u16| b'0' + (number % 10) as u8;
+    [
+        digit(station / 10 / 10 / 10),
+        digit(station / 10 / 10),
+        digit(station / 10),
+        digit(station),
+    ]
+}
+
+// The marker. If none is named, the station's number stands for it.
+fn marker_of(station: u16, marker: &Option<Marker>) -> Marker
+    ensures { result ≡ marker_chosen marker.now station }
+{
+    let digits = digits_of(station);
+    let name = match marker {
+        Some(marker) => marker.as_bytes(),
+        None => digits.as_slice(),
+    };
+    let Ok(marker) = Marker::new(name) else {
+        unreachable!();
+    };
+    marker
+}
+
+// Is a listed code of GLONASS?
+fn has_glonass(listed: &[AnyCode]) -> bool
+    ensures { result ≡ has_glonass listed.now }
+{
+    for code in listed {
+        if code.text()[0] == b'R' {
+            return true;
+        }
+    }
+    false
+}
+
+// The leap seconds of the table at a moment.
+fn table_seconds(near: GpsMs) -> u8
+    ensures said { IsLeapSecondsAt near result }
+    ensures bound { result ≤ 99 }
+{
+    leap_seconds_at(near)
+}
+
+// What the file tells of GLONASS.
+fn glonass_of(surveys: &[CaptureSurvey], station: u16, kind: MsmKind, near: GpsMs) -> Glonass
+    ensures found { IsGlonassOf surveys.now station kind near result }
+    ensures good { IsGlonassView result }
+{
+    let channels = channels_found(surveys, station, kind);
+    let Some(glonass) = Glonass::new(channels, table_seconds(near)) else {
+        unreachable!();
+    };
+    glonass
+}
+
+// What the file tells of GLONASS, if it lists a code of it.
+fn glonass_found(
+    surveys: &[CaptureSurvey],
+    station: u16,
+    kinds: SystemKinds,
+    listed: &[AnyCode],
+    near: GpsMs,
+) -> Option<Glonass>
+    ensures found { IsGlonassFound surveys.now station kinds listed.now near result }
+    ensures due { TellsGlonass listed.now result }
+{
+    if has_glonass(listed) {
+        Some(glonass_of(surveys, station, kinds.glonass, near))
+    } else {
+        None
+    }
+}
+
+// The head of the file.
+fn head_of(
+    marker: Marker,
+    codes: &[AnyCode],
+    glonass: Option<Glonass>,
+    made: CreationTime,
+) -> MixedHead
+    requires good { IsMixedList codes.now }
+    requires due { TellsGlonass codes.now glonass }
+    ensures { result ≡ record { marker = marker; listed = codes.now; glonass = glonass; made = made } }
+{
+    let Ok(head) = MixedHead::new(marker, codes, glonass, made) else {
+        unreachable!();
+    };
+    head
+}
+
+// ---- the MSM
+
+// The MSM of each system, if a code of it is converted. One that is named is that of all.
+fn kinds_to_convert(
+    surveys: &[CaptureSurvey],
+    links: &[Vec<usize>],
+    wanted: Option<MsmKind>,
+    station: u16,
+) -> SystemKinds
+    ensures { result ≡ kinds_found wanted surveys.now (places_of links.now) station }
+{
+    match wanted {
+        Some(msm) => SystemKinds::all(msm),
+        None => kinds_in_links(surveys, links, station),
+    }
+}
+
+// The setup with these kinds.
+fn with_kinds(setup: Setup, kinds: SystemKinds) -> Setup
+    ensures { result ≡ record setup { kinds = kinds } }
+{
+    setup
+        .with_kind(System::Gps, kinds.gps)
+        .with_kind(System::Glonass, kinds.glonass)
+        .with_kind(System::Galileo, kinds.galileo)
+        .with_kind(System::Beidou, kinds.beidou)
+        .with_kind(System::Qzss, kinds.qzss)
+        .with_kind(System::Sbas, kinds.sbas)
+        .with_kind(System::Navic, kinds.navic)
+}
+
+// The setup with these kinds, but for systems without a listed code.
+fn with_kinds_listed(setup: Setup, kinds: SystemKinds) -> Setup
+    ensures { result ≡ record setup { kinds = msms.kinds_listed kinds setup.head.listed } }
+{
+    let listed = kinds_listed(&setup, kinds);
+    with_kinds(setup, listed)
+}
+
+// ---- all of it
+
+/// What the conversion of a station near this moment is told.
+pub(crate) fn setup_near(
+    alloc: Global,
+    surveys: &[CaptureSurvey],
+    links: &[Vec<usize>],
+    wanted: &Wanted,
+    made: CreationTime,
+    station: u16,
+    near: GpsMs,
+) -> Result<Setup, PlanFault>
+    requires bound { station < 4096 }
+    requires chosen { IsChosenStation surveys.now wanted.now.station station }
+    requires near { IsNearOf wanted.now.near (captures_of surveys.now station) near }
+    ensures setup { IfOk result (IsSetupFor surveys.now (places_of links.now) wanted.now made) }
+    ensures station { IfOk result (λ setup. (setup.station ≡ station) × (setup.near ≡ near)) }
+    ensures refused { IfErr result (IfRefused (IsSetupCause surveys.now (places_of links.now) wanted.now station near)) }
+{
+    let kinds = kinds_to_convert(surveys, links, wanted.msm, station);
+    let codes = codes_to_convert(alloc, surveys, station, kinds, &wanted.codes)?;
+    let listed = codes.as_slice();
+    let glonass = glonass_found(surveys, station, kinds, listed, near);
+    let head = head_of(marker_of(station, &wanted.marker), listed, glonass, made);
+    let Ok(station) = Station::new(station) else {
+        unreachable!();
+    };
+    let Ok(near) = Reference::new(near) else {
+        return refused(Refusal::OutsideDates, Vec::new(alloc));
+    };
+    let setup = Setup::mixed(station, near, head, wanted.window);
+    Ok(with_kinds_listed(setup, kinds))
+}
