@@ -1,0 +1,15 @@
+-- Sets of systems.
+use Rattle.std.specs.Prelude.{Bool}
+use Rattle.rtk_message.specs.declared.system.System.{System}
+use Rattle.rtk_message.specs.declared.system.System.TheVariants.{Gps, Glonass, Galileo, Beidou, Qzss, Sbas, Navic}
+use Rattle.rtk_plan.specs.declared.system_flags.SystemFlags.{SystemFlags}
+
+-- table
+abbrev pub flag_of : SystemFlags → System → Bool
+flag_of f Gps = f.gps
+flag_of f Glonass = f.glonass
+flag_of f Galileo = f.galileo
+flag_of f Beidou = f.beidou
+flag_of f Qzss = f.qzss
+flag_of f Sbas = f.sbas
+flag_of f Navic = f.navic
