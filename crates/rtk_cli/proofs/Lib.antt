@@ -1,6 +1,5 @@
 mod ChannelLemmas
 mod ChoiceLemmas
-mod CodeListLemmas
 mod FaultLineLemmas
 mod HeadLemmas
 mod KindLemmas

@@ -2,16 +2,19 @@
 
 ghost use Rattle.std.specs.Prelude.{IfErr, IsTrue};
 ghost use Rattle.std.specs.Option.{ForSome};
-ghost use Rattle.rtk_rinex.specs.Header.{IsCodeList};
+ghost use Rattle.rtk_rinex.specs.MixedHead.{IsMixedList};
 ghost use Rattle.rtk_cli.specs.Words.{IsWordsFault};
 
-use crate::option_texts::{codes_said, made_said, marker_said, moment_if_any, reference_said};
+use crate::channel_list::channels_said;
+use crate::chart_words::are_systems;
+use crate::code_words::{any_codes_said, in_file_order};
+use crate::option_texts::{made_said, marker_said, moment_if_any, reference_said};
 use crate::options::AutoOptions;
 use crate::words::{AutoWords, BadWords, WordsFault};
 use rtk_convert::{MOST_WINDOW, Window};
-use rtk_obs::Code;
-use rtk_plan::Wanted;
-use rtk_rinex::is_code_list;
+use rtk_obs::{AnyCode, Channels};
+use rtk_plan::{SystemFlags, Wanted};
+use rtk_rinex::is_mixed_list;
 use std::alloc::Global;
 
 // What is read of an option, if it is given.
@@ -22,23 +25,58 @@ fn if_given<T: Drop>(read: Option<Result<T, BadWords>>) -> Result<Option<T>, Bad
     }
 }
 
-// The codes, if any are given. Whether they are good together is not looked at.
-fn codes_if_any(alloc: Global, text: Option<&str>) -> Result<Option<Vec<Code>>, WordsFault>
+// The codes, if any are given, in the order of a file. Whether they are good together is not looked at.
+fn codes_if_any(alloc: Global, text: Option<&str>) -> Result<Option<Vec<AnyCode>>, WordsFault>
     ensures { IfErr result IsWordsFault }
 {
-    match text {
-        Some(text) => Ok(Some(codes_said(alloc, text)?)),
-        None => Ok(None),
-    }
+    let Some(text) = text else {
+        return Ok(None);
+    };
+    let codes = any_codes_said(alloc, text)?;
+    Ok(Some(in_file_order(alloc, codes.as_slice())?))
 }
 
 // Are the codes good together, if any are given?
-fn are_good_codes(codes: &Option<Vec<Code>>) -> bool
-    ensures { IsTrue result → ForSome codes.now (λ codes. IsCodeList codes.items) }
+fn are_good_codes(codes: &Option<Vec<AnyCode>>) -> bool
+    ensures { IsTrue result → ForSome codes.now (λ codes. IsMixedList codes.items) }
 {
     match codes {
-        Some(codes) => is_code_list(codes.as_slice()),
+        Some(codes) => is_mixed_list(codes.as_slice()),
         None => true,
+    }
+}
+
+// The systems of which a text has the letters.
+fn systems_of(letters: &[u8]) -> SystemFlags {
+    SystemFlags {
+        gps: letters.contains(&b'G'),
+        glonass: letters.contains(&b'R'),
+        galileo: letters.contains(&b'E'),
+        beidou: letters.contains(&b'C'),
+        qzss: letters.contains(&b'J'),
+        sbas: letters.contains(&b'S'),
+        navic: letters.contains(&b'I'),
+    }
+}
+
+// The systems that are converted: all, if none are named.
+fn systems_said(text: Option<&str>) -> Result<SystemFlags, BadWords> {
+    let Some(text) = text else {
+        return Ok(SystemFlags::ALL);
+    };
+    if !are_systems(text.as_bytes()) {
+        return Err(BadWords::Systems);
+    }
+    Ok(systems_of(text.as_bytes()))
+}
+
+// The channels, if any are given.
+fn channels_if_any(alloc: Global, text: Option<&str>) -> Result<Option<Channels>, WordsFault>
+    ensures { IfErr result IsWordsFault }
+{
+    match text {
+        Some(text) => Ok(Some(channels_said(alloc, text)?)),
+        None => Ok(None),
     }
 }
 
@@ -65,10 +103,15 @@ pub(crate) fn auto_words<'a>(
     if !are_good_codes(&codes) {
         return Err(BadWords::Codes.into());
     }
+    let channels = channels_if_any(alloc, options.channels)?;
+    let systems = systems_said(options.systems)?;
     let wanted = Wanted {
         station: options.station,
         msm: options.msm,
         codes,
+        systems,
+        channels,
+        leap_seconds: options.leap_seconds,
         near: if_given(near.map(reference_said))?,
         marker,
         window: options.window.unwrap_or(greatest_window()),

@@ -1,21 +1,16 @@
 //! What the texts of options say: each by one call, which answers the cause if the words are refused.
 
-ghost use Rattle.std.specs.Prelude.{◌≡◌, ◌%◌, ◌≤◌, List, IfOk, IfErr};
+ghost use Rattle.std.specs.Prelude.{◌≡◌, ◌%◌, ◌≤◌, IfOk, IfErr};
 ghost use Rattle.rtk_obs.specs.Dating.{IsReference};
-ghost use Rattle.rtk_obs.specs.declared.code.Code.{Code};
 ghost use Rattle.rtk_obs.specs.declared.time.TheConstants.{LAST_MS};
 ghost use Rattle.rtk_rinex.specs.Header.{IsMarker};
-ghost use Rattle.rtk_cli.specs.FaultLines.{IsRefusal};
-ghost use Rattle.rtk_cli.specs.Steps.CodeList.{Lists};
 ghost use Rattle.rtk_cli.specs.Steps.MomentText.{WritesMoment, HasMoment, SaysMomentOrNone, HasNoMoment};
 
-use crate::code_list::codes_of;
 use crate::moment_text::moment_of;
-use crate::words::{BadWords, WordsFault};
+use crate::words::BadWords;
 use rtk_convert::Reference;
-use rtk_obs::{Code, GpsMs};
+use rtk_obs::GpsMs;
 use rtk_rinex::{CreationTime, Marker};
-use std::alloc::Global;
 
 /// The moment that a text writes, else this cause.
 pub(crate) fn moment_said(text: &str, cause: BadWords) -> Result<GpsMs, BadWords>
@@ -52,18 +47,6 @@ pub(crate) fn made_said(text: &str) -> Result<CreationTime, BadWords>
         unreachable!();
     };
     Ok(made)
-}
-
-/// The codes that a text lists; a code may stand twice.
-pub(crate) fn codes_said(alloc: Global, text: &str) -> Result<Vec<Code>, WordsFault>
-    ensures listed { IfOk result (λ codes. Lists text.now codes.items) }
-    // `OutOfMemory` comes only if memory is refused: tests/system/calls, rows `job of convert ..`.
-    ensures refused { IfErr result (IsRefusal (λ cause. (cause ≡ BadWords.Codes) × ((listed : List Code) → ¬ (Lists text.now listed)))) }
-{
-    match codes_of(alloc, text.as_bytes())? {
-        Some(codes) => Ok(codes),
-        None => Err(BadWords::Codes.into()),
-    }
 }
 
 /// The marker that a text names.

@@ -1,15 +1,15 @@
 -- The channels that messages tell.
-use Rattle.std.proofs.Common.{◌≡◌, ◌≢◌, ◌<◌, ◌≤◌, ◌+◌, ◌-◌, ◌∙◌, ℕ, suc, ℤ, Bool, true, false, List, [], ◌∷◌, length, Option, None, Some, inl, inr, refl, sym, ap, subst, arith}
+use Rattle.std.proofs.Common.{◌≡◌, ◌≢◌, ◌<◌, ◌≤◌, ◌+◌, ◌-◌, ◌∙◌, ℕ, zero, suc, ℤ, Bool, true, false, List, [], ◌∷◌, length, Option, None, Some, inl, inr, refl, sym, ap, subst, arith}
 use Rattle.std.specs.Prelude.{nat_lt, slice_index_or, if◌then◌else◌}
 use Rattle.std.proofs.lemmas.Bool.{cases_lt, cases_order, cases_Bool, ltb-true, ltb-false}
 use Rattle.rtk_message.specs.declared.msm_kind.MsmKind.{MsmKind}
-use Rattle.rtk_obs.specs.Carriers.{IsSlot, channel_at}
+use Rattle.rtk_obs.specs.Carriers.{AreChannels, IsSlot, channel_at}
 use Rattle.rtk_obs.specs.LeapSeconds.{IsLastRow}
 use Rattle.rtk_obs.specs.declared.any_code.AnyCode.{AnyCode}
-use Rattle.rtk_rinex.specs.MixedHead.{GlonassView}
+use Rattle.rtk_rinex.specs.MixedHead.{GlonassView, has_glonass}
 use Rattle.rtk_setup.specs.declared.system_kinds.SystemKinds.{SystemKinds}
 use Rattle.rtk_survey.specs.declared.survey.CaptureSurvey.{CaptureSurvey}
-use Rattle.rtk_plan.specs.SlotChannels.{count_told, IsMostTold, IsToldField, IsSlotField, channel_if, is_slot_given, IsChannelFound, AreChannelsFound, IsGlonassFound}
+use Rattle.rtk_plan.specs.SlotChannels.{count_told, IsMostTold, IsToldField, IsSlotField, channel_if, is_slot_given, IsChannelFound, AreChannelsFound, AreChannelsChosen, AreSecondsChosen, IsGlonassOf, IsGlonassFound}
 use Rattle.rtk_plan.specs.Steps.ToldFields.{most_told_with}
 use Rattle.rtk_plan.specs.Values.{or_else}
 use Rattle.rtk_plan.specs.declared.slot_channels.MostTold.{MostTold}
@@ -122,10 +122,10 @@ one-channels ss n kind a b is also =
     let count = is.good.count in
     let as_many = also.good.count in
     same-list a b (omega (arith, count, as_many)) (λ k lt.
-    let slot : IsSlot (k + 1) = (omega arith, omega (arith, lt, count)) in
-    let same : channel_at a (k + 1) ≡ channel_at b (k + 1) = one-channel ss n kind (k + 1) (channel_at a (k + 1)) (channel_at b (k + 1)) (is.each (k + 1) slot) (also.each (k + 1) slot) in
-    let place : (k + 1) - 1 ≡ k = omega arith in
-    ap (λ (p : ℕ). slice_index_or a p None) (sym place) ∙ same ∙ ap (λ (p : ℕ). slice_index_or b p None) place)
+        let slot : IsSlot (k + 1) = (omega arith, omega (arith, lt, count)) in
+        let same : channel_at a (k + 1) ≡ channel_at b (k + 1) = one-channel ss n kind (k + 1) (channel_at a (k + 1)) (channel_at b (k + 1)) (is.each (k + 1) slot) (also.each (k + 1) slot) in
+        let place : (k + 1) - 1 ≡ k = omega arith in
+        ap (λ (p : ℕ). slice_index_or a p None) (sym place) ∙ same ∙ ap (λ (p : ℕ). slice_index_or b p None) place)
 
 one-row : (Begun : ℕ → Type 0) (m n : ℕ) → IsLastRow Begun m → IsLastRow Begun n → m ≡ n
 one-row Begun m n is also = elim (cases_order m n) [
@@ -134,18 +134,26 @@ one-row Begun m n is also = elim (cases_order m n) [
   | inr (inr behind) ↦ absurd (also.last m behind is.known (is.begun (omega (arith, behind))))
 ]
 
-pub one-glonass : (ss : List CaptureSurvey) (n : ℕ) (ks : SystemKinds) (listed : List AnyCode) (near : ℕ) (a b : Option GlonassView)
-    → IsGlonassFound ss n ks listed near a → IsGlonassFound ss n ks listed near b → a ≡ b
-one-glonass ss n ks listed near None None is also = refl
-one-glonass ss n ks listed near None (Some g) is also = let no : true ≡ false = sym also.0 ∙ is in absurd (cc)
-one-glonass ss n ks listed near (Some g) None is also = let no : true ≡ false = sym is.0 ∙ also in absurd (cc)
-one-glonass ss n ks listed near (Some g) (Some h) is also =
-    let channels : g.channels ≡ h.channels = one-channels ss n ks.glonass g.channels h.channels is.1.channels also.1.channels in
-    let leap_seconds : g.leap_seconds ≡ h.leap_seconds = one-row _ g.leap_seconds h.leap_seconds is.1.leap_seconds also.1.leap_seconds in
-    ap (λ (cs : List (Option ℤ)). Some (glonass_with cs g.leap_seconds)) channels ∙ ap (λ (n : ℕ). Some (glonass_with h.channels n)) leap_seconds
+one-chosen : (given : Option (List (Option ℤ))) (ss : List CaptureSurvey) (n : ℕ) (kind : MsmKind) (a b : List (Option ℤ)) → AreChannelsChosen given ss n kind a → AreChannelsChosen given ss n kind b → a ≡ b
+one-chosen None ss n kind a b is also = one-channels ss n kind a b is also
+one-chosen (Some given) ss n kind a b is also = is ∙ sym also
+
+one-seconds : (given : Option ℕ) (near m n : ℕ) → AreSecondsChosen given near m → AreSecondsChosen given near n → m ≡ n
+one-seconds None near m n is also = one-row _ m n is also
+one-seconds (Some given) near m n is also = is ∙ sym also
+
+pub one-glonass : (ss : List CaptureSurvey) (n : ℕ) (ks : SystemKinds) (listed : List AnyCode) (channels : Option (List (Option ℤ))) (seconds : Option ℕ) (near : ℕ) (a b : Option GlonassView)
+    → IsGlonassFound ss n ks listed channels seconds near a → IsGlonassFound ss n ks listed channels seconds near b → a ≡ b
+one-glonass ss n ks listed channels seconds near None None is also = refl
+one-glonass ss n ks listed channels seconds near None (Some g) is also = let no : true ≡ false = sym also.0 ∙ is in absurd (cc)
+one-glonass ss n ks listed channels seconds near (Some g) None is also = let no : true ≡ false = sym is.0 ∙ also in absurd (cc)
+one-glonass ss n ks listed channels seconds near (Some g) (Some h) is also =
+    let same : g.channels ≡ h.channels = one-chosen channels ss n ks.glonass g.channels h.channels is.1.channels_are also.1.channels_are in
+    let alike : g.leap_seconds ≡ h.leap_seconds = one-seconds seconds near g.leap_seconds h.leap_seconds is.1.seconds_are also.1.seconds_are in
+    ap (λ (cs : List (Option ℤ)). Some (glonass_with cs g.leap_seconds)) same ∙ ap (λ (m : ℕ). Some (glonass_with h.channels m)) alike
   where
     glonass_with : List (Option ℤ) → ℕ → GlonassView
-    glonass_with cs n = record { channels = cs; leap_seconds = n }
+    glonass_with cs m = record { channels = cs; leap_seconds = m }
 
 -- ---- the slots one after another
 

@@ -3,17 +3,10 @@ use Rattle.std.proofs.Common.{◌≡◌, ◌≢◌, ◌<◌, ◌≤◌, ◌+◌,
 use Rattle.std.specs.Prelude.{filter, AllPairs, slice_index_or, count_by}
 use Rattle.std.specs.Int.{IsInRange}
 use Rattle.std.proofs.lemmas.Bool.{and_parts, eqb-true, leb-true}
-use Rattle.std.proofs.lemmas.List.{get_or-map, length-map}
 use Rattle.std.proofs.lemmas.List.Kept.{AllPairs-filter}
 use Rattle.std.proofs.lemmas.List.Sums.{length-filter, count_by-le-length}
-use Rattle.rtk_message.specs.declared.system.System.TheVariants.{Gps}
 use Rattle.rtk_obs.specs.declared.any_code.AnyCode.{AnyCode}
-use Rattle.rtk_obs.specs.declared.code.Code.{Code}
-use Rattle.rtk_obs.specs.declared.code.Code.TheVariants as gps
-use Rattle.rtk_obs.specs.AnyCode.{code_of_gps, system_of, codes_before, number_of, all_any_codes}
-use Rattle.rtk_obs.specs.Code.{place_of}
-use Rattle.rtk_obs.proofs.PublicLaws.{number-of-gps, same_signal}
-use Rattle.rtk_rinex.specs.Header.{IsCodeList}
+use Rattle.rtk_obs.specs.AnyCode.{system_of, codes_before, number_of, all_any_codes}
 use Rattle.rtk_rinex.specs.MixedHead.{AreInOrder, GlonassView, IsMixedList, IsMixedHeadFault, TellsGlonass}
 use Rattle.rtk_rinex.specs.declared.mixed_head_fault.MixedHeadFault.{MixedHeadFault}
 use Rattle.rtk_rinex.specs.declared.mixed_head_fault.MixedHeadFault.TheVariants.{Codes, Glonass as NotTold}
@@ -128,56 +121,6 @@ mixed-found p cs n b found len is says = subst IsMixedList (sym found) (some-mix
     not-empty : (cs : List AnyCode) → n ≡ length cs → cs ≢ []
     not-empty [] len none = let q : true ≡ false = sym (eq-eqb n 0 len) ∙ sym is ∙ says in cc
     not-empty (c ∷ cs) len none = let q : length (c ∷ cs) ≡ 0 = ap length none in absurd (omega (arith, q))
-
--- ---- codes of GPS
-
--- all codes of GPS are of GPS
-gps-code : (c : Code) → system_of (code_of_gps c) ≡ Gps
-gps-code gps.G1C = refl
-gps-code gps.G1P = refl
-gps-code gps.G1W = refl
-gps-code gps.G1S = refl
-gps-code gps.G1L = refl
-gps-code gps.G1X = refl
-gps-code gps.G2C = refl
-gps-code gps.G2D = refl
-gps-code gps.G2P = refl
-gps-code gps.G2W = refl
-gps-code gps.G2S = refl
-gps-code gps.G2L = refl
-gps-code gps.G2X = refl
-gps-code gps.G5I = refl
-gps-code gps.G5Q = refl
-gps-code gps.G5X = refl
-
--- no two of them are one code
-gps-unlike : (c d : Code) → c ≢ d → code_of_gps c ≢ code_of_gps d
-gps-unlike c d ne same =
-    let place : place_of c ≡ place_of d = sym (number-of-gps c) ∙ ap number_of same ∙ number-of-gps d in
-    ne (same_signal 1 1 c d (omega arith, omega arith) (omega arith, omega arith) (ap (λ (k : ℕ). (1 - 1) * 16 + k) place)).1
-
-gps-in-order : (c d : Code) → c ≢ d → AreInOrder (code_of_gps c) (code_of_gps d)
-gps-in-order c d ne = record {
-  unlike = gps-unlike c d ne;
-  systems =
-      let one : codes_before (system_of (code_of_gps c)) ≡ 0 = ap codes_before (gps-code c) in
-      let other : codes_before (system_of (code_of_gps d)) ≡ 0 = ap codes_before (gps-code d) in
-      omega (arith, one, other);
-}
-
--- codes of GPS that a head lists are codes that a head of any systems lists
-pub gps-list : (cs : List Code) → IsCodeList cs → IsMixedList (map code_of_gps cs)
-gps-list cs h =
-    let size = length-map cs code_of_gps in
-    record {
-      count = (omega (arith, size, h.0.0), omega (arith, size, h.0.1));
-      order = λ i j d lt within.
-          let high : j < length cs = omega (arith, size, within) in
-          let low : i < length cs = omega (arith, lt, high) in
-          let one = get_or-map code_of_gps cs i gps.G1C d low in
-          let other = get_or-map code_of_gps cs j gps.G1C d high in
-          rw (one, other) (gps-in-order (get_or cs i gps.G1C) (get_or cs j gps.G1C) (h.1 i j gps.G1C lt high));
-    }
 
 -- ---- the head of these
 

@@ -71,7 +71,7 @@ one-setup : (ss : List CaptureSurvey) (links : List (List ℕ)) (w : Wanted) (ma
 one-setup ss links w made s t is also =
     let station : s.station ≡ t.station = one-station ss w.station s.station t.station is.station also.station in
     let listed : s.head.listed ≡ t.head.listed =
-    is.listed ∙ ap (λ (n : ℕ). codes_chosen w.codes ss n (kinds_found w.msm ss links n)) station ∙ sym also.listed in
+    is.listed ∙ ap (λ (n : ℕ). codes_chosen w.codes ss n w.systems (kinds_found w.msm ss links n)) station ∙ sym also.listed in
     let kinds : s.kinds ≡ t.kinds =
     is.kinds ∙ ap (λ (n : ℕ). kinds_listed (kinds_found w.msm ss links n) s.head.listed) station
     ∙ ap (λ (cs : List AnyCode). kinds_listed (kinds_found w.msm ss links t.station) cs) listed ∙ sym also.kinds in
@@ -81,12 +81,12 @@ one-setup ss links w made s t is also =
     let leap_seconds : s.leap_seconds ≡ t.leap_seconds = is.leap_seconds ∙ sym also.leap_seconds in
     let near : s.near ≡ t.near =
     one-near w.near (captures_of ss s.station) s.near t.near is.near_by (subst (λ (n : ℕ). IsNearOf w.near (captures_of ss n) t.near) (sym station) also.near_by) in
-    let told : IsGlonassFound ss s.station (kinds_found w.msm ss links s.station) s.head.listed s.near t.head.glonass =
-    subst (λ (n : ℕ). IsGlonassFound ss s.station (kinds_found w.msm ss links s.station) s.head.listed n t.head.glonass) (sym near)
-    (subst (λ (cs : List AnyCode). IsGlonassFound ss s.station (kinds_found w.msm ss links s.station) cs t.near t.head.glonass) (sym listed)
-    (subst (λ (n : ℕ). IsGlonassFound ss n (kinds_found w.msm ss links n) t.head.listed t.near t.head.glonass) (sym station) also.glonass)) in
+    let told : IsGlonassFound ss s.station (kinds_found w.msm ss links s.station) s.head.listed w.channels w.leap_seconds s.near t.head.glonass =
+    subst (λ (n : ℕ). IsGlonassFound ss s.station (kinds_found w.msm ss links s.station) s.head.listed w.channels w.leap_seconds n t.head.glonass) (sym near)
+    (subst (λ (cs : List AnyCode). IsGlonassFound ss s.station (kinds_found w.msm ss links s.station) cs w.channels w.leap_seconds t.near t.head.glonass) (sym listed)
+    (subst (λ (n : ℕ). IsGlonassFound ss n (kinds_found w.msm ss links n) t.head.listed w.channels w.leap_seconds t.near t.head.glonass) (sym station) also.glonass)) in
     let glonass : s.head.glonass ≡ t.head.glonass =
-    one-glonass ss s.station (kinds_found w.msm ss links s.station) s.head.listed s.near s.head.glonass t.head.glonass is.glonass told in
+    one-glonass ss s.station (kinds_found w.msm ss links s.station) s.head.listed w.channels w.leap_seconds s.near s.head.glonass t.head.glonass is.glonass told in
     ap (λ (n : ℕ). setup_with n s.near s.head.marker s.head.listed s.head.glonass s.head.made s.window s.kinds s.leap_seconds) station
     ∙ ap (λ (n : ℕ). setup_with t.station n s.head.marker s.head.listed s.head.glonass s.head.made s.window s.kinds s.leap_seconds) near
     ∙ ap (λ (name : List ℕ). setup_with t.station t.near name s.head.listed s.head.glonass s.head.made s.window s.kinds s.leap_seconds) marker

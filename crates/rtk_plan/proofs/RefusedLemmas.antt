@@ -26,7 +26,7 @@ exit-also IsCause IsOther told r exits also refused =
 
 -- no code is found in the MSM of these kinds
 pub no-code-found : (ss : List CaptureSurvey) (links : List (List ℕ)) (w : Wanted) (station near : ℕ) (kinds : SystemKinds) → kinds ≡ kinds_found w.msm ss links station
-    → (refusal : Refusal) → (refusal ≡ NoCode) × (w.codes ≡ None) × (codes_in_captures ss station kinds ≡ []) → IsSetupCause ss links w station near refusal
+    → (refusal : Refusal) → (refusal ≡ NoCode) × (w.codes ≡ None) × (codes_in_captures ss station w.systems kinds ≡ []) → IsSetupCause ss links w station near refusal
 no-code-found ss links w station near kinds same refusal (is, none, empty) =
     subst (λ (r : Refusal). IsSetupCause ss links w station near r) (sym is)
-    (none, rw none (ap (λ (ks : SystemKinds). codes_in_captures ss station ks) (sym same) ∙ empty))
+    (none, rw none (ap (λ (ks : SystemKinds). codes_in_captures ss station w.systems ks) (sym same) ∙ empty))

@@ -102,7 +102,7 @@ IsDatingCause given cs refusal = (base : Base) × IsBaseOf given cs base × IsRe
 -- no codes are named, and none is found in the MSM of these links
 abbrev pub HasNoCode : List CaptureSurvey → List (List ℕ) → Wanted → ℕ → Type 0
 HasNoCode ss links w station =
-    (w.codes ≡ None) × (codes_chosen w.codes ss station (kinds_found w.msm ss links station) ≡ [])
+    (w.codes ≡ None) × (codes_chosen w.codes ss station w.systems (kinds_found w.msm ss links station) ≡ [])
 
 abbrev pub IsSetupCause : List CaptureSurvey → List (List ℕ) → Wanted → ℕ → ℕ → Refusal → Type 0
 IsSetupCause ss links w station near NoCode = HasNoCode ss links w station

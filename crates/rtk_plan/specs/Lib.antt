@@ -23,6 +23,7 @@ pub mod SpanLine
 pub mod StationCaptures
 pub mod Steps
 pub mod Stray
+pub mod SystemFlags
 pub mod SystemMsms
 pub mod TextsLeftOut
 pub mod ToldLabel

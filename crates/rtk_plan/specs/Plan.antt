@@ -3,8 +3,6 @@ use Rattle.std.specs.Prelude.{◌≡◌, ℕ, Bool, false, ◌||◌, List, [], �
 use Rattle.std.specs.declared.vec.Vec.{Vec}
 use Rattle.rtk_message.specs.declared.msm_kind.MsmKind.{MsmKind}
 use Rattle.rtk_obs.specs.declared.any_code.AnyCode.{AnyCode}
-use Rattle.rtk_obs.specs.declared.code.Code.{Code}
-use Rattle.rtk_obs.specs.AnyCode.{code_of_gps}
 use Rattle.rtk_obs.specs.CivilText.{last_digits}
 use Rattle.rtk_setup.specs.Setup.{SetupView, all_of}
 use Rattle.rtk_setup.specs.declared.system_kinds.SystemKinds.{SystemKinds}
@@ -12,6 +10,7 @@ use Rattle.rtk_survey.specs.declared.placing.Placed.{Placed}
 use Rattle.rtk_survey.specs.declared.survey.CaptureSurvey.{CaptureSurvey}
 use Rattle.rtk_plan.specs.ChosenStation.{IsObservedStation, IsOnlyObserved}
 use Rattle.rtk_plan.specs.Reach.{least_told, placed_if_any, reach_after, is_out_of_reach, second_of}
+use Rattle.rtk_plan.specs.declared.system_flags.SystemFlags.{SystemFlags}
 use Rattle.rtk_plan.specs.declared.span_line.DatedSpan.{DatedSpan}
 use Rattle.rtk_plan.specs.declared.station_capture.StationCapture.{StationCapture}
 use Rattle.rtk_plan.specs.declared.reach.Base.{Base}
@@ -35,10 +34,10 @@ abbrev pub kinds_found : Option MsmKind → List CaptureSurvey → List (List �
 kinds_found None ss links station = kinds_in_links ss links station
 kinds_found (Some named) ss links station = all_of named
 
--- the codes that are named, which are of GPS; else all of which the station has a value in the MSM of these kinds
-abbrev pub codes_chosen : {A : Type 0} → Option (Vec Code A) → List CaptureSurvey → ℕ → SystemKinds → List AnyCode
-codes_chosen None ss station kinds = codes_in_captures ss station kinds
-codes_chosen (Some named) ss station kinds = map code_of_gps named.items
+-- the codes that are named; else all of these systems of which the station has a value in the MSM of these kinds
+abbrev pub codes_chosen : {A : Type 0} → Option (Vec AnyCode A) → List CaptureSurvey → ℕ → SystemFlags → SystemKinds → List AnyCode
+codes_chosen None ss station systems kinds = codes_in_captures ss station systems kinds
+codes_chosen (Some named) ss station systems kinds = named.items
 
 -- formula
 -- the marker that is named; else the station's number in four digits
@@ -94,10 +93,10 @@ captures_of ss station = map (capture_of station) ss
 pub record IsSetupFor (ss : List CaptureSurvey) (links : List (List ℕ)) (w : Wanted) (made : ℕ) (s : SetupView) : Type 0 where
   pub station : IsChosenStation ss w.station s.station
   pub kinds : s.kinds ≡ kinds_listed (kinds_found w.msm ss links s.station) s.head.listed
-  pub listed : s.head.listed ≡ codes_chosen w.codes ss s.station (kinds_found w.msm ss links s.station)
+  pub listed : s.head.listed ≡ codes_chosen w.codes ss s.station w.systems (kinds_found w.msm ss links s.station)
   pub marker : s.head.marker ≡ marker_chosen w.marker s.station
   pub made_at : s.head.made ≡ made
   pub window : s.window ≡ w.window
-  pub glonass : IsGlonassFound ss s.station (kinds_found w.msm ss links s.station) s.head.listed s.near s.head.glonass
-  pub leap_seconds : s.leap_seconds ≡ None
+  pub glonass : IsGlonassFound ss s.station (kinds_found w.msm ss links s.station) s.head.listed w.channels w.leap_seconds s.near s.head.glonass
+  pub leap_seconds : s.leap_seconds ≡ w.leap_seconds
   pub near_by : IsNearOf w.near (captures_of ss s.station) s.near

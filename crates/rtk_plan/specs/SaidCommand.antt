@@ -1,5 +1,5 @@
 -- The command of `convert` that does what `auto` does, as sh takes it (this project's rule).
-use Rattle.std.specs.Prelude.{ℕ, ◌+◌, ◌==◌, Bool, nat_lt, List, [], ◌∷◌, ◌++◌, length, flat_map, codes, decimal, if◌then◌else◌}
+use Rattle.std.specs.Prelude.{ℕ, ◌+◌, ◌==◌, Bool, nat_lt, List, [], ◌∷◌, ◌++◌, length, flat_map, codes, decimal, Option, None, Some, if◌then◌else◌}
 use Rattle.std.specs.Borrow.{Bor}
 use Rattle.std.specs.List.{list_any}
 use Rattle.std.specs.declared.vec.Vec.{Vec}
@@ -51,10 +51,15 @@ code_names separator (c ∷ cs) = separator ∷ said_code c ++ code_names 44 cs
 unfoldable pub value_words : SetupView → List ℕ
 value_words s = codes " --codes" ++ code_names 32 s.head.listed ++ kinds_words s.kinds s.head.listed ++ codes " --window " ++ decimal s.window
 
+-- the option of leap seconds, if they are given
+abbrev pub leap_words : Option ℕ → List ℕ
+leap_words None = []
+leap_words (Some n) = codes " --leap-seconds " ++ decimal n
+
 -- formula
 -- the command with its options
 unfoldable pub convert_words : SetupView → List ℕ
-convert_words s = station_words s ++ marker_words s.head ++ value_words s ++ glonass_words s.head.glonass
+convert_words s = station_words s ++ marker_words s.head ++ value_words s ++ glonass_words s.head.glonass ++ leap_words s.leap_seconds
 
 -- formula
 -- names of files, each after a blank

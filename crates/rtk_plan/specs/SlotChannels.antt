@@ -110,12 +110,21 @@ pub record AreChannelsFound (ss : List CaptureSurvey) (n : ℕ) (kind : MsmKind)
 
 -- ---- what is told of GLONASS
 
--- the channels that are found, and the leap seconds of the table at the moment near which captures are dated
-pub record IsGlonassOf (ss : List CaptureSurvey) (n : ℕ) (kind : MsmKind) (near : ℕ) (g : GlonassView) : Type 0 where
-  pub channels : AreChannelsFound ss n kind g.channels
-  pub leap_seconds : IsLeapSecondsAt near g.leap_seconds
+-- the channels that are given, else those that are found
+abbrev pub AreChannelsChosen : Option (List (Option ℤ)) → List CaptureSurvey → ℕ → MsmKind → List (Option ℤ) → Type 0
+AreChannelsChosen None ss n kind channels = AreChannelsFound ss n kind channels
+AreChannelsChosen (Some given) ss n kind channels = channels ≡ given
+
+-- the leap seconds that are given, else those of the table at the moment near which captures are dated
+abbrev pub AreSecondsChosen : Option ℕ → ℕ → ℕ → Type 0
+AreSecondsChosen None near seconds = IsLeapSecondsAt near seconds
+AreSecondsChosen (Some given) near seconds = seconds ≡ given
+
+pub record IsGlonassOf (ss : List CaptureSurvey) (n : ℕ) (kind : MsmKind) (channels : Option (List (Option ℤ))) (seconds : Option ℕ) (near : ℕ) (g : GlonassView) : Type 0 where
+  pub channels_are : AreChannelsChosen channels ss n kind g.channels
+  pub seconds_are : AreSecondsChosen seconds near g.leap_seconds
 
 -- with a code of GLONASS, and only then, it is told of
-abbrev pub IsGlonassFound : List CaptureSurvey → ℕ → SystemKinds → List AnyCode → ℕ → Option GlonassView → Type 0
-IsGlonassFound ss n ks listed near None = has_glonass listed ≡ false
-IsGlonassFound ss n ks listed near (Some g) = (has_glonass listed ≡ true) × IsGlonassOf ss n ks.glonass near g
+abbrev pub IsGlonassFound : List CaptureSurvey → ℕ → SystemKinds → List AnyCode → Option (List (Option ℤ)) → Option ℕ → ℕ → Option GlonassView → Type 0
+IsGlonassFound ss n ks listed channels seconds near None = has_glonass listed ≡ false
+IsGlonassFound ss n ks listed channels seconds near (Some g) = (has_glonass listed ≡ true) × IsGlonassOf ss n ks.glonass channels seconds near g

@@ -1,5 +1,5 @@
 -- The values of the conversion of a station, by the surveys of its captures (this project's rule).
-use Rattle.std.specs.Prelude.{ℕ, ◌+◌, ◌-◌, ◌==◌, Bool, true, false, List, [], ◌∷◌, filter, get_or, slice_get, max, Option, None, Some, if◌then◌else◌}
+use Rattle.std.specs.Prelude.{ℕ, ◌+◌, ◌-◌, ◌==◌, Bool, true, false, ◌&&◌, List, [], ◌∷◌, filter, get_or, slice_get, max, Option, None, Some, if◌then◌else◌}
 use Rattle.std.specs.BTreeMap.{get, values}
 use Rattle.std.specs.List.{list_any, sum_by}
 use Rattle.std.specs.Ordering.{nat_cmp}
@@ -21,6 +21,8 @@ use Rattle.rtk_survey.specs.declared.survey.CaptureSurvey.{CaptureSurvey}
 use Rattle.rtk_survey.specs.declared.system_msm.SystemMsm.{SystemMsm}
 use Rattle.rtk_survey.specs.declared.unread.Unread.{Unread}
 use Rattle.rtk_plan.specs.StationCaptures.{station_in}
+use Rattle.rtk_plan.specs.SystemFlags.{flag_of}
+use Rattle.rtk_plan.specs.declared.system_flags.SystemFlags.{SystemFlags}
 
 -- table
 -- the messages of GPS are held beside those of all other systems
@@ -132,12 +134,12 @@ has_code_with ks c (Some t) = has_code_by (system_of c) ks c t
 abbrev pub gives_code : ℕ → SystemKinds → AnyCode → CaptureSurvey → Bool
 gives_code n ks c s = has_code_with ks c (station_in n s)
 
--- it has one in some capture
-abbrev pub is_found : List CaptureSurvey → ℕ → SystemKinds → AnyCode → Bool
-is_found ss n ks c = list_any (gives_code n ks c) ss
+-- a code of one of these systems has one in some capture
+abbrev pub is_found : List CaptureSurvey → ℕ → SystemFlags → SystemKinds → AnyCode → Bool
+is_found ss n systems ks c = flag_of systems (system_of c) && list_any (gives_code n ks c) ss
 
-abbrev pub codes_in_captures : List CaptureSurvey → ℕ → SystemKinds → List AnyCode
-codes_in_captures ss n ks = filter (is_found ss n ks) all_any_codes
+abbrev pub codes_in_captures : List CaptureSurvey → ℕ → SystemFlags → SystemKinds → List AnyCode
+codes_in_captures ss n systems ks = filter (is_found ss n systems ks) all_any_codes
 
 -- ---- messages
 

@@ -8,7 +8,7 @@
 //! use rtk_setup::{Reference, Window};
 //! use rtk_frame::{After, MemSource};
 //! use rtk_obs::GpsMs;
-//! use rtk_plan::{Captures, Wanted, plan_of};
+//! use rtk_plan::{Captures, SystemFlags, Wanted, plan_of};
 //! use rtk_rinex::CreationTime;
 //! use rtk_survey::{CaptureSurvey, Target, survey_capture};
 //! use std::alloc::{AllocError, Global};
@@ -51,6 +51,9 @@
 //!         station: None,
 //!         msm: None,
 //!         codes: None,
+//!         systems: SystemFlags::ALL,
+//!         channels: None,
+//!         leap_seconds: None,
 //!         near: Some(near),
 //!         marker: None,
 //!         window,
@@ -96,6 +99,7 @@ mod span_line;
 mod station_capture;
 mod station_setup;
 mod stray;
+mod system_flags;
 mod system_msms;
 mod texts_left_out;
 mod told_label;
@@ -119,6 +123,7 @@ pub use reported::Reported;
 pub use said_command::put_command;
 pub use span_line::{DateSource, DatedSpan};
 pub use station_capture::StationCapture;
+pub use system_flags::SystemFlags;
 pub use told_label::label_wanted;
 pub use wanted::{Wanted, Ways};
 pub use written_file::{Step, TakesText, WrittenFile};

@@ -120,6 +120,15 @@ fn put_value_words(line: &mut Vec<u8>, setup: &Setup) -> Result<(), AllocError>
     Ok(())
 }
 
+fn put_leap_words(line: &mut Vec<u8>, leap_seconds: Option<u8>) -> Result<(), AllocError>
+    ensures { OnOk result (line.new.items ≡ line.old.items ++ spec.leap_words leap_seconds) }
+{
+    match leap_seconds {
+        Some(seconds) => put_named(line, b" --leap-seconds ", u64::from(seconds)),
+        None => Ok(()),
+    }
+}
+
 // Appends the command with its options.
 #[tactic(auto, unfolding(crate::specs::SaidCommand::convert_words))]
 fn put_convert_words(line: &mut Vec<u8>, setup: &Setup) -> Result<(), AllocError>
@@ -129,6 +138,7 @@ fn put_convert_words(line: &mut Vec<u8>, setup: &Setup) -> Result<(), AllocError
     put_marker_words(line, setup.head())?;
     put_value_words(line, setup)?;
     put_glonass_words(line, setup.head().glonass())?;
+    put_leap_words(line, setup.leap_seconds())?;
     Ok(())
 }
 

@@ -1,73 +1,51 @@
 //! What the conversion of a station is told: the MSM and the codes of each system, and the head of the file.
 
-ghost use Rattle.std.specs.Prelude.{◌≡◌, ◌<◌, ◌≤◌, None, [], map, IfOk, IfErr};
+ghost use Rattle.std.specs.Prelude.{◌≡◌, ◌<◌, ◌≤◌, None, [], IfOk, IfErr};
 ghost use Rattle.std.specs.Option.{ForSome};
-ghost use Rattle.rtk_obs.specs.AnyCode.{code_of_gps};
 ghost use Rattle.rtk_obs.specs.CivilText.{last_digits};
-ghost use Rattle.rtk_rinex.specs.Header.{IsCodeList};
-ghost use Rattle.rtk_obs.specs.LeapSeconds.{IsLeapSecondsAt};
 ghost use Rattle.rtk_rinex.specs.MixedHead.{IsGlonassView, IsMixedList, TellsGlonass, has_glonass};
 ghost use Rattle.rtk_plan.specs.Causes.{IfRefused, IsSetupCause};
 ghost use Rattle.rtk_plan.specs.Linking.{places_of};
 ghost use Rattle.rtk_plan.specs.Plan.{IsChosenStation, kinds_found, codes_chosen, marker_chosen, captures_of, IsNearOf, IsSetupFor};
-ghost use Rattle.rtk_plan.specs.SlotChannels.{IsGlonassOf, IsGlonassFound};
+ghost use Rattle.rtk_plan.specs.SlotChannels.{AreChannelsChosen, AreSecondsChosen, IsGlonassOf, IsGlonassFound};
 ghost use Rattle.rtk_plan.specs.SystemMsms as msms;
-ghost use Rattle.rtk_plan.specs.Values.{codes_in_captures};
+ghost use Rattle.rtk_plan.specs.Values.{codes_in_captures, or_else as seconds_or};
 
 use crate::captures::list_held;
 use crate::refusal::{PlanFault, Refusal, refused};
 use crate::slot_channels::channels_found;
+use crate::system_flags::SystemFlags;
 use crate::system_msms::kinds_listed;
 use crate::values::{codes_in_captures, kinds_in_links};
 use crate::wanted::Wanted;
 use rtk_message::{MsmKind, System};
-use rtk_obs::{AnyCode, Code, GpsMs, leap_seconds_at};
+use rtk_obs::{AnyCode, Channels, GpsMs, leap_seconds_at};
 use rtk_rinex::{CreationTime, Glonass, Marker, MixedHead};
-use rtk_setup::{Reference, Setup, Station, SystemKinds};
+use rtk_setup::{LeapSeconds, Reference, Setup, Station, SystemKinds};
 use rtk_survey::CaptureSurvey;
 use std::alloc::{AllocError, Global};
 
 // ---- the codes
-
-// Codes of GPS as codes of any systems.
-fn any_codes(alloc: Global, codes: &[Code]) -> Result<Vec<AnyCode>, AllocError>
-    ensures { IfOk result (λ listed. listed.items ≡ map code_of_gps codes.now) }
-{
-    let mut listed = Vec::new(alloc);
-    for code in codes {
-        listed.push(AnyCode::of_gps(*code))?;
-    }
-    Ok(listed)
-}
-
-// The codes that are named.
-fn named_codes(alloc: Global, named: &[Code]) -> Result<Vec<AnyCode>, AllocError>
-    requires { IsCodeList named.now }
-    ensures codes { IfOk result (λ codes. codes.items ≡ map code_of_gps named.now) }
-    ensures good { IfOk result (λ codes. IsMixedList codes.items) }
-{
-    let codes = any_codes(alloc, named)?;
-    Ok(codes)
-}
 
 // The codes that are converted.
 fn codes_to_convert(
     alloc: Global,
     surveys: &[CaptureSurvey],
     station: u16,
+    systems: SystemFlags,
     kinds: SystemKinds,
-    wanted: &Option<Vec<Code>>,
+    wanted: &Option<Vec<AnyCode>>,
 ) -> Result<Vec<AnyCode>, PlanFault>
-    requires { ForSome wanted.now (λ codes. IsCodeList codes.items) }
-    ensures codes { IfOk result (λ codes. codes.items ≡ codes_chosen wanted.now surveys.now station kinds) }
+    requires { ForSome wanted.now (λ codes. IsMixedList codes.items) }
+    ensures codes { IfOk result (λ codes. codes.items ≡ codes_chosen wanted.now surveys.now station systems kinds) }
     ensures good { IfOk result (λ codes. IsMixedList codes.items) }
     ensures refused { IfErr result (IfRefused (λ refusal. (refusal ≡ Refusal.NoCode) × (wanted.now ≡ None)
-        × (codes_in_captures surveys.now station kinds ≡ []))) }
+        × (codes_in_captures surveys.now station systems kinds ≡ []))) }
 {
     if let Some(codes) = wanted {
-        return Ok(named_codes(alloc, codes.as_slice())?);
+        return Ok(Vec::from_slice(alloc, codes.as_slice())?);
     }
-    let codes = codes_in_captures(alloc, surveys, station, kinds)?;
+    let codes = codes_in_captures(alloc, surveys, station, systems, kinds)?;
     if codes.is_empty() {
         return refused(Refusal::NoCode, list_held(alloc, surveys)?);
     }
@@ -116,21 +94,46 @@ fn has_glonass(listed: &[AnyCode]) -> bool
     false
 }
 
-// The leap seconds of the table at a moment.
-fn table_seconds(near: GpsMs) -> u8
-    ensures said { IsLeapSecondsAt near result }
+// The leap seconds that are given, else those of the table at a moment.
+fn seconds_chosen(given: Option<LeapSeconds>, near: GpsMs) -> u8
+    ensures said { AreSecondsChosen given near result }
     ensures bound { result ≤ 99 }
 {
-    leap_seconds_at(near)
+    match given {
+        Some(given) => given.number(),
+        None => leap_seconds_at(near),
+    }
+}
+
+// The channels that are given, else those that messages tell.
+fn channels_chosen(
+    given: Option<Channels>,
+    surveys: &[CaptureSurvey],
+    station: u16,
+    kind: MsmKind,
+) -> Channels
+    ensures { AreChannelsChosen given surveys.now station kind result }
+{
+    match given {
+        Some(given) => given,
+        None => channels_found(surveys, station, kind),
+    }
 }
 
 // What the file tells of GLONASS.
-fn glonass_of(surveys: &[CaptureSurvey], station: u16, kind: MsmKind, near: GpsMs) -> Glonass
-    ensures found { IsGlonassOf surveys.now station kind near result }
+fn glonass_of(
+    surveys: &[CaptureSurvey],
+    station: u16,
+    kind: MsmKind,
+    wanted: &Wanted,
+    near: GpsMs,
+) -> Glonass
+    ensures found { IsGlonassOf surveys.now station kind wanted.now.channels wanted.now.leap_seconds near result }
     ensures good { IsGlonassView result }
 {
-    let channels = channels_found(surveys, station, kind);
-    let Some(glonass) = Glonass::new(channels, table_seconds(near)) else {
+    let channels = channels_chosen(wanted.channels, surveys, station, kind);
+    let seconds = seconds_chosen(wanted.leap_seconds, near);
+    let Some(glonass) = Glonass::new(channels, seconds) else {
         unreachable!();
     };
     glonass
@@ -142,13 +145,14 @@ fn glonass_found(
     station: u16,
     kinds: SystemKinds,
     listed: &[AnyCode],
+    wanted: &Wanted,
     near: GpsMs,
 ) -> Option<Glonass>
-    ensures found { IsGlonassFound surveys.now station kinds listed.now near result }
+    ensures found { IsGlonassFound surveys.now station kinds listed.now wanted.now.channels wanted.now.leap_seconds near result }
     ensures due { TellsGlonass listed.now result }
 {
     if has_glonass(listed) {
-        Some(glonass_of(surveys, station, kinds.glonass, near))
+        Some(glonass_of(surveys, station, kinds.glonass, wanted, near))
     } else {
         None
     }
@@ -210,6 +214,16 @@ fn with_kinds_listed(setup: Setup, kinds: SystemKinds) -> Setup
     with_kinds(setup, listed)
 }
 
+// The setup with these leap seconds, if any are given.
+fn with_seconds(setup: Setup, given: Option<LeapSeconds>) -> Setup
+    ensures { result ≡ record setup { leap_seconds = seconds_or given setup.leap_seconds } }
+{
+    match given {
+        Some(given) => setup.with_leap_seconds(given),
+        None => setup,
+    }
+}
+
 // ---- all of it
 
 /// What the conversion of a station near this moment is told.
@@ -230,9 +244,9 @@ pub(crate) fn setup_near(
     ensures refused { IfErr result (IfRefused (IsSetupCause surveys.now (places_of links.now) wanted.now station near)) }
 {
     let kinds = kinds_to_convert(surveys, links, wanted.msm, station);
-    let codes = codes_to_convert(alloc, surveys, station, kinds, &wanted.codes)?;
+    let codes = codes_to_convert(alloc, surveys, station, wanted.systems, kinds, &wanted.codes)?;
     let listed = codes.as_slice();
-    let glonass = glonass_found(surveys, station, kinds, listed, near);
+    let glonass = glonass_found(surveys, station, kinds, listed, wanted, near);
     let head = head_of(marker_of(station, &wanted.marker), listed, glonass, made);
     let Ok(station) = Station::new(station) else {
         unreachable!();
@@ -240,6 +254,6 @@ pub(crate) fn setup_near(
     let Ok(near) = Reference::new(near) else {
         return refused(Refusal::OutsideDates, Vec::new(alloc));
     };
-    let setup = Setup::mixed(station, near, head, wanted.window);
-    Ok(with_kinds_listed(setup, kinds))
+    let setup = with_kinds_listed(Setup::mixed(station, near, head, wanted.window), kinds);
+    Ok(with_seconds(setup, wanted.leap_seconds))
 }

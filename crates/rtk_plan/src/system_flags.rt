@@ -18,6 +18,17 @@ pub struct SystemFlags {
 }
 
 impl SystemFlags {
+    /// All systems.
+    pub const ALL: SystemFlags = SystemFlags {
+        gps: true,
+        glonass: true,
+        galileo: true,
+        beidou: true,
+        qzss: true,
+        sbas: true,
+        navic: true,
+    };
+
     /// Is the system in the set?
     pub fn has(self, system: System) -> bool
         ensures { result ≡ spec.flag_of self system }

@@ -1,11 +1,13 @@
 //! The values of the conversion of a station, by the surveys of its captures.
 
 ghost use Rattle.std.specs.Prelude.{◌≡◌, slice_get, IfOk};
+ghost use Rattle.std.specs.List.{list_any};
 ghost use Rattle.std.specs.Option.{option_copied};
 ghost use Rattle.rtk_survey.specs.Proposal as proposal;
 ghost use Rattle.rtk_plan.specs.Linking.{places_of};
 ghost use Rattle.rtk_plan.specs.Values as spec;
 
+use crate::system_flags::SystemFlags;
 use rtk_message::{MsmKind, MsmType, System};
 use rtk_obs::{ALL_ANY_CODES, AnyCode};
 use rtk_setup::SystemKinds;
@@ -238,27 +240,41 @@ fn gives_code(station: u16, kinds: SystemKinds, code: AnyCode, survey: &CaptureS
     has_code_with(kinds, code, survey.contents.stations.get(&station))
 }
 
-// Has a code a value in some capture?
-fn is_found(surveys: &[CaptureSurvey], station: u16, kinds: SystemKinds, code: AnyCode) -> bool
-    ensures { result ≡ spec.is_found surveys.now station kinds code }
+fn is_given(surveys: &[CaptureSurvey], station: u16, kinds: SystemKinds, code: AnyCode) -> bool
+    ensures { result ≡ list_any (spec.gives_code station kinds code) surveys.now }
 {
     surveys
         .iter()
         .any(|survey| gives_code(station, kinds, code, survey))
 }
 
-/// The codes that have a value in messages of the station that a conversion takes with the MSM of these kinds.
+// Has a code of one of these systems a value in some capture?
+fn is_found(
+    surveys: &[CaptureSurvey],
+    station: u16,
+    systems: SystemFlags,
+    kinds: SystemKinds,
+    code: AnyCode,
+) -> bool
+    ensures { result ≡ spec.is_found surveys.now station systems kinds code }
+{
+    systems.has(code.system()) && is_given(surveys, station, kinds, code)
+}
+
+/// The codes of these systems that have a value in messages of the station that a conversion takes with the MSM of
+/// these kinds.
 pub(crate) fn codes_in_captures(
     alloc: Global,
     surveys: &[CaptureSurvey],
     station: u16,
+    systems: SystemFlags,
     kinds: SystemKinds,
 ) -> Result<Vec<AnyCode>, AllocError>
-    ensures { IfOk result (λ codes. codes.items ≡ spec.codes_in_captures surveys.now station kinds) }
+    ensures { IfOk result (λ codes. codes.items ≡ spec.codes_in_captures surveys.now station systems kinds) }
 {
     let mut codes = Vec::new(alloc);
     for code in &ALL_ANY_CODES {
-        if is_found(surveys, station, kinds, *code) {
+        if is_found(surveys, station, systems, kinds, *code) {
             codes.push(*code)?;
         }
     }

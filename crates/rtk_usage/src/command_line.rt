@@ -3,12 +3,13 @@
 //! clap is the costly part of the proof, so its command is built here alone, in small functions.
 
 use crate::arguments::{
-    file_arg, kinds_arg, marker_arg, number_arg, option_arg, station_arg, switch_arg, window_arg,
+    file_arg, kinds_arg, leap_seconds_arg, marker_arg, number_arg, option_arg, station_arg,
+    switch_arg, window_arg,
 };
 use crate::auto_command::auto_command;
 use crate::help_texts;
 use crate::label_command::label_command;
-use crate::limits::{LEAST_WIDTH, MOST_LEAP_SECONDS, MOST_STEP, MOST_WIDTH};
+use crate::limits::{LEAST_WIDTH, MOST_STEP, MOST_WIDTH};
 use clap::{Arg, ArgAction, ArgGroup, Command};
 use std::alloc::{AllocError, Global};
 
@@ -170,18 +171,14 @@ fn convert_with_codes<'a>(alloc: Global) -> Result<Command<'a>, AllocError> {
         .arg(window_arg(alloc, window).default_value(WINDOW))
 }
 
-fn leap_seconds_arg<'a>(alloc: Global) -> Arg<'a> {
-    let help = "The leap seconds that date GLONASS, 0 to 99; those of the table if not given";
-    number_arg(alloc, "leap-seconds", 0, i64::from(MOST_LEAP_SECONDS), help)
-}
-
 fn convert_command<'a>(alloc: Global, takes_lists: bool) -> Result<Command<'a>, AllocError> {
     let msm = "Which MSM is converted: 4 is MSM4, as 1074, to 7; 7,E4 has an exception";
     let channels = "The channels of GLONASS slots, as 1:1,9:-6, or none";
+    let seconds = "The leap seconds that date GLONASS, 0 to 99; those of the table if not given";
     convert_with_codes(alloc)?
         .arg(kinds_arg(alloc, takes_lists, msm).default_value(MSM))?
         .arg(option_arg(alloc, "channels", "LIST", channels))?
-        .arg(leap_seconds_arg(alloc))?
+        .arg(leap_seconds_arg(alloc, seconds))?
         .arg(links_arg(alloc))
 }
 

@@ -1,23 +1,23 @@
 use Rattle.std.proofs.Common.{◌≤◌, ℕ, ℤ, List, Option, rules, sym, ap, subst}
 use Rattle.rtk_obs.specs.Carriers.{AreChannels}
-use Rattle.rtk_obs.specs.LeapSeconds.{IsLeapSecondsAt}
 use Rattle.rtk_rinex.specs.MixedHead.{GlonassView}
-use Rattle.rtk_plan.specs.SlotChannels.{AreChannelsFound}
+use Rattle.rtk_plan.specs.SlotChannels.{AreChannelsChosen, AreSecondsChosen}
 use Rattle.rtk_plan.proofs.station_setup.glonass_of.Goals as goal
 
 pub returns-clause-found : goal.returns-clause-found
 returns-clause-found c =
     let is = c.in-Some.ensures.1 in
+    let w = c.args.wanted.now in
     record {
-      channels =
-          subst (λ (cs : List (Option ℤ)). AreChannelsFound c.args.surveys.now c.args.station c.args.kind cs) (sym (ap (λ (g : GlonassView). g.channels) is)) c.channels_found-channels.ensures;
-      leap_seconds = subst (λ (n : ℕ). IsLeapSecondsAt c.args.near n) (sym (ap (λ (g : GlonassView). g.leap_seconds) is)) c.table_seconds.ensures.said;
+      channels_are =
+          subst (λ (cs : List (Option ℤ)). AreChannelsChosen w.channels c.args.surveys.now c.args.station c.args.kind cs) (sym (ap (λ (g : GlonassView). g.channels) is)) c.channels_chosen-channels.ensures;
+      seconds_are = subst (λ (n : ℕ). AreSecondsChosen w.leap_seconds c.args.near n) (sym (ap (λ (g : GlonassView). g.leap_seconds) is)) c.seconds_chosen-seconds.ensures.said;
     }
 
 pub returns-clause-good : goal.returns-clause-good
 returns-clause-good c =
     let is = c.in-Some.ensures.1 in
-    let good : AreChannels c.channels_found-channels.result = search rules in
+    let good : AreChannels c.channels_chosen-channels.result = search rules in
     record {
       channels = subst (λ (cs : List (Option ℤ)). AreChannels cs) (sym (ap (λ (g : GlonassView). g.channels) is)) good;
       leap_seconds = subst (λ (n : ℕ). n ≤ 99) (sym (ap (λ (g : GlonassView). g.leap_seconds) is)) c.in-Some.ensures.0;

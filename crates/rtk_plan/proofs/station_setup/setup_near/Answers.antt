@@ -14,6 +14,6 @@ returns-in_err-codes-clause-refused c =
     let w = c.args.wanted.now in
     let kinds = c.kinds_to_convert-kinds.result in
     let links = places_of c.args.links.now in
-    exit-also (λ (r : Refusal). (r ≡ NoCode) × (w.codes ≡ None) × (codes_in_captures ss c.args.station kinds ≡ [])) (IsSetupCause ss links w c.args.station c.args.near)
+    exit-also (λ (r : Refusal). (r ≡ NoCode) × (w.codes ≡ None) × (codes_in_captures ss c.args.station w.systems kinds ≡ [])) (IsSetupCause ss links w c.args.station c.args.near)
     c.in_err-codes.field-0.0 c.from_residual.result c.from_residual.ensures.1
     (no-code-found ss links w c.args.station c.args.near kinds c.kinds_to_convert-kinds.ensures) c.in_err-codes.ensures.refused
