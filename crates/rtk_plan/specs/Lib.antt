@@ -3,6 +3,7 @@ pub mod CaptureNames
 pub mod Causes
 pub mod ChannelWords
 pub mod ChosenStation
+pub mod ClockOffsets
 pub mod FewPhases
 pub mod Joining
 pub mod Kept
@@ -27,5 +28,6 @@ pub mod SystemFlags
 pub mod SystemMsms
 pub mod TextsLeftOut
 pub mod ToldLabel
+pub mod UncheckedClocks
 pub mod Values
 pub mod WrittenFile

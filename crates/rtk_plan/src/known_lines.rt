@@ -10,6 +10,7 @@ ghost use Rattle.rtk_plan.specs.Linking.{places_of};
 use crate::capture_lines::{put_epochs, put_other_dates, put_skipped, put_strays, put_undated};
 use crate::captures::Captures;
 use crate::channel_words::put_no_channel_in;
+use crate::clock_lines::put_told_clocks;
 use crate::message_lines::{put_doppler, put_msms, put_sbas, put_unread};
 use crate::phase_lines::put_few_phases_in;
 use crate::planning::Plan;
@@ -17,6 +18,7 @@ use crate::positions::put_no_position;
 use crate::reported::Reported;
 use crate::span_line::{DateSource, DatedSpan, put_span};
 use crate::texts_left_out::put_texts_left_out;
+use crate::unchecked_clocks::put_unchecked;
 use crate::written_file::{Step, WrittenFile};
 use rtk_message::{Accepted, MsmKind, put_named};
 use rtk_setup::{Counts, Setup};
@@ -114,9 +116,26 @@ fn late_on_links(reported: &Reported, links: &[usize]) -> u64
     count
 }
 
+// Appends the systems of a plan whose clocks differ from those of their chains, and those of which no clock is compared.
+fn put_clocks_in(
+    alloc: Global,
+    lines: &mut Vec<u8>,
+    surveys: &[CaptureSurvey],
+    plan: &Plan,
+) -> Result<(), AllocError>
+    ensures { OnOk result (lines.new.items ≡ lines.old.items ++ spec.clock_lines_of surveys.now plan.now) }
+{
+    let setup = &plan.setup;
+    let station = setup.station();
+    put_told_clocks(alloc, lines, plan.asked, surveys, station, plan.leap_seconds)?;
+    put_unchecked(lines, setup, surveys, station)?;
+    Ok(())
+}
+
 // Appends what a person should know before the line of late messages.
 #[tactic(auto, unfolding(crate::specs::KnownLines::lines_before_late))]
 fn put_first_lines(
+    alloc: Global,
     lines: &mut Vec<u8>,
     captures: &Captures<'_, '_>,
     plan: &Plan,
@@ -127,6 +146,7 @@ fn put_first_lines(
 {
     put_undated(lines, captures, plan)?;
     put_other_dates(lines, captures, &plan.setup)?;
+    put_clocks_in(alloc, lines, captures.surveys, plan)?;
     put_few_phases_in(lines, captures.surveys, &plan.setup)?;
     put_no_channel_in(lines, captures.surveys, &plan.setup)?;
     put_texts_left_out(lines, told)?;
@@ -198,7 +218,7 @@ fn put_last_lines(
 }
 
 /// What a person should know of a conversion, a line each, only where it is so: captures that are dated near
-/// the others; a date that is told and does not count; codes with few phases; satellites without a channel; texts
+/// the others; a date that is told and does not count; systems whose clocks differ from those of their chains, or of which no clock is compared; codes with few phases; satellites without a channel; texts
 /// that messages told and that a label does not have; captures with a stray epoch, that are left out, that have no epoch or whose time falls;
 /// and observations that are not taken.
 pub fn what_is_known(
@@ -214,7 +234,7 @@ pub fn what_is_known(
     ensures strays { IfOk result (λ known. known.stray_links.items ≡ spec.links_with_strays (places_of plan.now.links.items) plan.now.strays.items) }
 {
     let mut first = Vec::new(alloc);
-    put_first_lines(&mut first, captures, plan, told)?;
+    put_first_lines(alloc, &mut first, captures, plan, told)?;
     let mut last = Vec::new(alloc);
     put_last_lines(&mut last, captures, plan)?;
     let strays = plan.strays.as_slice();

@@ -4,14 +4,16 @@ ghost use Rattle.std.specs.Prelude.{◌≡◌, ◌<◌, ◌≤◌, None, [], IfO
 ghost use Rattle.std.specs.Option.{ForSome};
 ghost use Rattle.rtk_obs.specs.CivilText.{last_digits};
 ghost use Rattle.rtk_rinex.specs.MixedHead.{IsGlonassView, IsMixedList, TellsGlonass, has_glonass};
-ghost use Rattle.rtk_plan.specs.Causes.{IfRefused, IsSetupCause};
+ghost use Rattle.rtk_plan.specs.Causes.{IfRefused, FindsNoCode, IsSetupCause};
 ghost use Rattle.rtk_plan.specs.Linking.{places_of};
-ghost use Rattle.rtk_plan.specs.Plan.{IsChosenStation, kinds_found, codes_chosen, marker_chosen, captures_of, IsNearOf, IsSetupFor};
+ghost use Rattle.rtk_plan.specs.Plan.{IsChosenStation, kinds_found, AreSystemsTaken, AreCodesChosen, systems_asked, marker_chosen, captures_of, IsNearOf, IsSetupFor};
 ghost use Rattle.rtk_plan.specs.SlotChannels.{AreChannelsChosen, AreSecondsChosen, IsGlonassOf, IsGlonassFound};
 ghost use Rattle.rtk_plan.specs.SystemMsms as msms;
-ghost use Rattle.rtk_plan.specs.Values.{codes_in_captures, or_else as seconds_or};
+ghost use Rattle.rtk_plan.specs.Plan.{codes_chosen};
+ghost use Rattle.rtk_plan.specs.Values.{codes_in_captures};
 
 use crate::captures::list_held;
+use crate::clock_offsets::systems_with_clocks;
 use crate::refusal::{PlanFault, Refusal, refused};
 use crate::slot_channels::channels_found;
 use crate::system_flags::SystemFlags;
@@ -21,14 +23,71 @@ use crate::wanted::Wanted;
 use rtk_message::{MsmKind, System};
 use rtk_obs::{AnyCode, Channels, GpsMs, leap_seconds_at};
 use rtk_rinex::{CreationTime, Glonass, Marker, MixedHead};
-use rtk_setup::{LeapSeconds, Reference, Setup, Station, SystemKinds};
+use rtk_setup::{LeapSeconds, Reference, Setup, Station, SystemKinds, Window};
 use rtk_survey::CaptureSurvey;
 use std::alloc::{AllocError, Global};
 
+// ---- leap seconds
+
+// The leap seconds that are given, else those of the table at a moment.
+fn seconds_chosen(given: Option<LeapSeconds>, near: GpsMs) -> u8
+    ensures said { AreSecondsChosen given near result }
+    ensures bound { result ≤ 99 }
+{
+    match given {
+        Some(given) => given.number(),
+        None => leap_seconds_at(near),
+    }
+}
+
+fn seconds_at(given: Option<u8>, near: GpsMs) -> u8
+    ensures { AreSecondsChosen given near result }
+{
+    match given {
+        Some(given) => given,
+        None => leap_seconds_at(near),
+    }
+}
+
+/// The leap seconds of a setup, else those of the table at the moment near which it dates.
+pub(crate) fn seconds_of(setup: &Setup) -> u8
+    ensures { AreSecondsChosen setup.now.leap_seconds setup.now.near result }
+{
+    seconds_at(setup.leap_seconds(), setup.near())
+}
+
+// ---- the systems
+
+// The systems that are wanted, but for those whose clocks are wrong.
+fn systems_taken(
+    alloc: Global,
+    surveys: &[CaptureSurvey],
+    station: u16,
+    wanted: SystemFlags,
+    seconds: Option<LeapSeconds>,
+    near: GpsMs,
+) -> Result<SystemFlags, AllocError>
+    ensures { IfOk result (AreSystemsTaken surveys.now station wanted seconds near) }
+{
+    let leap_seconds = seconds_chosen(seconds, near);
+    let right = systems_with_clocks(alloc, surveys, station, leap_seconds)?;
+    Ok(wanted.both(right))
+}
+
+/// The systems that are asked for, by words and by the setup that is made of them.
+pub(crate) fn systems_asked(wanted: &Wanted, setup: &Setup) -> SystemFlags
+    ensures { result ≡ systems_asked wanted.now.codes wanted.now.systems setup.now.head.listed }
+{
+    match &wanted.codes {
+        Some(_) => SystemFlags::listed(setup),
+        None => wanted.systems,
+    }
+}
+
 // ---- the codes
 
-// The codes that are converted.
-fn codes_to_convert(
+// The codes that are named, else those of these systems that are found.
+fn codes_of_systems(
     alloc: Global,
     surveys: &[CaptureSurvey],
     station: u16,
@@ -50,6 +109,25 @@ fn codes_to_convert(
         return refused(Refusal::NoCode, list_held(alloc, surveys)?);
     }
     Ok(codes)
+}
+
+// The codes that are converted.
+fn codes_to_convert(
+    alloc: Global,
+    surveys: &[CaptureSurvey],
+    station: u16,
+    kinds: SystemKinds,
+    wanted: &Wanted,
+    near: GpsMs,
+) -> Result<Vec<AnyCode>, PlanFault>
+    ensures codes { IfOk result (λ codes. AreCodesChosen wanted.now surveys.now station wanted.now.leap_seconds near kinds codes.items) }
+    ensures good { IfOk result (λ codes. IsMixedList codes.items) }
+    ensures refused { IfErr result (IfRefused (λ refusal. (refusal ≡ Refusal.NoCode) × (wanted.now.codes ≡ None)
+        × FindsNoCode surveys.now kinds wanted.now station near)) }
+{
+    let seconds = wanted.leap_seconds;
+    let systems = systems_taken(alloc, surveys, station, wanted.systems, seconds, near)?;
+    codes_of_systems(alloc, surveys, station, systems, kinds, &wanted.codes)
 }
 
 // ---- the head
@@ -92,17 +170,6 @@ fn has_glonass(listed: &[AnyCode]) -> bool
         }
     }
     false
-}
-
-// The leap seconds that are given, else those of the table at a moment.
-fn seconds_chosen(given: Option<LeapSeconds>, near: GpsMs) -> u8
-    ensures said { AreSecondsChosen given near result }
-    ensures bound { result ≤ 99 }
-{
-    match given {
-        Some(given) => given.number(),
-        None => leap_seconds_at(near),
-    }
 }
 
 // The channels that are given, else those that messages tell.
@@ -216,12 +283,28 @@ fn with_kinds_listed(setup: Setup, kinds: SystemKinds) -> Setup
 
 // The setup with these leap seconds, if any are given.
 fn with_seconds(setup: Setup, given: Option<LeapSeconds>) -> Setup
-    ensures { result ≡ record setup { leap_seconds = seconds_or given setup.leap_seconds } }
+    requires { setup.leap_seconds ≡ None }
+    ensures { result ≡ record setup { leap_seconds = given } }
 {
     match given {
         Some(given) => setup.with_leap_seconds(given),
         None => setup,
     }
+}
+
+// The setup of these parts, in which systems without a listed code have the MSM of the first one that has.
+fn setup_of(
+    station: Station,
+    near: Reference,
+    head: MixedHead,
+    window: Window,
+    kinds: SystemKinds,
+    seconds: Option<LeapSeconds>,
+) -> Setup
+    ensures { result ≡ record { station = station; near = near; head = head; window = window; kinds = msms.kinds_listed kinds head.listed; leap_seconds = seconds } }
+{
+    let setup = with_kinds_listed(Setup::mixed(station, near, head, window), kinds);
+    with_seconds(setup, seconds)
 }
 
 // ---- all of it
@@ -244,7 +327,7 @@ pub(crate) fn setup_near(
     ensures refused { IfErr result (IfRefused (IsSetupCause surveys.now (places_of links.now) wanted.now station near)) }
 {
     let kinds = kinds_to_convert(surveys, links, wanted.msm, station);
-    let codes = codes_to_convert(alloc, surveys, station, wanted.systems, kinds, &wanted.codes)?;
+    let codes = codes_to_convert(alloc, surveys, station, kinds, wanted, near)?;
     let listed = codes.as_slice();
     let glonass = glonass_found(surveys, station, kinds, listed, wanted, near);
     let head = head_of(marker_of(station, &wanted.marker), listed, glonass, made);
@@ -254,6 +337,12 @@ pub(crate) fn setup_near(
     let Ok(near) = Reference::new(near) else {
         return refused(Refusal::OutsideDates, Vec::new(alloc));
     };
-    let setup = with_kinds_listed(Setup::mixed(station, near, head, wanted.window), kinds);
-    Ok(with_seconds(setup, wanted.leap_seconds))
+    Ok(setup_of(
+        station,
+        near,
+        head,
+        wanted.window,
+        kinds,
+        wanted.leap_seconds,
+    ))
 }

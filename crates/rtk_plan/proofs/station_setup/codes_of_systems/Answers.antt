@@ -1,6 +1,6 @@
 use Rattle.rtk_plan.specs.Values.{is_found}
 use Rattle.rtk_plan.proofs.CodeLemmas.{mixed-found}
-use Rattle.rtk_plan.proofs.station_setup.codes_to_convert.Goals as goal
+use Rattle.rtk_plan.proofs.station_setup.codes_of_systems.Goals as goal
 
 -- the codes that are found are some of all
 pub returns-clause-good : goal.returns-clause-good
