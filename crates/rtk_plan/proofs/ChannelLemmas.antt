@@ -138,7 +138,7 @@ one-chosen : (given : Option (List (Option ℤ))) (ss : List CaptureSurvey) (n :
 one-chosen None ss n kind a b is also = one-channels ss n kind a b is also
 one-chosen (Some given) ss n kind a b is also = is ∙ sym also
 
-one-seconds : (given : Option ℕ) (near m n : ℕ) → AreSecondsChosen given near m → AreSecondsChosen given near n → m ≡ n
+pub one-seconds : (given : Option ℕ) (near m n : ℕ) → AreSecondsChosen given near m → AreSecondsChosen given near n → m ≡ n
 one-seconds None near m n is also = one-row _ m n is also
 one-seconds (Some given) near m n is also = is ∙ sym also
 

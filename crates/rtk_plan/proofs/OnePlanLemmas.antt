@@ -9,16 +9,19 @@ use Rattle.rtk_survey.specs.declared.survey.CaptureSurvey.{CaptureSurvey}
 use Rattle.rtk_plan.specs.Kept.{empty_captures}
 use Rattle.rtk_plan.specs.Laws.{OnePlan, NearIsWholeSecond}
 use Rattle.rtk_plan.specs.Linking.{links_found, AreLinksOf}
-use Rattle.rtk_plan.specs.Plan.{IsChosenStation, kinds_found, codes_chosen, marker_chosen, captures_of, IsBaseOf, IsReachOf, ArePlaced, IsNearOf, AreStrays, IsSetupFor}
+use Rattle.rtk_plan.specs.ClockOffsets.{systems_with_clocks}
+use Rattle.rtk_plan.specs.Plan.{IsChosenStation, kinds_found, codes_chosen, AreSystemsTaken, AreCodesChosen, marker_chosen, captures_of, IsBaseOf, IsReachOf, ArePlaced, IsNearOf, AreStrays, IsSetupFor}
 use Rattle.rtk_plan.specs.Reach.{least_told, placed_if_any, reach_after, second_of}
 use Rattle.rtk_plan.specs.SlotChannels.{IsGlonassFound}
 use Rattle.rtk_plan.specs.Stray.{strays}
+use Rattle.rtk_plan.specs.SystemFlags.{in_both}
 use Rattle.rtk_plan.specs.SystemMsms.{kinds_listed}
 use Rattle.rtk_plan.specs.declared.reach.Base.{Base}
 use Rattle.rtk_plan.specs.declared.reach.Base.TheVariants.{Told}
 use Rattle.rtk_plan.specs.declared.station_capture.StationCapture.{StationCapture}
+use Rattle.rtk_plan.specs.declared.system_flags.SystemFlags.{SystemFlags}
 use Rattle.rtk_plan.specs.declared.wanted.Wanted.{Wanted}
-use Rattle.rtk_plan.proofs.ChannelLemmas.{one-glonass}
+use Rattle.rtk_plan.proofs.ChannelLemmas.{one-glonass, one-seconds}
 
 one-some : {A : Type 0} (o : Option A) (a b : A) → o ≡ Some a → o ≡ Some b → a ≡ b
 one-some o a b is also = let same : Some a ≡ Some b = sym is ∙ also in cc
@@ -56,6 +59,16 @@ one-links true given cs xs ys is also = is ∙ sym also
 one-links false given cs xs ys is also =
     is.2 ∙ ap (λ (ps : List (Option Placed)). links_found cs ps) (one-placed given cs is.0 also.0 is.1 also.1) ∙ sym also.2
 
+one-systems : (ss : List CaptureSurvey) (station : ℕ) (wanted : SystemFlags) (seconds : Option ℕ) (near : ℕ) (a b : SystemFlags)
+    → AreSystemsTaken ss station wanted seconds near a → AreSystemsTaken ss station wanted seconds near b → a ≡ b
+one-systems ss station wanted seconds near a b is also =
+    is.2 ∙ ap (λ (n : ℕ). in_both wanted (systems_with_clocks ss station n)) (one-seconds seconds near is.0 also.0 is.1 also.1) ∙ sym also.2
+
+one-list : (w : Wanted) (ss : List CaptureSurvey) (station : ℕ) (seconds : Option ℕ) (near : ℕ) (kinds : SystemKinds) (a b : List AnyCode)
+    → AreCodesChosen w ss station seconds near kinds a → AreCodesChosen w ss station seconds near kinds b → a ≡ b
+one-list w ss station seconds near kinds a b is also =
+    is.2 ∙ ap (λ (systems : SystemFlags). codes_chosen w.codes ss station systems kinds) (one-systems ss station w.systems seconds near is.0 also.0 is.1 also.1) ∙ sym also.2
+
 abbrev setup_with : ℕ → ℕ → List ℕ → List AnyCode → Option GlonassView → ℕ → ℕ → SystemKinds → Option ℕ → SetupView
 setup_with station near marker listed glonass made window kinds leap_seconds =
     record {
@@ -70,23 +83,28 @@ setup_with station near marker listed glonass made window kinds leap_seconds =
 one-setup : (ss : List CaptureSurvey) (links : List (List ℕ)) (w : Wanted) (made : ℕ) (s t : SetupView) → IsSetupFor ss links w made s → IsSetupFor ss links w made t → s ≡ t
 one-setup ss links w made s t is also =
     let station : s.station ≡ t.station = one-station ss w.station s.station t.station is.station also.station in
+    let near : s.near ≡ t.near =
+    one-near w.near (captures_of ss s.station) s.near t.near is.near_by (subst (λ (n : ℕ). IsNearOf w.near (captures_of ss n) t.near) (sym station) also.near_by) in
+    let leap_seconds : s.leap_seconds ≡ t.leap_seconds = is.leap_seconds ∙ sym also.leap_seconds in
+    let chosen : AreCodesChosen w ss s.station s.leap_seconds s.near (kinds_found w.msm ss links s.station) t.head.listed =
+    subst (λ (n : ℕ). AreCodesChosen w ss s.station s.leap_seconds n (kinds_found w.msm ss links s.station) t.head.listed) (sym near)
+    (subst (λ (o : Option ℕ). AreCodesChosen w ss s.station o t.near (kinds_found w.msm ss links s.station) t.head.listed) (sym leap_seconds)
+    (subst (λ (n : ℕ). AreCodesChosen w ss n t.leap_seconds t.near (kinds_found w.msm ss links n) t.head.listed) (sym station) also.listed)) in
     let listed : s.head.listed ≡ t.head.listed =
-    is.listed ∙ ap (λ (n : ℕ). codes_chosen w.codes ss n w.systems (kinds_found w.msm ss links n)) station ∙ sym also.listed in
+    one-list w ss s.station s.leap_seconds s.near (kinds_found w.msm ss links s.station) s.head.listed t.head.listed is.listed chosen in
     let kinds : s.kinds ≡ t.kinds =
     is.kinds ∙ ap (λ (n : ℕ). kinds_listed (kinds_found w.msm ss links n) s.head.listed) station
     ∙ ap (λ (cs : List AnyCode). kinds_listed (kinds_found w.msm ss links t.station) cs) listed ∙ sym also.kinds in
     let marker : s.head.marker ≡ t.head.marker = is.marker ∙ ap (λ (n : ℕ). marker_chosen w.marker n) station ∙ sym also.marker in
     let made_at : s.head.made ≡ t.head.made = is.made_at ∙ sym also.made_at in
     let window : s.window ≡ t.window = is.window ∙ sym also.window in
-    let leap_seconds : s.leap_seconds ≡ t.leap_seconds = is.leap_seconds ∙ sym also.leap_seconds in
-    let near : s.near ≡ t.near =
-    one-near w.near (captures_of ss s.station) s.near t.near is.near_by (subst (λ (n : ℕ). IsNearOf w.near (captures_of ss n) t.near) (sym station) also.near_by) in
-    let told : IsGlonassFound ss s.station (kinds_found w.msm ss links s.station) s.head.listed w.channels w.leap_seconds s.near t.head.glonass =
-    subst (λ (n : ℕ). IsGlonassFound ss s.station (kinds_found w.msm ss links s.station) s.head.listed w.channels w.leap_seconds n t.head.glonass) (sym near)
-    (subst (λ (cs : List AnyCode). IsGlonassFound ss s.station (kinds_found w.msm ss links s.station) cs w.channels w.leap_seconds t.near t.head.glonass) (sym listed)
-    (subst (λ (n : ℕ). IsGlonassFound ss n (kinds_found w.msm ss links n) t.head.listed w.channels w.leap_seconds t.near t.head.glonass) (sym station) also.glonass)) in
+    let told : IsGlonassFound ss s.station (kinds_found w.msm ss links s.station) s.head.listed w.channels s.leap_seconds s.near t.head.glonass =
+    subst (λ (n : ℕ). IsGlonassFound ss s.station (kinds_found w.msm ss links s.station) s.head.listed w.channels s.leap_seconds n t.head.glonass) (sym near)
+    (subst (λ (o : Option ℕ). IsGlonassFound ss s.station (kinds_found w.msm ss links s.station) s.head.listed w.channels o t.near t.head.glonass) (sym leap_seconds)
+    (subst (λ (cs : List AnyCode). IsGlonassFound ss s.station (kinds_found w.msm ss links s.station) cs w.channels t.leap_seconds t.near t.head.glonass) (sym listed)
+    (subst (λ (n : ℕ). IsGlonassFound ss n (kinds_found w.msm ss links n) t.head.listed w.channels t.leap_seconds t.near t.head.glonass) (sym station) also.glonass))) in
     let glonass : s.head.glonass ≡ t.head.glonass =
-    one-glonass ss s.station (kinds_found w.msm ss links s.station) s.head.listed w.channels w.leap_seconds s.near s.head.glonass t.head.glonass is.glonass told in
+    one-glonass ss s.station (kinds_found w.msm ss links s.station) s.head.listed w.channels s.leap_seconds s.near s.head.glonass t.head.glonass is.glonass told in
     ap (λ (n : ℕ). setup_with n s.near s.head.marker s.head.listed s.head.glonass s.head.made s.window s.kinds s.leap_seconds) station
     ∙ ap (λ (n : ℕ). setup_with t.station n s.head.marker s.head.listed s.head.glonass s.head.made s.window s.kinds s.leap_seconds) near
     ∙ ap (λ (name : List ℕ). setup_with t.station t.near name s.head.listed s.head.glonass s.head.made s.window s.kinds s.leap_seconds) marker

@@ -127,7 +127,8 @@ fn codes_to_convert(
 {
     let seconds = wanted.leap_seconds;
     let systems = systems_taken(alloc, surveys, station, wanted.systems, seconds, near)?;
-    codes_of_systems(alloc, surveys, station, systems, kinds, &wanted.codes)
+    let codes = codes_of_systems(alloc, surveys, station, systems, kinds, &wanted.codes)?;
+    Ok(codes)
 }
 
 // ---- the head
