@@ -127,7 +127,7 @@ one-channels ss n kind a b is also =
         let place : (k + 1) - 1 ≡ k = omega arith in
         ap (λ (p : ℕ). slice_index_or a p None) (sym place) ∙ same ∙ ap (λ (p : ℕ). slice_index_or b p None) place)
 
-one-row : (Begun : ℕ → Type 0) (m n : ℕ) → IsLastRow Begun m → IsLastRow Begun n → m ≡ n
+pub one-row : (Begun : ℕ → Type 0) (m n : ℕ) → IsLastRow Begun m → IsLastRow Begun n → m ≡ n
 one-row Begun m n is also = elim (cases_order m n) [
   | inl same ↦ same
   | inr (inl before) ↦ absurd (is.last n before also.known (also.begun (omega (arith, before))))

@@ -15,7 +15,7 @@ use Rattle.rtk_plan.specs.declared.station_capture.StationCapture.{StationCaptur
 use Rattle.rtk_plan.specs.declared.reach.Base.{Base}
 use Rattle.rtk_plan.specs.Kept.{empty_captures}
 use Rattle.rtk_plan.specs.Linking.{AreLinksOf}
-use Rattle.rtk_plan.specs.Plan.{IsChosenStation, kinds_found, AreSystemsTaken, captures_of, IsBaseOf, IsReachOf, IsNearOf, some_out_of_reach}
+use Rattle.rtk_plan.specs.Plan.{IsChosenStation, kinds_found, AreSystemsTaken, AreLeapSecondsOf, captures_of, IsBaseOf, IsReachOf, IsNearOf, some_out_of_reach}
 use Rattle.rtk_plan.specs.Positions.{some_are_far}
 use Rattle.rtk_plan.specs.Values.{codes_in_captures}
 use Rattle.rtk_plan.specs.declared.system_flags.SystemFlags.{SystemFlags}
@@ -102,14 +102,16 @@ IsDatingCause given cs refusal = (base : Base) × IsBaseOf given cs base × IsRe
 
 -- ---- the values of the conversion of a station
 
--- no code is found in the MSM of these kinds, of the systems that are taken
-abbrev pub FindsNoCode : List CaptureSurvey → SystemKinds → Wanted → ℕ → ℕ → Type 0
-FindsNoCode ss kinds w station near =
-    (systems : SystemFlags) × AreSystemsTaken ss station w.systems w.leap_seconds near systems × (codes_in_captures ss station systems kinds ≡ [])
+-- no code is found in the MSM of these kinds, of the systems that are taken with these leap seconds
+abbrev pub FindsNoCode : List CaptureSurvey → SystemKinds → Wanted → ℕ → Option ℕ → ℕ → Type 0
+FindsNoCode ss kinds w station seconds near =
+    (systems : SystemFlags) × AreSystemsTaken ss station w.systems seconds near systems × (codes_in_captures ss station systems kinds ≡ [])
 
 -- no codes are named, and none is found in the MSM of these links, near this moment
 abbrev pub HasNoCode : List CaptureSurvey → List (List ℕ) → Wanted → ℕ → ℕ → Type 0
-HasNoCode ss links w station near = (w.codes ≡ None) × FindsNoCode ss (kinds_found w.msm ss links station) w station near
+HasNoCode ss links w station near =
+    (w.codes ≡ None) × ((seconds : Option ℕ) × AreLeapSecondsOf ss w station near seconds
+      × FindsNoCode ss (kinds_found w.msm ss links station) w station seconds near)
 
 -- the same near the moment near which captures are dated
 abbrev pub HasNoCodeNear : List CaptureSurvey → List (List ℕ) → Wanted → ℕ → List StationCapture → Type 0

@@ -5,6 +5,7 @@ pub mod ChannelWords
 pub mod ChosenStation
 pub mod ClockOffsets
 pub mod FewPhases
+pub mod FoundSeconds
 pub mod Joining
 pub mod Kept
 pub mod KnownLines

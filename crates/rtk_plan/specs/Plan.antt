@@ -19,6 +19,7 @@ use Rattle.rtk_plan.specs.StationCaptures.{capture_of}
 use Rattle.rtk_plan.specs.Sources.{dated_span_of}
 use Rattle.rtk_plan.specs.Stray.{strays}
 use Rattle.rtk_plan.specs.ClockOffsets.{systems_with_clocks}
+use Rattle.rtk_plan.specs.FoundSeconds.{asks_glonass, AreSecondsOfSetup}
 use Rattle.rtk_plan.specs.SlotChannels.{AreSecondsChosen, IsGlonassFound}
 use Rattle.rtk_plan.specs.SystemFlags.{in_both, flags_listed}
 use Rattle.rtk_plan.specs.SystemMsms.{kinds_listed}
@@ -106,6 +107,12 @@ IsSpanOf given cs station span =
 abbrev pub captures_of : List CaptureSurvey → ℕ → List StationCapture
 captures_of ss station = map (capture_of station) ss
 
+-- the leap seconds of the setup of a conversion of a station near this moment
+abbrev pub AreLeapSecondsOf : List CaptureSurvey → Wanted → ℕ → ℕ → Option ℕ → Type 0
+AreLeapSecondsOf ss w station near seconds =
+    (span : DatedSpan) × IsSpanOf w.near (captures_of ss station) station span
+    × AreSecondsOfSetup w.leap_seconds (asks_glonass w.codes w.systems) ss station near span.from span.until seconds
+
 -- the setup of a conversion of captures with these surveys on these links, by these words and at this time of
 -- making: each value is named or found
 pub record IsSetupFor (ss : List CaptureSurvey) (links : List (List ℕ)) (w : Wanted) (made : ℕ) (s : SetupView) : Type 0 where
@@ -116,5 +123,5 @@ pub record IsSetupFor (ss : List CaptureSurvey) (links : List (List ℕ)) (w : W
   pub made_at : s.head.made ≡ made
   pub window : s.window ≡ w.window
   pub glonass : IsGlonassFound ss s.station (kinds_found w.msm ss links s.station) s.head.listed w.channels s.leap_seconds s.near s.head.glonass
-  pub leap_seconds : s.leap_seconds ≡ w.leap_seconds
+  pub leap_seconds : AreLeapSecondsOf ss w s.station s.near s.leap_seconds
   pub near_by : IsNearOf w.near (captures_of ss s.station) s.near

@@ -35,7 +35,8 @@ fn offsets_of_station(system: System, station: Option<&StationSurvey>) -> &[Cloc
     }
 }
 
-fn offsets_in_capture(station: u16, system: System, survey: &CaptureSurvey) -> &[ClockOffset]
+/// The offsets of a system within the chains of a capture.
+pub(crate) fn offsets_in_capture(station: u16, system: System, survey: &CaptureSurvey) -> &[ClockOffset]
     ensures { result.now ≡ spec.offsets_in_capture station system survey.now }
 {
     offsets_of_station(system, survey.contents.stations.get(&station))
@@ -51,7 +52,8 @@ fn count_if_ahead(ahead: u32, offset: ClockOffset) -> u64
     }
 }
 
-fn ahead_in_list(ahead: u32, offsets: &[ClockOffset]) -> u64
+/// How many clocks of a list are ahead by this.
+pub(crate) fn ahead_in_list(ahead: u32, offsets: &[ClockOffset]) -> u64
     ensures { result ≡ spec.ahead_in_list ahead offsets.now }
 {
     let mut count = 0u64;
@@ -73,13 +75,15 @@ fn ahead_in_captures(surveys: &[CaptureSurvey], station: u16, system: System, ah
     count
 }
 
-fn gps_ahead(behind: u32, ahead: u32) -> u32
+/// The offset of GPS time, in ms, of clocks that are so much behind it.
+pub(crate) fn gps_ahead(behind: u32, ahead: u32) -> u32
     ensures { result ≡ spec.gps_ahead behind ahead }
 {
     ((u64::from(ahead) + u64::from(behind)) % WEEK_MS) as u32
 }
 
-fn zero_ahead(behind: u32) -> u32
+/// The offset of clocks that are behind GPS time by what they should be.
+pub(crate) fn zero_ahead(behind: u32) -> u32
     requires { behind < 604_800_000 }
     ensures { result ≡ spec.zero_ahead behind }
 {
@@ -190,7 +194,8 @@ fn is_wrong_offset(right: u64, told: Option<ClockOffset>) -> bool
     }
 }
 
-fn is_clock_wrong(
+/// Have more clocks an offset of 500 ms or more than are right?
+pub(crate) fn is_clock_wrong(
     alloc: Global,
     surveys: &[CaptureSurvey],
     station: u16,

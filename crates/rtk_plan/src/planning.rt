@@ -18,7 +18,8 @@ use crate::positions::agree_on_position;
 use crate::refusal::{PlanFault, Refusal, refused};
 use crate::span_line::DatedSpan;
 use crate::station_capture::{StationCapture, captures_of};
-use crate::station_setup::{seconds_of, setup_near, systems_asked};
+use crate::setup_seconds::seconds_of;
+use crate::station_setup::{setup_near, systems_asked};
 use crate::system_flags::SystemFlags;
 use crate::wanted::Wanted;
 use rtk_rinex::CreationTime;
@@ -206,6 +207,7 @@ fn plan_of_station(
         made,
         captured.station,
         dating.near,
+        &dating.span,
     )?;
     limit_links(alloc, captured, links.as_slice())?;
     agree_unless(alloc, captured, as_given)?;

@@ -6,7 +6,7 @@ ghost use Rattle.rtk_obs.specs.CivilText.{last_digits};
 ghost use Rattle.rtk_rinex.specs.MixedHead.{IsGlonassView, IsMixedList, TellsGlonass, has_glonass};
 ghost use Rattle.rtk_plan.specs.Causes.{IfRefused, FindsNoCode, IsSetupCause};
 ghost use Rattle.rtk_plan.specs.Linking.{places_of};
-ghost use Rattle.rtk_plan.specs.Plan.{IsChosenStation, kinds_found, AreSystemsTaken, AreCodesChosen, systems_asked, marker_chosen, captures_of, IsNearOf, IsSetupFor};
+ghost use Rattle.rtk_plan.specs.Plan.{IsChosenStation, kinds_found, AreSystemsTaken, AreCodesChosen, systems_asked, marker_chosen, captures_of, IsNearOf, IsSpanOf, IsSetupFor};
 ghost use Rattle.rtk_plan.specs.SlotChannels.{AreChannelsChosen, AreSecondsChosen, IsGlonassOf, IsGlonassFound};
 ghost use Rattle.rtk_plan.specs.SystemMsms as msms;
 ghost use Rattle.rtk_plan.specs.Plan.{codes_chosen};
@@ -15,46 +15,19 @@ ghost use Rattle.rtk_plan.specs.Values.{codes_in_captures};
 use crate::captures::list_held;
 use crate::clock_offsets::systems_with_clocks;
 use crate::refusal::{PlanFault, Refusal, refused};
+use crate::setup_seconds::{has_glonass, seconds_chosen, seconds_of_setup};
 use crate::slot_channels::channels_found;
+use crate::span_line::DatedSpan;
 use crate::system_flags::SystemFlags;
 use crate::system_msms::kinds_listed;
 use crate::values::{codes_in_captures, kinds_in_links};
 use crate::wanted::Wanted;
 use rtk_message::{MsmKind, System};
-use rtk_obs::{AnyCode, Channels, GpsMs, leap_seconds_at};
+use rtk_obs::{AnyCode, Channels, GpsMs};
 use rtk_rinex::{CreationTime, Glonass, Marker, MixedHead};
 use rtk_setup::{LeapSeconds, Reference, Setup, Station, SystemKinds, Window};
 use rtk_survey::CaptureSurvey;
 use std::alloc::{AllocError, Global};
-
-// ---- leap seconds
-
-// The leap seconds that are given, else those of the table at a moment.
-fn seconds_chosen(given: Option<LeapSeconds>, near: GpsMs) -> u8
-    ensures said { AreSecondsChosen given near result }
-    ensures bound { result ≤ 99 }
-{
-    match given {
-        Some(given) => given.number(),
-        None => leap_seconds_at(near),
-    }
-}
-
-fn seconds_at(given: Option<u8>, near: GpsMs) -> u8
-    ensures { AreSecondsChosen given near result }
-{
-    match given {
-        Some(given) => given,
-        None => leap_seconds_at(near),
-    }
-}
-
-/// The leap seconds of a setup, else those of the table at the moment near which it dates.
-pub(crate) fn seconds_of(setup: &Setup) -> u8
-    ensures { AreSecondsChosen setup.now.leap_seconds setup.now.near result }
-{
-    seconds_at(setup.leap_seconds(), setup.near())
-}
 
 // ---- the systems
 
@@ -118,14 +91,14 @@ fn codes_to_convert(
     station: u16,
     kinds: SystemKinds,
     wanted: &Wanted,
+    seconds: Option<LeapSeconds>,
     near: GpsMs,
 ) -> Result<Vec<AnyCode>, PlanFault>
-    ensures codes { IfOk result (λ codes. AreCodesChosen wanted.now surveys.now station wanted.now.leap_seconds near kinds codes.items) }
+    ensures codes { IfOk result (λ codes. AreCodesChosen wanted.now surveys.now station seconds near kinds codes.items) }
     ensures good { IfOk result (λ codes. IsMixedList codes.items) }
     ensures refused { IfErr result (IfRefused (λ refusal. (refusal ≡ Refusal.NoCode) × (wanted.now.codes ≡ None)
-        × FindsNoCode surveys.now kinds wanted.now station near)) }
+        × FindsNoCode surveys.now kinds wanted.now station seconds near)) }
 {
-    let seconds = wanted.leap_seconds;
     let systems = systems_taken(alloc, surveys, station, wanted.systems, seconds, near)?;
     let codes = codes_of_systems(alloc, surveys, station, systems, kinds, &wanted.codes)?;
     Ok(codes)
@@ -161,18 +134,6 @@ fn marker_of(station: u16, marker: &Option<Marker>) -> Marker
     marker
 }
 
-// Is a listed code of GLONASS?
-fn has_glonass(listed: &[AnyCode]) -> bool
-    ensures { result ≡ has_glonass listed.now }
-{
-    for code in listed {
-        if code.text()[0] == b'R' {
-            return true;
-        }
-    }
-    false
-}
-
 // The channels that are given, else those that messages tell.
 fn channels_chosen(
     given: Option<Channels>,
@@ -193,14 +154,15 @@ fn glonass_of(
     surveys: &[CaptureSurvey],
     station: u16,
     kind: MsmKind,
-    wanted: &Wanted,
+    channels: Option<Channels>,
+    seconds: Option<LeapSeconds>,
     near: GpsMs,
 ) -> Glonass
-    ensures found { IsGlonassOf surveys.now station kind wanted.now.channels wanted.now.leap_seconds near result }
+    ensures found { IsGlonassOf surveys.now station kind channels seconds near result }
     ensures good { IsGlonassView result }
 {
-    let channels = channels_chosen(wanted.channels, surveys, station, kind);
-    let seconds = seconds_chosen(wanted.leap_seconds, near);
+    let channels = channels_chosen(channels, surveys, station, kind);
+    let seconds = seconds_chosen(seconds, near);
     let Some(glonass) = Glonass::new(channels, seconds) else {
         unreachable!();
     };
@@ -213,14 +175,15 @@ fn glonass_found(
     station: u16,
     kinds: SystemKinds,
     listed: &[AnyCode],
-    wanted: &Wanted,
+    channels: Option<Channels>,
+    seconds: Option<LeapSeconds>,
     near: GpsMs,
 ) -> Option<Glonass>
-    ensures found { IsGlonassFound surveys.now station kinds listed.now wanted.now.channels wanted.now.leap_seconds near result }
+    ensures found { IsGlonassFound surveys.now station kinds listed.now channels seconds near result }
     ensures due { TellsGlonass listed.now result }
 {
     if has_glonass(listed) {
-        Some(glonass_of(surveys, station, kinds.glonass, wanted, near))
+        Some(glonass_of(surveys, station, kinds.glonass, channels, seconds, near))
     } else {
         None
     }
@@ -319,18 +282,21 @@ pub(crate) fn setup_near(
     made: CreationTime,
     station: u16,
     near: GpsMs,
+    span: &DatedSpan,
 ) -> Result<Setup, PlanFault>
     requires bound { station < 4096 }
     requires chosen { IsChosenStation surveys.now wanted.now.station station }
     requires near { IsNearOf wanted.now.near (captures_of surveys.now station) near }
+    requires span { IsSpanOf wanted.now.near (captures_of surveys.now station) station span.now }
     ensures setup { IfOk result (IsSetupFor surveys.now (places_of links.now) wanted.now made) }
     ensures station { IfOk result (λ setup. (setup.station ≡ station) × (setup.near ≡ near)) }
     ensures refused { IfErr result (IfRefused (IsSetupCause surveys.now (places_of links.now) wanted.now station near)) }
 {
     let kinds = kinds_to_convert(surveys, links, wanted.msm, station);
-    let codes = codes_to_convert(alloc, surveys, station, kinds, wanted, near)?;
+    let seconds = seconds_of_setup(alloc, surveys, station, wanted, near, span)?;
+    let codes = codes_to_convert(alloc, surveys, station, kinds, wanted, seconds, near)?;
     let listed = codes.as_slice();
-    let glonass = glonass_found(surveys, station, kinds, listed, wanted, near);
+    let glonass = glonass_found(surveys, station, kinds, listed, wanted.channels, seconds, near);
     let head = head_of(marker_of(station, &wanted.marker), listed, glonass, made);
     let Ok(station) = Station::new(station) else {
         unreachable!();
@@ -338,12 +304,5 @@ pub(crate) fn setup_near(
     let Ok(near) = Reference::new(near) else {
         return refused(Refusal::OutsideDates, Vec::new(alloc));
     };
-    Ok(setup_of(
-        station,
-        near,
-        head,
-        wanted.window,
-        kinds,
-        wanted.leap_seconds,
-    ))
+    Ok(setup_of(station, near, head, wanted.window, kinds, seconds))
 }

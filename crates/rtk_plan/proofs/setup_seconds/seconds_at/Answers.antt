@@ -1,6 +1,6 @@
 use Rattle.std.proofs.Common.{ℕ, Option, sym, subst, refl}
 use Rattle.rtk_plan.specs.SlotChannels.{AreSecondsChosen}
-use Rattle.rtk_plan.proofs.station_setup.seconds_at.Goals as goal
+use Rattle.rtk_plan.proofs.setup_seconds.seconds_at.Goals as goal
 
 pub returns-in-Some : goal.returns-in-Some
 returns-in-Some c = subst (λ (o : Option ℕ). AreSecondsChosen o c.args.near c.in-Some.given) (sym c.in-Some.is) refl
