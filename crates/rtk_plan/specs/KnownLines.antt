@@ -22,6 +22,7 @@ use Rattle.rtk_plan.specs.CaptureNames.{capture_name, lines_by}
 use Rattle.rtk_plan.specs.ChannelWords.{no_channel_lines}
 use Rattle.rtk_plan.specs.ClockOffsets.{told_clock_lines}
 use Rattle.rtk_plan.specs.FewPhases.{has_few_phases}
+use Rattle.rtk_plan.specs.LeapLines.{other_leap_lines}
 use Rattle.rtk_plan.specs.Linking.{places_of}
 use Rattle.rtk_plan.specs.Lists.{date_line, undated_line, stray_line, capture_line, name_line, msm_lines, doppler_line, sbas_line, all_unread}
 use Rattle.rtk_plan.specs.Positions.{no_position_line}
@@ -120,17 +121,19 @@ few_phases_lines ss station kind cs = flat_map (few_phases_line_at ss station ki
 abbrev pub stray_lines : List (Bor (List ℕ)) → ℕ → List ℕ → List ℕ
 stray_lines names epoch places = flat_map (λ place. stray_line epoch (capture_name names place)) places
 
--- the systems whose clocks differ from those of their chains, and those of which no clock is compared
-abbrev pub clock_lines_of : List CaptureSurvey → Plan → List ℕ
-clock_lines_of ss plan =
+-- the systems whose clocks differ from those of their chains, those of which no clock is compared, and the captures that
+-- tell other leap seconds
+abbrev pub clock_lines_of : List (Bor (List ℕ)) → List CaptureSurvey → Plan → List ℕ
+clock_lines_of names ss plan =
     told_clock_lines plan.asked ss plan.setup.station plan.leap_seconds ++ unchecked_lines plan.setup.head.listed ss plan.setup.station
+    ++ other_leap_lines names plan.setup.station ss plan.setup.head.glonass
 
 -- everything before the line of late messages
 unfoldable pub lines_before_late : List (Bor (List ℕ)) → List CaptureSurvey → Plan → Equipment → List ℕ
 lines_before_late names ss plan told =
     undated_lines plan.span.source names plan.captures.items
     ++ all_other_dates names plan.setup.station plan.setup.near ss
-    ++ clock_lines_of ss plan
+    ++ clock_lines_of names ss plan
     ++ few_phases_lines ss plan.setup.station plan.setup.kinds.gps plan.setup.head.listed
     ++ no_channel_lines ss plan.setup.station plan.setup.kinds.glonass plan.setup.head.glonass
     ++ texts_left_out told

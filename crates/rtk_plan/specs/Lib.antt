@@ -11,6 +11,7 @@ pub mod Kept
 pub mod KnownLines
 pub mod LabelCommand
 pub mod Laws
+pub mod LeapLines
 pub mod Linking
 pub mod Lists
 pub mod Plan

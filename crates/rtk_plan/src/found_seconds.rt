@@ -97,20 +97,33 @@ fn is_ahead_in_capture(
     Ok(is)
 }
 
+/// Are no other leap seconds told than these?
+pub(crate) fn is_alone(seconds: u64, range: &LeapRange) -> bool
+    ensures { result ≡ spec.is_alone seconds range.now }
+{
+    u64::from(range.least) == seconds && u64::from(range.greatest) == seconds
+}
+
 fn is_told_alone(seconds: u64, told: Option<&LeapRange>) -> bool
     ensures { result ≡ spec.is_told_alone seconds (option_copied told.entry) }
 {
     match told {
-        Some(told) => u64::from(told.least) == seconds && u64::from(told.greatest) == seconds,
+        Some(range) => is_alone(seconds, range),
         None => true,
     }
+}
+
+/// The leap seconds that the 1013 of a station in a capture tell.
+pub(crate) fn leap_in_capture(station: u16, survey: &CaptureSurvey) -> Option<&LeapRange>
+    ensures { option_copied result.entry ≡ spec.leap_in_capture station survey.now }
+{
+    survey.contents.system_tellings.leap_seconds.get(&station)
 }
 
 fn agrees_in_capture(station: u16, seconds: u64, survey: &CaptureSurvey) -> bool
     ensures { result ≡ spec.agrees_in_capture station seconds survey.now }
 {
-    let told = &survey.contents.system_tellings.leap_seconds;
-    is_told_alone(seconds, told.get(&station))
+    is_told_alone(seconds, leap_in_capture(station, survey))
 }
 
 // ---- all captures

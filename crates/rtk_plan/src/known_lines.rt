@@ -11,6 +11,7 @@ use crate::capture_lines::{put_epochs, put_other_dates, put_skipped, put_strays,
 use crate::captures::Captures;
 use crate::channel_words::put_no_channel_in;
 use crate::clock_lines::put_told_clocks;
+use crate::leap_lines::put_other_leap_in;
 use crate::message_lines::{put_doppler, put_msms, put_sbas, put_unread};
 use crate::phase_lines::put_few_phases_in;
 use crate::planning::Plan;
@@ -116,19 +117,23 @@ fn late_on_links(reported: &Reported, links: &[usize]) -> u64
     count
 }
 
-// Appends the systems of a plan whose clocks differ from those of their chains, and those of which no clock is compared.
+// Appends the systems of a plan whose clocks differ from those of their chains, those of which no clock is compared, and
+// the captures that tell other leap seconds.
 fn put_clocks_in(
     alloc: Global,
     lines: &mut Vec<u8>,
-    surveys: &[CaptureSurvey],
+    captures: &Captures<'_, '_>,
     plan: &Plan,
 ) -> Result<(), AllocError>
-    ensures { OnOk result (lines.new.items ≡ lines.old.items ++ spec.clock_lines_of surveys.now plan.now) }
+    ensures { OnOk result (lines.new.items ≡ lines.old.items
+        ++ spec.clock_lines_of captures.now.names.now captures.now.surveys.now plan.now) }
 {
+    let surveys = captures.surveys;
     let setup = &plan.setup;
     let station = setup.station();
     put_told_clocks(alloc, lines, plan.asked, surveys, station, plan.leap_seconds)?;
     put_unchecked(lines, setup, surveys, station)?;
+    put_other_leap_in(lines, captures, setup)?;
     Ok(())
 }
 
@@ -146,7 +151,7 @@ fn put_first_lines(
 {
     put_undated(lines, captures, plan)?;
     put_other_dates(lines, captures, &plan.setup)?;
-    put_clocks_in(alloc, lines, captures.surveys, plan)?;
+    put_clocks_in(alloc, lines, captures, plan)?;
     put_few_phases_in(lines, captures.surveys, &plan.setup)?;
     put_no_channel_in(lines, captures.surveys, &plan.setup)?;
     put_texts_left_out(lines, told)?;
@@ -218,7 +223,7 @@ fn put_last_lines(
 }
 
 /// What a person should know of a conversion, a line each, only where it is so: captures that are dated near
-/// the others; a date that is told and does not count; systems whose clocks differ from those of their chains, or of which no clock is compared; codes with few phases; satellites without a channel; texts
+/// the others; a date that is told and does not count; systems whose clocks differ from those of their chains, or of which no clock is compared; captures that tell other leap seconds; codes with few phases; satellites without a channel; texts
 /// that messages told and that a label does not have; captures with a stray epoch, that are left out, that have no epoch or whose time falls;
 /// and observations that are not taken.
 pub fn what_is_known(

@@ -86,6 +86,7 @@ mod kept;
 mod known_lines;
 mod label_command;
 mod laws;
+mod leap_lines;
 mod linking;
 mod lists;
 mod message_lines;
