@@ -19,7 +19,6 @@ use Rattle.rtk_survey.specs.declared.span.Span.{Span}
 use Rattle.rtk_survey.specs.declared.survey.CaptureSurvey.{CaptureSurvey}
 use Rattle.rtk_survey.specs.declared.tellings.Told.{Told}
 use Rattle.rtk_plan.specs.CaptureNames.{capture_name, lines_by}
-use Rattle.rtk_plan.specs.ChannelWords.{no_channel_lines}
 use Rattle.rtk_plan.specs.ClockOffsets.{told_clock_lines}
 use Rattle.rtk_plan.specs.FewPhases.{has_few_phases}
 use Rattle.rtk_plan.specs.LeapLines.{other_leap_lines}
@@ -30,6 +29,7 @@ use Rattle.rtk_plan.specs.Reported.{late_of}
 use Rattle.rtk_plan.specs.SpanLine.{span_line}
 use Rattle.rtk_plan.specs.StationCaptures.{dates_in, told_in, passed_over_in}
 use Rattle.rtk_plan.specs.TextsLeftOut.{texts_left_out}
+use Rattle.rtk_plan.specs.ToldChannels.{channel_lines}
 use Rattle.rtk_plan.specs.UncheckedClocks.{unchecked_lines}
 use Rattle.rtk_plan.specs.WrittenFile.{written_span, gap_lines}
 use Rattle.rtk_plan.specs.declared.known_lines.Known.{Known}
@@ -135,7 +135,7 @@ lines_before_late names ss plan told =
     ++ all_other_dates names plan.setup.station plan.setup.near ss
     ++ clock_lines_of names ss plan
     ++ few_phases_lines ss plan.setup.station plan.setup.kinds.gps plan.setup.head.listed
-    ++ no_channel_lines ss plan.setup.station plan.setup.kinds.glonass plan.setup.head.glonass
+    ++ channel_lines ss plan.setup.station plan.setup.kinds.glonass plan.own_channels plan.setup.head.glonass
     ++ texts_left_out told
     ++ stray_lines names plan.span.until plan.strays.items
 

@@ -1,3 +1,4 @@
+pub mod AlikeChannels
 pub mod CaptureEquipment
 pub mod CaptureNames
 pub mod Causes
@@ -29,6 +30,7 @@ pub mod Stray
 pub mod SystemFlags
 pub mod SystemMsms
 pub mod TextsLeftOut
+pub mod ToldChannels
 pub mod ToldLabel
 pub mod UncheckedClocks
 pub mod Values

@@ -9,7 +9,6 @@ ghost use Rattle.rtk_plan.specs.Linking.{places_of};
 
 use crate::capture_lines::{put_epochs, put_other_dates, put_skipped, put_strays, put_undated};
 use crate::captures::Captures;
-use crate::channel_words::put_no_channel_in;
 use crate::clock_lines::put_told_clocks;
 use crate::leap_lines::put_other_leap_in;
 use crate::message_lines::{put_doppler, put_msms, put_sbas, put_unread};
@@ -19,6 +18,7 @@ use crate::positions::put_no_position;
 use crate::reported::Reported;
 use crate::span_line::{DateSource, DatedSpan, put_span};
 use crate::texts_left_out::put_texts_left_out;
+use crate::told_channels::put_channels_in;
 use crate::unchecked_clocks::put_unchecked;
 use crate::written_file::{Step, WrittenFile};
 use rtk_message::{Accepted, MsmKind, put_named};
@@ -153,7 +153,7 @@ fn put_first_lines(
     put_other_dates(lines, captures, &plan.setup)?;
     put_clocks_in(alloc, lines, captures, plan)?;
     put_few_phases_in(lines, captures.surveys, &plan.setup)?;
-    put_no_channel_in(lines, captures.surveys, &plan.setup)?;
+    put_channels_in(lines, captures.surveys, plan)?;
     put_texts_left_out(lines, told)?;
     put_strays(lines, captures, plan.span.until, plan.strays.as_slice())?;
     Ok(())
@@ -223,7 +223,7 @@ fn put_last_lines(
 }
 
 /// What a person should know of a conversion, a line each, only where it is so: captures that are dated near
-/// the others; a date that is told and does not count; systems whose clocks differ from those of their chains, or of which no clock is compared; captures that tell other leap seconds; codes with few phases; satellites without a channel; texts
+/// the others; a date that is told and does not count; systems whose clocks differ from those of their chains, or of which no clock is compared; captures that tell other leap seconds; codes with few phases; channels of GLONASS that many slots have, or one has several of, and satellites without one; texts
 /// that messages told and that a label does not have; captures with a stray epoch, that are left out, that have no epoch or whose time falls;
 /// and observations that are not taken.
 pub fn what_is_known(

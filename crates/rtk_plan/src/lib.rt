@@ -69,6 +69,7 @@
 //! Its tests: tests/values/src/plan.rt.in, tests/program/auto.sh and tests/model
 #![tactic(auto)]
 
+mod alike_channels;
 mod capture_equipment;
 mod capture_lines;
 mod captures;
@@ -107,6 +108,7 @@ mod stray;
 mod system_flags;
 mod system_msms;
 mod texts_left_out;
+mod told_channels;
 mod told_label;
 mod unchecked_clocks;
 mod values;

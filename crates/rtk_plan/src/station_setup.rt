@@ -7,7 +7,7 @@ ghost use Rattle.rtk_rinex.specs.MixedHead.{IsGlonassView, IsMixedList, TellsGlo
 ghost use Rattle.rtk_plan.specs.Causes.{IfRefused, FindsNoCode, IsSetupCause};
 ghost use Rattle.rtk_plan.specs.Linking.{places_of};
 ghost use Rattle.rtk_plan.specs.Plan.{IsChosenStation, kinds_found, AreSystemsTaken, AreCodesChosen, systems_asked, marker_chosen, captures_of, IsNearOf, IsSpanOf, IsSetupFor};
-ghost use Rattle.rtk_plan.specs.SlotChannels.{AreChannelsChosen, AreSecondsChosen, IsGlonassOf, IsGlonassFound};
+ghost use Rattle.rtk_plan.specs.SlotChannels.{AreChannelsChosen, AreOwnChannels, AreSecondsChosen, IsGlonassOf, IsGlonassFound};
 ghost use Rattle.rtk_plan.specs.SystemMsms as msms;
 ghost use Rattle.rtk_plan.specs.Plan.{codes_chosen};
 ghost use Rattle.rtk_plan.specs.Values.{codes_in_captures};
@@ -16,7 +16,7 @@ use crate::captures::list_held;
 use crate::clock_offsets::systems_with_clocks;
 use crate::refusal::{PlanFault, Refusal, refused};
 use crate::setup_seconds::{has_glonass, seconds_chosen, seconds_of_setup};
-use crate::slot_channels::channels_found;
+use crate::slot_channels::{channels_found, own_channels};
 use crate::span_line::DatedSpan;
 use crate::system_flags::SystemFlags;
 use crate::system_msms::kinds_listed;
@@ -147,6 +147,13 @@ fn channels_chosen(
         Some(given) => given,
         None => channels_found(surveys, station, kind),
     }
+}
+
+/// The channels of slots that messages of the station tell, by the MSM of GLONASS of a setup.
+pub(crate) fn own_channels_in(surveys: &[CaptureSurvey], setup: &Setup) -> Channels
+    ensures { AreOwnChannels surveys.now setup.now.station setup.now.kinds.glonass result }
+{
+    own_channels(surveys, setup.station(), setup.kinds().glonass)
 }
 
 // What the file tells of GLONASS.
