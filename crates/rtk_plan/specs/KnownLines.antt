@@ -30,7 +30,7 @@ use Rattle.rtk_plan.specs.SpanLine.{span_line}
 use Rattle.rtk_plan.specs.StationCaptures.{dates_in, told_in, passed_over_in}
 use Rattle.rtk_plan.specs.TextsLeftOut.{texts_left_out}
 use Rattle.rtk_plan.specs.ToldChannels.{channel_lines}
-use Rattle.rtk_plan.specs.UncheckedClocks.{unchecked_lines}
+use Rattle.rtk_plan.specs.UncheckedSystems.{unchecked_system_lines}
 use Rattle.rtk_plan.specs.WrittenFile.{written_span, gap_lines}
 use Rattle.rtk_plan.specs.declared.known_lines.Known.{Known}
 use Rattle.rtk_plan.specs.declared.planning.Plan.{Plan}
@@ -125,7 +125,7 @@ stray_lines names epoch places = flat_map (λ place. stray_line epoch (capture_n
 -- tell other leap seconds
 abbrev pub clock_lines_of : List (Bor (List ℕ)) → List CaptureSurvey → Plan → List ℕ
 clock_lines_of names ss plan =
-    told_clock_lines plan.asked ss plan.setup.station plan.leap_seconds ++ unchecked_lines plan.setup.head.listed ss plan.setup.station
+    told_clock_lines plan.asked ss plan.setup.station plan.leap_seconds ++ unchecked_system_lines plan.setup.head.listed ss plan.setup.station
     ++ other_leap_lines names plan.setup.station ss plan.setup.head.glonass
 
 -- everything before the line of late messages

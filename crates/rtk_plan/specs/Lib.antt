@@ -21,6 +21,7 @@ pub mod Reach
 pub mod RefusalLists
 pub mod Reported
 pub mod SaidCommand
+pub mod SatelliteMarks
 pub mod SlotChannels
 pub mod Sources
 pub mod SpanLine
@@ -32,6 +33,6 @@ pub mod SystemMsms
 pub mod TextsLeftOut
 pub mod ToldChannels
 pub mod ToldLabel
-pub mod UncheckedClocks
+pub mod UncheckedSystems
 pub mod Values
 pub mod WrittenFile

@@ -19,7 +19,7 @@ use crate::reported::Reported;
 use crate::span_line::{DateSource, DatedSpan, put_span};
 use crate::texts_left_out::put_texts_left_out;
 use crate::told_channels::put_channels_in;
-use crate::unchecked_clocks::put_unchecked;
+use crate::unchecked_systems::put_unchecked;
 use crate::written_file::{Step, WrittenFile};
 use rtk_message::{Accepted, MsmKind, put_named};
 use rtk_setup::{Counts, Setup};

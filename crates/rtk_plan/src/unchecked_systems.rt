@@ -5,7 +5,7 @@
 ghost use Rattle.std.specs.Prelude.{◌≡◌, ◌++◌, flat_map, OnOk};
 ghost use Rattle.std.specs.List.{list_any};
 ghost use Rattle.std.specs.Option.{option_copied};
-ghost use Rattle.rtk_plan.specs.UncheckedClocks as spec;
+ghost use Rattle.rtk_plan.specs.UncheckedSystems as spec;
 
 use crate::clock_offsets::clocks_compared;
 use crate::system_msms::{SYSTEMS, system_letter};
@@ -119,8 +119,8 @@ fn is_first_timing(surveys: &[CaptureSurvey], station: u16, system: System) -> b
 // ---- the lines
 
 // Is no clock of a system that is converted compared?
-fn is_unchecked(setup: &Setup, surveys: &[CaptureSurvey], station: u16, system: System) -> bool
-    ensures { result ≡ spec.is_unchecked setup.now.head.listed surveys.now station system }
+fn is_system_unchecked(setup: &Setup, surveys: &[CaptureSurvey], station: u16, system: System) -> bool
+    ensures { result ≡ spec.is_system_unchecked setup.now.head.listed surveys.now station system }
 {
     setup.lists(system)
         && clocks_compared(surveys, station, system) == 0
@@ -128,9 +128,9 @@ fn is_unchecked(setup: &Setup, surveys: &[CaptureSurvey], station: u16, system: 
 }
 
 fn put_unchecked_line(lines: &mut Vec<u8>, setup: &Setup, surveys: &[CaptureSurvey], station: u16, system: System) -> Result<(), AllocError>
-    ensures { OnOk result (lines.new.items ≡ lines.old.items ++ spec.unchecked_line setup.now.head.listed surveys.now station system) }
+    ensures { OnOk result (lines.new.items ≡ lines.old.items ++ spec.unchecked_system_line setup.now.head.listed surveys.now station system) }
 {
-    if !is_unchecked(setup, surveys, station, system) {
+    if !is_system_unchecked(setup, surveys, station, system) {
         return Ok(());
     }
     lines.extend_from_slice(b" unchecked ")?;
@@ -146,7 +146,7 @@ fn put_unchecked_among(
     station: u16,
     systems: &[System],
 ) -> Result<(), AllocError>
-    ensures { OnOk result (lines.new.items ≡ lines.old.items ++ flat_map (spec.unchecked_line setup.now.head.listed surveys.now station) systems.now) }
+    ensures { OnOk result (lines.new.items ≡ lines.old.items ++ flat_map (spec.unchecked_system_line setup.now.head.listed surveys.now station) systems.now) }
 {
     for system in systems {
         put_unchecked_line(lines, setup, surveys, station, *system)?;
@@ -161,7 +161,7 @@ pub(crate) fn put_unchecked(
     surveys: &[CaptureSurvey],
     station: u16,
 ) -> Result<(), AllocError>
-    ensures { OnOk result (lines.new.items ≡ lines.old.items ++ spec.unchecked_lines setup.now.head.listed surveys.now station) }
+    ensures { OnOk result (lines.new.items ≡ lines.old.items ++ spec.unchecked_system_lines setup.now.head.listed surveys.now station) }
 {
     put_unchecked_among(lines, setup, surveys, station, &SYSTEMS)
 }

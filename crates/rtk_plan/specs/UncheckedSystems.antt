@@ -73,13 +73,13 @@ is_first_timing ss n system = times_chains system && not (list_any (is_system_se
 -- ---- the lines
 
 -- no clock of a system that is converted is compared
-abbrev pub is_unchecked : List AnyCode → List CaptureSurvey → ℕ → System → Bool
-is_unchecked listed ss n system =
+abbrev pub is_system_unchecked : List AnyCode → List CaptureSurvey → ℕ → System → Bool
+is_system_unchecked listed ss n system =
     lists_system listed system && (clocks_compared ss n system == 0 && not (is_first_timing ss n system))
 
 -- formula
-abbrev pub unchecked_line : List AnyCode → List CaptureSurvey → ℕ → System → List ℕ
-unchecked_line listed ss n system = if is_unchecked listed ss n system then codes " unchecked " ++ letter_of system ∷ 10 ∷ [] else []
+abbrev pub unchecked_system_line : List AnyCode → List CaptureSurvey → ℕ → System → List ℕ
+unchecked_system_line listed ss n system = if is_system_unchecked listed ss n system then codes " unchecked " ++ letter_of system ∷ 10 ∷ [] else []
 
-abbrev pub unchecked_lines : List AnyCode → List CaptureSurvey → ℕ → List ℕ
-unchecked_lines listed ss n = flat_map (unchecked_line listed ss n) systems_in_order
+abbrev pub unchecked_system_lines : List AnyCode → List CaptureSurvey → ℕ → List ℕ
+unchecked_system_lines listed ss n = flat_map (unchecked_system_line listed ss n) systems_in_order
