@@ -101,8 +101,8 @@ one-list : (w : Wanted) (ss : List CaptureSurvey) (station : ℕ) (seconds : Opt
 one-list w ss station seconds near kinds a b is also =
     is.2 ∙ ap (λ (systems : SystemFlags). codes_chosen w.codes ss station systems kinds) (one-systems ss station w.systems seconds near is.0 also.0 is.1 also.1) ∙ sym also.2
 
-abbrev setup_with : ℕ → ℕ → List ℕ → List AnyCode → Option GlonassView → ℕ → ℕ → SystemKinds → Option ℕ → SetupView
-setup_with station near marker listed glonass made window kinds leap_seconds =
+abbrev setup_with : ℕ → ℕ → List ℕ → List AnyCode → Option GlonassView → ℕ → ℕ → SystemKinds → Option ℕ → Bool → SetupView
+setup_with station near marker listed glonass made window kinds leap_seconds takes_1012 =
     record {
       station = station;
       near = near;
@@ -110,6 +110,7 @@ setup_with station near marker listed glonass made window kinds leap_seconds =
       window = window;
       kinds = kinds;
       leap_seconds = leap_seconds;
+      takes_1012 = takes_1012;
     }
 
 one-setup : (ss : List CaptureSurvey) (links : List (List ℕ)) (w : Wanted) (made : ℕ) (s t : SetupView) → IsSetupFor ss links w made s → IsSetupFor ss links w made t → s ≡ t
@@ -140,15 +141,17 @@ one-setup ss links w made s t is also =
     (subst (λ (n : ℕ). IsGlonassFound ss n (kinds_found w.msm ss links n) t.head.listed w.channels t.leap_seconds t.near t.head.glonass) (sym station) also.glonass))) in
     let glonass : s.head.glonass ≡ t.head.glonass =
     one-glonass ss s.station (kinds_found w.msm ss links s.station) s.head.listed w.channels s.leap_seconds s.near s.head.glonass t.head.glonass is.glonass told in
-    ap (λ (n : ℕ). setup_with n s.near s.head.marker s.head.listed s.head.glonass s.head.made s.window s.kinds s.leap_seconds) station
-    ∙ ap (λ (n : ℕ). setup_with t.station n s.head.marker s.head.listed s.head.glonass s.head.made s.window s.kinds s.leap_seconds) near
-    ∙ ap (λ (name : List ℕ). setup_with t.station t.near name s.head.listed s.head.glonass s.head.made s.window s.kinds s.leap_seconds) marker
-    ∙ ap (λ (codes : List AnyCode). setup_with t.station t.near t.head.marker codes s.head.glonass s.head.made s.window s.kinds s.leap_seconds) listed
-    ∙ ap (λ (g : Option GlonassView). setup_with t.station t.near t.head.marker t.head.listed g s.head.made s.window s.kinds s.leap_seconds) glonass
-    ∙ ap (λ (n : ℕ). setup_with t.station t.near t.head.marker t.head.listed t.head.glonass n s.window s.kinds s.leap_seconds) made_at
-    ∙ ap (λ (n : ℕ). setup_with t.station t.near t.head.marker t.head.listed t.head.glonass t.head.made n s.kinds s.leap_seconds) window
-    ∙ ap (λ (ks : SystemKinds). setup_with t.station t.near t.head.marker t.head.listed t.head.glonass t.head.made t.window ks s.leap_seconds) kinds
-    ∙ ap (λ (leap : Option ℕ). setup_with t.station t.near t.head.marker t.head.listed t.head.glonass t.head.made t.window t.kinds leap) leap_seconds
+    let no_1012 : s.takes_1012 ≡ t.takes_1012 = is.no_1012 ∙ sym also.no_1012 in
+    ap (λ (n : ℕ). setup_with n s.near s.head.marker s.head.listed s.head.glonass s.head.made s.window s.kinds s.leap_seconds s.takes_1012) station
+    ∙ ap (λ (n : ℕ). setup_with t.station n s.head.marker s.head.listed s.head.glonass s.head.made s.window s.kinds s.leap_seconds s.takes_1012) near
+    ∙ ap (λ (name : List ℕ). setup_with t.station t.near name s.head.listed s.head.glonass s.head.made s.window s.kinds s.leap_seconds s.takes_1012) marker
+    ∙ ap (λ (codes : List AnyCode). setup_with t.station t.near t.head.marker codes s.head.glonass s.head.made s.window s.kinds s.leap_seconds s.takes_1012) listed
+    ∙ ap (λ (g : Option GlonassView). setup_with t.station t.near t.head.marker t.head.listed g s.head.made s.window s.kinds s.leap_seconds s.takes_1012) glonass
+    ∙ ap (λ (n : ℕ). setup_with t.station t.near t.head.marker t.head.listed t.head.glonass n s.window s.kinds s.leap_seconds s.takes_1012) made_at
+    ∙ ap (λ (n : ℕ). setup_with t.station t.near t.head.marker t.head.listed t.head.glonass t.head.made n s.kinds s.leap_seconds s.takes_1012) window
+    ∙ ap (λ (ks : SystemKinds). setup_with t.station t.near t.head.marker t.head.listed t.head.glonass t.head.made t.window ks s.leap_seconds s.takes_1012) kinds
+    ∙ ap (λ (leap : Option ℕ). setup_with t.station t.near t.head.marker t.head.listed t.head.glonass t.head.made t.window t.kinds leap s.takes_1012) leap_seconds
+    ∙ ap (λ (is_asked : Bool). setup_with t.station t.near t.head.marker t.head.listed t.head.glonass t.head.made t.window t.kinds t.leap_seconds is_asked) no_1012
 
 pub one-plan : OnePlan
 one-plan ss w made as_given s t links others skipped left strays strayed is also =

@@ -11,7 +11,7 @@ use Rattle.rtk_obs.specs.AnyCode.{system_of, place_of}
 use Rattle.rtk_obs.specs.Code.{name_of, all_codes}
 use Rattle.rtk_obs.specs.declared.any_code.AnyCode.{AnyCode}
 use Rattle.rtk_obs.specs.declared.code.Code.{Code}
-use Rattle.rtk_setup.specs.Setup.{taken_by}
+use Rattle.rtk_setup.specs.Setup.{SetupView, taken_by, takes_1004, lists_system}
 use Rattle.rtk_survey.specs.Counting.{shown_count}
 use Rattle.rtk_survey.specs.Placing.{placed}
 use Rattle.rtk_survey.specs.declared.equipment.Equipment.{Equipment}
@@ -23,7 +23,7 @@ use Rattle.rtk_plan.specs.ClockOffsets.{told_clock_lines}
 use Rattle.rtk_plan.specs.FewPhases.{has_few_phases}
 use Rattle.rtk_plan.specs.LeapLines.{other_leap_lines}
 use Rattle.rtk_plan.specs.Linking.{places_of}
-use Rattle.rtk_plan.specs.Lists.{date_line, undated_line, stray_line, capture_line, name_line, msm_lines, doppler_line, sbas_line, all_unread}
+use Rattle.rtk_plan.specs.Lists.{date_line, undated_line, stray_line, capture_line, name_line, obs_1004_line, msm_lines, doppler_line, sbas_line, all_unread}
 use Rattle.rtk_plan.specs.Positions.{no_position_line}
 use Rattle.rtk_plan.specs.Reported.{late_of}
 use Rattle.rtk_plan.specs.SpanLine.{span_line}
@@ -173,16 +173,22 @@ epochs_lines_of names cs link = flat_map (epochs_line_at names cs) link
 abbrev pub epochs_lines : List (Bor (List ℕ)) → List StationCapture → List (List ℕ) → List ℕ
 epochs_lines names cs links = flat_map (epochs_lines_of names cs) links
 
--- the observations that are not taken, if these messages are and this is the MSM of GPS
-unfoldable pub not_taken : List CaptureSurvey → ℕ → MsmKind → Accepted → List ℕ
-not_taken ss station kind taken =
-    msm_lines taken ss station ++ doppler_line kind ss station ++ sbas_line ss station ++ all_unread taken ss
+-- the observations of a station that are not taken, if these messages are; the flags say whether 1004 are, and
+-- satellites of SBAS in them
+unfoldable pub not_taken_by : Accepted → Bool → Bool → List CaptureSurvey → ℕ → List ℕ
+not_taken_by taken has_1004 has_sbas ss station =
+    obs_1004_line has_1004 ss station ++ msm_lines taken ss station ++ doppler_line taken ss station ++ sbas_line has_sbas ss station
+    ++ all_unread taken ss
+
+-- those that a conversion does not take
+abbrev pub not_taken : List CaptureSurvey → SetupView → List ℕ
+not_taken ss s = not_taken_by (taken_by s) (takes_1004 s) (lists_system s.head.listed Sbas) ss s.station
 
 unfoldable pub lines_behind_late : List (Bor (List ℕ)) → List CaptureSurvey → Plan → List ℕ
 lines_behind_late names ss plan =
     skipped_lines names plan.captures.items plan.skipped.items
     ++ epochs_lines names plan.captures.items (places_of plan.links.items)
-    ++ not_taken ss plan.setup.station plan.setup.kinds.gps (taken_by plan.setup)
+    ++ not_taken ss plan.setup
 
 -- ---- the links with a stray epoch
 

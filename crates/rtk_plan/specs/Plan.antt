@@ -124,4 +124,5 @@ pub record IsSetupFor (ss : List CaptureSurvey) (links : List (List ℕ)) (w : W
   pub window : s.window ≡ w.window
   pub glonass : IsGlonassFound ss s.station (kinds_found w.msm ss links s.station) s.head.listed w.channels s.leap_seconds s.near s.head.glonass
   pub leap_seconds : AreLeapSecondsOf ss w s.station s.near s.leap_seconds
+  pub no_1012 : s.takes_1012 ≡ false
   pub near_by : IsNearOf w.near (captures_of ss s.station) s.near

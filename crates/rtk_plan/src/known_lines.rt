@@ -3,7 +3,6 @@
 //! If memory is refused, a first part of what is put may stand there.
 
 ghost use Rattle.std.specs.Prelude.{◌≡◌, ◌++◌, IfOk, OnOk};
-ghost use Rattle.rtk_setup.specs.Setup.{taken_by};
 ghost use Rattle.rtk_plan.specs.KnownLines as spec;
 ghost use Rattle.rtk_plan.specs.Linking.{places_of};
 
@@ -11,7 +10,7 @@ use crate::capture_lines::{put_epochs, put_other_dates, put_skipped, put_strays,
 use crate::captures::Captures;
 use crate::clock_lines::put_told_clocks;
 use crate::leap_lines::put_other_leap_in;
-use crate::message_lines::{put_doppler, put_msms, put_sbas, put_unread};
+use crate::message_lines::{put_doppler, put_msms, put_obs_1004, put_sbas, put_unread};
 use crate::phase_lines::put_few_phases_in;
 use crate::planning::Plan;
 use crate::positions::put_no_position;
@@ -21,7 +20,7 @@ use crate::texts_left_out::put_texts_left_out;
 use crate::told_channels::put_channels_in;
 use crate::unchecked_systems::put_unchecked;
 use crate::written_file::{Step, WrittenFile};
-use rtk_message::{Accepted, MsmKind, put_named};
+use rtk_message::{Accepted, put_named};
 use rtk_setup::{Counts, Setup};
 use rtk_survey::{CaptureSurvey, Equipment};
 use std::alloc::{AllocError, Global};
@@ -160,19 +159,21 @@ fn put_first_lines(
 }
 
 // Appends the observations that are not taken.
-#[tactic(auto, unfolding(crate::specs::KnownLines::not_taken))]
+#[tactic(auto, unfolding(crate::specs::KnownLines::not_taken_by))]
 fn put_not_taken(
     lines: &mut Vec<u8>,
     surveys: &[CaptureSurvey],
     station: u16,
-    msm: MsmKind,
     taken: Accepted,
+    has_1004: bool,
+    has_sbas: bool,
 ) -> Result<(), AllocError>
-    ensures { OnOk result (lines.new.items ≡ lines.old.items ++ spec.not_taken surveys.now station msm taken) }
+    ensures { OnOk result (lines.new.items ≡ lines.old.items ++ spec.not_taken_by taken has_1004 has_sbas surveys.now station) }
 {
+    put_obs_1004(lines, surveys, station, has_1004)?;
     put_msms(lines, surveys, station, taken)?;
-    put_doppler(lines, surveys, station, msm)?;
-    put_sbas(lines, surveys, station)?;
+    put_doppler(lines, surveys, station, taken)?;
+    put_sbas(lines, surveys, station, has_sbas)?;
     put_unread(lines, surveys, taken)?;
     Ok(())
 }
@@ -183,11 +184,12 @@ fn put_not_taken_in(
     surveys: &[CaptureSurvey],
     setup: &Setup,
 ) -> Result<(), AllocError>
-    ensures { OnOk result (lines.new.items ≡ lines.old.items
-        ++ spec.not_taken surveys.now setup.now.station setup.now.kinds.gps (taken_by setup.now)) }
+    ensures { OnOk result (lines.new.items ≡ lines.old.items ++ spec.not_taken surveys.now setup.now) }
 {
     let taken = setup.accepted();
-    put_not_taken(lines, surveys, setup.station(), setup.kinds().gps, taken)?;
+    let has_1004 = setup.takes_1004();
+    let has_sbas = setup.takes_sbas();
+    put_not_taken(lines, surveys, setup.station(), taken, has_1004, has_sbas)?;
     Ok(())
 }
 

@@ -272,7 +272,7 @@ fn setup_of(
     kinds: SystemKinds,
     seconds: Option<LeapSeconds>,
 ) -> Setup
-    ensures { result ≡ record { station = station; near = near; head = head; window = window; kinds = msms.kinds_listed kinds head.listed; leap_seconds = seconds } }
+    ensures { result ≡ record { station = station; near = near; head = head; window = window; kinds = msms.kinds_listed kinds head.listed; leap_seconds = seconds; takes_1012 = false } }
 {
     let setup = with_kinds_listed(Setup::mixed(station, near, head, window), kinds);
     with_seconds(setup, seconds)
