@@ -79,10 +79,13 @@ marks_dating s marks c = has_dating s (system_of c) && get_or marks (number_of c
 abbrev pub is_set : Bool → Bool
 is_set mark = mark
 
+unfoldable pub has_code_dating : DatingSystems → List Bool → Bool
+has_code_dating s marks = list_any (marks_dating s marks) all_any_codes
+
 -- a station has an observation of a system that dates
 abbrev pub has_dated_observation : DatingSystems → StationSurvey → Bool
 has_dated_observation s t =
-    (s.gps && list_any is_set t.signals.codes.marks) || list_any (marks_dating s t.system_signals.codes) all_any_codes
+    (s.gps && list_any is_set t.signals.codes.marks) || has_code_dating s t.system_signals.codes
 
 -- ---- the dates
 

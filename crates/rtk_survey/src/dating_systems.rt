@@ -1,8 +1,7 @@
 //! Which systems date a capture.
 
-ghost use Rattle.std.specs.Prelude.{◌≡◌, ◌&&◌};
+ghost use Rattle.std.specs.Prelude.{◌≡◌};
 ghost use Rattle.std.specs.List.{list_any};
-ghost use Rattle.rtk_obs.specs.AnyCode.{all_any_codes};
 ghost use Rattle.rtk_survey.specs.Targets as spec;
 
 use crate::station::StationSurvey;
@@ -64,8 +63,9 @@ impl DatingSystems {
         self.has(code.system()) && marks[code.number()]
     }
 
+    #[tactic(auto, unfolding(crate::specs::Targets::has_code_dating))]
     fn have_code(&self, marks: &[bool; ANY_CODES]) -> bool
-        ensures { result ≡ list_any (spec.marks_dating self.now marks.now) all_any_codes }
+        ensures { result ≡ spec.has_code_dating self.now marks.now }
     {
         ALL_ANY_CODES.iter().any(|code| self.marks(marks, *code))
     }
