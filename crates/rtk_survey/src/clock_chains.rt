@@ -210,8 +210,8 @@ fn count_offset(list: &mut ArrayVec<ClockOffset, MOST_OFFSETS>, ahead: u32)
 }
 
 impl ClockOffsets {
-    // No chain ended.
-    fn new() -> ClockOffsets
+    /// No chain ended.
+    pub(crate) fn new() -> ClockOffsets
         ensures { result ≡ spec.no_offsets }
     {
         ClockOffsets {

@@ -80,10 +80,12 @@ mod system_message;
 mod system_msm;
 mod system_signals;
 mod system_tellings;
+mod systems_sent;
 mod target;
 mod telling;
 mod tellings;
 mod times_of_week;
+mod unchecked_clocks;
 mod unread;
 
 pub use beside_gps::{is_beside_gps, told_time};
@@ -123,6 +125,7 @@ pub use system_message::{LeapSeconds, SlotChannel, SystemMessage, SystemWeek, sy
 pub use system_msm::{SystemMsm, epochs_numbered, messages_numbered};
 pub use system_signals::SystemSignals;
 pub use system_tellings::{LeapRange, SystemTellings};
+pub use systems_sent::SystemsSent;
 pub use target::{EquipmentTimes, Target, TargetDates, TargetSurvey};
 pub use telling::{dated, is_date, moment_of, told};
 pub use tellings::{Tellings, Told};
