@@ -1,5 +1,6 @@
 pub mod AlikeLemmas
 pub mod BitLemmas
+pub mod ChainLemmas
 pub mod ChannelLemmas
 pub mod ChannelLineLemmas
 pub mod CountingLemmas
@@ -30,3 +31,4 @@ pub mod SystemLemmas
 pub mod SystemTellingLemmas
 pub mod TallyLemmas
 pub mod TargetLemmas
+pub mod VariantLemmas
