@@ -3,6 +3,7 @@
 ghost use Rattle.std.specs.Prelude.{◌≡◌, ◌≤◌, IfOk};
 ghost use Rattle.rtk_rinex.specs.MixedHead.{has_glonass};
 ghost use Rattle.rtk_plan.specs.FoundSeconds.{asks_glonass, AreSecondsOfSetup};
+ghost use Rattle.rtk_plan.specs.Plan.{captures_of, IsSpanOf, AreLeapSecondsOf};
 ghost use Rattle.rtk_plan.specs.SlotChannels.{AreSecondsChosen};
 
 use crate::found_seconds::seconds_in_captures;
@@ -62,9 +63,8 @@ fn asks_glonass(wanted: &Wanted) -> bool
     }
 }
 
-/// The leap seconds of the setup of a station, near this moment: those that are given, else those that its captures with
-/// these epochs tell.
-pub(crate) fn seconds_of_setup(
+// The leap seconds that are given, else those that captures with these epochs tell.
+fn seconds_said_or_found(
     alloc: Global,
     surveys: &[CaptureSurvey],
     station: u16,
@@ -79,5 +79,21 @@ pub(crate) fn seconds_of_setup(
     }
     let asked = asks_glonass(wanted);
     let seconds = seconds_in_captures(alloc, asked, surveys, station, near, span)?;
+    Ok(seconds)
+}
+
+/// The leap seconds of the setup of a station, whose captures have these epochs and are dated near this moment.
+pub(crate) fn seconds_of_setup(
+    alloc: Global,
+    surveys: &[CaptureSurvey],
+    station: u16,
+    wanted: &Wanted,
+    near: GpsMs,
+    span: &DatedSpan,
+) -> Result<Option<LeapSeconds>, AllocError>
+    requires { IsSpanOf wanted.now.near (captures_of surveys.now station) station span.now }
+    ensures { IfOk result (AreLeapSecondsOf surveys.now wanted.now station near) }
+{
+    let seconds = seconds_said_or_found(alloc, surveys, station, wanted, near, span)?;
     Ok(seconds)
 }

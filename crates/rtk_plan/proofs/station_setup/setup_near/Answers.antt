@@ -16,4 +16,4 @@ returns-in_err-codes-clause-refused c =
     let seconds = c.in_ok-seconds.seconds in
     exit-also (λ (r : Refusal). (r ≡ NoCode) × (w.codes ≡ None) × FindsNoCode ss kinds w c.args.station seconds c.args.near) (IsSetupCause ss links w c.args.station c.args.near)
     c.in_err-codes.field-0.0 c.from_residual.result c.from_residual.ensures.1
-    (no-code-found ss links w c.args.station seconds c.args.near kinds c.kinds_to_convert-kinds.ensures (c.args.span.now, c.requires.span, c.in_ok-seconds.ensures)) c.in_err-codes.ensures.refused
+    (no-code-found ss links w c.args.station seconds c.args.near kinds c.kinds_to_convert-kinds.ensures c.in_ok-seconds.ensures) c.in_err-codes.ensures.refused
