@@ -23,6 +23,17 @@ const KINDS: [MsmKind; 4] = [
     MsmKind::Msm7,
 ];
 
+/// The systems that time chains before others do.
+const BEFORE_GALILEO: [System; 1] = [System::Gps];
+const BEFORE_QZSS: [System; 2] = [System::Gps, System::Galileo];
+const BEFORE_SBAS: [System; 3] = [System::Gps, System::Galileo, System::Qzss];
+const BEFORE_NAVIC: [System; 4] = [
+    System::Gps,
+    System::Galileo,
+    System::Qzss,
+    System::Sbas,
+];
+
 // ---- the systems that a station sends
 
 fn has_msm(system: System, station: &StationSurvey, kind: MsmKind) -> bool
@@ -82,24 +93,6 @@ fn times_chains(system: System) -> bool
     }
 }
 
-// The systems that time chains before this one does.
-fn timing_before(system: System) -> &'static [System]
-    ensures { result.now ≡ spec.timing_before system }
-{
-    match system {
-        System::Gps | System::Glonass | System::Beidou => &[],
-        System::Galileo => &[System::Gps],
-        System::Qzss => &[System::Gps, System::Galileo],
-        System::Sbas => &[System::Gps, System::Galileo, System::Qzss],
-        System::Navic => &[
-            System::Gps,
-            System::Galileo,
-            System::Qzss,
-            System::Sbas,
-        ],
-    }
-}
-
 // Is one of these systems sent?
 fn is_one_sent(surveys: &[CaptureSurvey], station: u16, systems: &[System]) -> bool
     ensures { result ≡ list_any (spec.is_system_sent surveys.now station) systems.now }
@@ -109,11 +102,24 @@ fn is_one_sent(surveys: &[CaptureSurvey], station: u16, systems: &[System]) -> b
         .any(|system| is_system_sent(surveys, station, *system))
 }
 
+// Is a system sent that times chains before this one does?
+fn is_one_sent_before(surveys: &[CaptureSurvey], station: u16, system: System) -> bool
+    ensures { result ≡ list_any (spec.is_system_sent surveys.now station) (spec.timing_before system) }
+{
+    match system {
+        System::Gps | System::Glonass | System::Beidou => false,
+        System::Galileo => is_one_sent(surveys, station, &BEFORE_GALILEO),
+        System::Qzss => is_one_sent(surveys, station, &BEFORE_QZSS),
+        System::Sbas => is_one_sent(surveys, station, &BEFORE_SBAS),
+        System::Navic => is_one_sent(surveys, station, &BEFORE_NAVIC),
+    }
+}
+
 // Is this the first system of a station that times chains?
 fn is_first_timing(surveys: &[CaptureSurvey], station: u16, system: System) -> bool
     ensures { result ≡ spec.is_first_timing surveys.now station system }
 {
-    times_chains(system) && !is_one_sent(surveys, station, timing_before(system))
+    times_chains(system) && !is_one_sent_before(surveys, station, system)
 }
 
 // ---- the lines
