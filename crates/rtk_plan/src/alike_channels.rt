@@ -1,6 +1,8 @@
 //! Channels that more than two slots of GLONASS have.
 
 ghost use Rattle.std.specs.Prelude.{◌≡◌};
+ghost use Rattle.std.specs.List.{sum_by};
+ghost use Rattle.rtk_survey.specs.Counting.{shown_count};
 ghost use Rattle.rtk_plan.specs.AlikeChannels as spec;
 
 use rtk_obs::{Channel, Channels};
@@ -36,15 +38,22 @@ fn count_if_same(channels: &Channels, channel: Option<Channel>, slot: u8) -> u64
     u64::from(is_same_channel(channel_in_slot(channels, slot), channel))
 }
 
+// How many of these slots have a channel.
+fn slots_among(channels: &Channels, channel: Option<Channel>, slots: &[u8]) -> u64
+    ensures { result ≡ shown_count (sum_by (spec.count_if_same channels.now channel) slots.now) }
+{
+    let mut count = 0u64;
+    for slot in slots {
+        count = count.saturating_add(count_if_same(channels, channel, *slot));
+    }
+    count
+}
+
 // How many slots of the constellation have a channel.
 fn slots_with_channel(channels: &Channels, channel: Option<Channel>) -> u64
     ensures { result ≡ spec.slots_with_channel channels.now channel }
 {
-    let mut count = 0u64;
-    for slot in &CONSTELLATION {
-        count = count.saturating_add(count_if_same(channels, channel, *slot));
-    }
-    count
+    slots_among(channels, channel, &CONSTELLATION)
 }
 
 /// Have more slots a channel than may share it?

@@ -4,6 +4,8 @@
 //! If memory is refused, a first part of what is put may stand there.
 
 ghost use Rattle.std.specs.Prelude.{◌≡◌, ◌++◌, flat_map, OnOk};
+ghost use Rattle.std.specs.List.{sum_by};
+ghost use Rattle.rtk_survey.specs.Counting.{shown_count};
 ghost use Rattle.rtk_plan.specs.ToldChannels as spec;
 
 use crate::alike_channels::{CONSTELLATION, channel_in_slot, have_too_many, is_same_channel};
@@ -105,15 +107,22 @@ fn count_if_told(surveys: &[CaptureSurvey], station: u16, slot: u8, field: u8) -
     u64::from(0 < own_count(surveys, station, slot, field))
 }
 
+// How many of these fields messages of the station tell of a slot.
+fn told_among(surveys: &[CaptureSurvey], station: u16, slot: u8, fields: &[u8]) -> u64
+    ensures { result ≡ shown_count (sum_by (spec.count_if_told surveys.now station slot) fields.now) }
+{
+    let mut count = 0u64;
+    for field in fields {
+        count = count.saturating_add(count_if_told(surveys, station, slot, *field));
+    }
+    count
+}
+
 // How many channels messages of the station tell of a slot.
 fn channels_told_of(surveys: &[CaptureSurvey], station: u16, slot: u8) -> u64
     ensures { result ≡ spec.channels_told_of surveys.now station slot }
 {
-    let mut count = 0u64;
-    for field in &FIELDS {
-        count = count.saturating_add(count_if_told(surveys, station, slot, *field));
-    }
-    count
+    told_among(surveys, station, slot, &FIELDS)
 }
 
 fn put_told_channel(
