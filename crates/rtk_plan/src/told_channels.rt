@@ -8,12 +8,12 @@ ghost use Rattle.std.specs.List.{sum_by};
 ghost use Rattle.rtk_survey.specs.Counting.{shown_count};
 ghost use Rattle.rtk_plan.specs.ToldChannels as spec;
 
-use crate::alike_channels::{CONSTELLATION, channel_in_slot, have_too_many, is_same_channel};
+use crate::alike_channels::{CONSTELLATION, have_too_many, is_same_channel, number_in_slot};
 use crate::channel_words::{SLOTS, put_channel, put_no_channel_line};
 use crate::planning::Plan;
 use crate::slot_channels::{channel_of_field, is_slot_given, own_count};
 use rtk_message::MsmKind;
-use rtk_obs::{Channel, Channels, two_digits};
+use rtk_obs::{Channels, two_digits};
 use rtk_rinex::Glonass;
 use rtk_survey::CaptureSurvey;
 use std::alloc::AllocError;
@@ -33,12 +33,12 @@ fn put_slot_name(lines: &mut Vec<u8>, slot: u8) -> Result<(), AllocError>
 fn put_alike_name(
     lines: &mut Vec<u8>,
     own: &Channels,
-    channel: Option<Channel>,
+    channel: Option<i8>,
     slot: u8,
 ) -> Result<(), AllocError>
     ensures { OnOk result (lines.new.items ≡ lines.old.items ++ spec.alike_name own.now channel slot) }
 {
-    if is_same_channel(channel_in_slot(own, slot), channel) {
+    if is_same_channel(number_in_slot(own, slot), channel) {
         put_slot_name(lines, slot)
     } else {
         Ok(())
@@ -48,7 +48,7 @@ fn put_alike_name(
 fn put_alike_names(
     lines: &mut Vec<u8>,
     own: &Channels,
-    channel: Option<Channel>,
+    channel: Option<i8>,
     slots: &[u8],
 ) -> Result<(), AllocError>
     ensures { OnOk result (lines.new.items ≡ lines.old.items ++ flat_map (spec.alike_name own.now channel) slots.now) }
@@ -60,7 +60,7 @@ fn put_alike_names(
 }
 
 #[tactic(auto, unfolding(crate::specs::ToldChannels::alike_words))]
-fn put_alike_words(lines: &mut Vec<u8>, own: &Channels, channel: Channel) -> Result<(), AllocError>
+fn put_alike_words(lines: &mut Vec<u8>, own: &Channels, channel: i8) -> Result<(), AllocError>
     ensures { OnOk result (lines.new.items ≡ lines.old.items ++ spec.alike_words own.now channel) }
 {
     lines.extend_from_slice(b" channels-alike ")?;
@@ -70,7 +70,7 @@ fn put_alike_words(lines: &mut Vec<u8>, own: &Channels, channel: Channel) -> Res
     Ok(())
 }
 
-fn put_alike_line(lines: &mut Vec<u8>, own: &Channels, channel: Channel) -> Result<(), AllocError>
+fn put_alike_line(lines: &mut Vec<u8>, own: &Channels, channel: i8) -> Result<(), AllocError>
     ensures { OnOk result (lines.new.items ≡ lines.old.items ++ spec.alike_line own.now channel) }
 {
     if have_too_many(own, Some(channel)) {
@@ -84,7 +84,7 @@ fn put_alike_line_of(lines: &mut Vec<u8>, own: &Channels, field: u8) -> Result<(
     ensures { OnOk result (lines.new.items ≡ lines.old.items ++ spec.alike_line_of own.now field) }
 {
     if field < 14 {
-        put_alike_line(lines, own, channel_of_field(field))
+        put_alike_line(lines, own, channel_of_field(field).number())
     } else {
         Ok(())
     }
@@ -138,7 +138,7 @@ fn put_told_channel(
         return Ok(());
     }
     lines.push(b' ')?;
-    put_channel(lines, channel_of_field(field))?;
+    put_channel(lines, channel_of_field(field).number())?;
     Ok(())
 }
 
