@@ -9,9 +9,13 @@ use Rattle.rtk_plan.specs.FoundSeconds.{is_alone, leap_in_capture}
 use Rattle.rtk_plan.specs.Lists.{name_line}
 
 -- formula
+abbrev pub to_text : ℕ → List ℕ
+to_text greatest = codes " to " ++ decimal greatest
+
+-- formula
 -- the greatest of leap seconds, behind the least, if it is another one
 abbrev pub greatest_text : LeapRange → List ℕ
-greatest_text r = if r.least == r.greatest then [] else codes " to " ++ decimal r.greatest
+greatest_text r = if r.least == r.greatest then [] else to_text r.greatest
 
 -- formula
 -- what the 1013 of a capture tell
