@@ -27,13 +27,14 @@ const TO_GIVE: &[u8] =
 // ---- the option
 
 /// Appends a channel.
-pub(crate) fn put_channel(line: &mut Vec<u8>, channel: i8) -> Result<(), AllocError>
+pub(crate) fn put_channel(line: &mut Vec<u8>, channel: Channel) -> Result<(), AllocError>
     ensures { OnOk result (line.new.items ≡ line.old.items ++ spec.said_channel channel) }
 {
-    if channel < 0 {
+    let number = channel.number();
+    if number < 0 {
         line.push(b'-')?;
     }
-    put_number(line, u64::from(channel.unsigned_abs()))
+    put_number(line, u64::from(number.unsigned_abs()))
 }
 
 // Appends a slot and its channel, if it has one, behind a separator.
@@ -51,7 +52,7 @@ fn put_slot(
     line.push(separator)?;
     put_number(line, u64::from(slot))?;
     line.push(b':')?;
-    put_channel(line, channel.number())?;
+    put_channel(line, channel)?;
     Ok(())
 }
 

@@ -13,7 +13,7 @@ use crate::channel_words::{SLOTS, put_channel, put_no_channel_line};
 use crate::planning::Plan;
 use crate::slot_channels::{channel_of_field, is_slot_given, own_count};
 use rtk_message::MsmKind;
-use rtk_obs::{Channels, two_digits};
+use rtk_obs::{Channel, Channels, two_digits};
 use rtk_rinex::Glonass;
 use rtk_survey::CaptureSurvey;
 use std::alloc::AllocError;
@@ -60,20 +60,21 @@ fn put_alike_names(
 }
 
 #[tactic(auto, unfolding(crate::specs::ToldChannels::alike_words))]
-fn put_alike_words(lines: &mut Vec<u8>, own: &Channels, channel: i8) -> Result<(), AllocError>
+fn put_alike_words(lines: &mut Vec<u8>, own: &Channels, channel: Channel) -> Result<(), AllocError>
     ensures { OnOk result (lines.new.items ≡ lines.old.items ++ spec.alike_words own.now channel) }
 {
+    let number = Some(channel.number());
     lines.extend_from_slice(b" channels-alike ")?;
     put_channel(lines, channel)?;
-    put_alike_names(lines, own, Some(channel), &CONSTELLATION)?;
+    put_alike_names(lines, own, number, &CONSTELLATION)?;
     lines.extend_from_slice(b"\n")?;
     Ok(())
 }
 
-fn put_alike_line(lines: &mut Vec<u8>, own: &Channels, channel: i8) -> Result<(), AllocError>
+fn put_alike_line(lines: &mut Vec<u8>, own: &Channels, channel: Channel) -> Result<(), AllocError>
     ensures { OnOk result (lines.new.items ≡ lines.old.items ++ spec.alike_line own.now channel) }
 {
-    if have_too_many(own, Some(channel)) {
+    if have_too_many(own, Some(channel.number())) {
         put_alike_words(lines, own, channel)
     } else {
         Ok(())
@@ -84,7 +85,7 @@ fn put_alike_line_of(lines: &mut Vec<u8>, own: &Channels, field: u8) -> Result<(
     ensures { OnOk result (lines.new.items ≡ lines.old.items ++ spec.alike_line_of own.now field) }
 {
     if field < 14 {
-        put_alike_line(lines, own, channel_of_field(field).number())
+        put_alike_line(lines, own, channel_of_field(field))
     } else {
         Ok(())
     }
@@ -139,7 +140,7 @@ fn put_told_channel(
         return Ok(());
     }
     lines.push(b' ')?;
-    put_channel(lines, channel_of_field(field).number())?;
+    put_channel(lines, channel_of_field(field))?;
     Ok(())
 }
 
