@@ -3,6 +3,7 @@
 //! If memory is refused, a first part of what is put may stand there.
 
 ghost use Rattle.std.specs.Prelude.{◌≡◌, ◌++◌, flat_map, OnOk};
+ghost use Rattle.rtk_plan.specs.AlikeChannels.{channel_in_slot};
 ghost use Rattle.rtk_plan.specs.ChannelWords as spec;
 
 use crate::alike_channels::channel_in_slot;
@@ -62,14 +63,14 @@ fn put_slot_of(
     separator: u8,
     slot: u8,
 ) -> Result<(), AllocError>
-    ensures { OnOk result (line.new.items ≡ line.old.items ++ spec.said_slot separator slot (spec.channel_in_slot channels.now slot)) }
+    ensures { OnOk result (line.new.items ≡ line.old.items ++ spec.said_slot separator slot (channel_in_slot channels.now slot)) }
 {
     put_slot(line, separator, slot, channel_in_slot(channels, slot))?;
     Ok(())
 }
 
 fn separator_after(channels: &Channels, separator: u8, slot: u8) -> u8
-    ensures { result ≡ spec.separator_after separator (spec.channel_in_slot channels.now slot) }
+    ensures { result ≡ spec.separator_after separator (channel_in_slot channels.now slot) }
 {
     match channel_in_slot(channels, slot) {
         Some(_) => b',',

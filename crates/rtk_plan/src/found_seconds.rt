@@ -99,7 +99,7 @@ fn is_ahead_in_capture(
 
 /// Are no other leap seconds told than these?
 pub(crate) fn is_alone(seconds: u64, range: &LeapRange) -> bool
-    ensures { result ≡ spec.is_alone seconds range.now }
+    ensures { result ≡ spec.is_range_alone seconds range.now }
 {
     u64::from(range.least) == seconds && u64::from(range.greatest) == seconds
 }
@@ -115,7 +115,7 @@ fn is_told_alone(seconds: u64, told: Option<&LeapRange>) -> bool
 
 /// The leap seconds that the 1013 of a station in a capture tell.
 pub(crate) fn leap_in_capture(station: u16, survey: &CaptureSurvey) -> Option<&LeapRange>
-    ensures { option_copied result.entry ≡ spec.leap_in_capture station survey.now }
+    ensures { option_copied result ≡ spec.leap_in_capture station survey.now }
 {
     survey.contents.system_tellings.leap_seconds.get(&station)
 }

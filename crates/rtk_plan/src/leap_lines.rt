@@ -15,13 +15,21 @@ use rtk_setup::Setup;
 use rtk_survey::{CaptureSurvey, LeapRange};
 use std::alloc::AllocError;
 
+fn put_to(lines: &mut Vec<u8>, greatest: u8) -> Result<(), AllocError>
+    ensures { OnOk result (lines.new.items ≡ lines.old.items ++ spec.to_text greatest) }
+{
+    put_named(lines, b" to ", u64::from(greatest))?;
+    Ok(())
+}
+
 fn put_greatest(lines: &mut Vec<u8>, range: &LeapRange) -> Result<(), AllocError>
     ensures { OnOk result (lines.new.items ≡ lines.old.items ++ spec.greatest_text range.now) }
 {
     if range.least == range.greatest {
-        return Ok(());
+        Ok(())
+    } else {
+        put_to(lines, range.greatest)
     }
-    put_named(lines, b" to ", u64::from(range.greatest))
 }
 
 #[tactic(auto, unfolding(crate::specs::LeapLines::leap_words_of))]

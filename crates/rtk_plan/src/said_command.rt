@@ -120,11 +120,18 @@ fn put_value_words(line: &mut Vec<u8>, setup: &Setup) -> Result<(), AllocError>
     Ok(())
 }
 
+fn put_leap_option(line: &mut Vec<u8>, seconds: u8) -> Result<(), AllocError>
+    ensures { OnOk result (line.new.items ≡ line.old.items ++ spec.leap_option seconds) }
+{
+    put_named(line, b" --leap-seconds ", u64::from(seconds))?;
+    Ok(())
+}
+
 fn put_leap_words(line: &mut Vec<u8>, leap_seconds: Option<u8>) -> Result<(), AllocError>
     ensures { OnOk result (line.new.items ≡ line.old.items ++ spec.leap_words leap_seconds) }
 {
     match leap_seconds {
-        Some(seconds) => put_named(line, b" --leap-seconds ", u64::from(seconds)),
+        Some(seconds) => put_leap_option(line, seconds),
         None => Ok(()),
     }
 }

@@ -15,8 +15,8 @@ use rtk_survey::CaptureSurvey;
 use std::alloc::{AllocError, Global};
 
 /// The leap seconds that are given, else those of the table at a moment.
-pub(crate) fn seconds_chosen(given: Option<LeapSeconds>, near: GpsMs) -> u8
-    ensures said { AreSecondsChosen given near result }
+pub(crate) fn seconds_chosen(given: &Option<LeapSeconds>, near: GpsMs) -> u8
+    ensures said { AreSecondsChosen given.now near result }
     ensures bound { result ≤ 99 }
 {
     match given {

@@ -1,6 +1,6 @@
 //! What the conversion of a station is told: the MSM and the codes of each system, and the head of the file.
 
-ghost use Rattle.std.specs.Prelude.{◌≡◌, ◌<◌, ◌≤◌, None, [], IfOk, IfErr};
+ghost use Rattle.std.specs.Prelude.{◌≡◌, ◌<◌, ◌≤◌, None, [], false, IfOk, IfErr};
 ghost use Rattle.std.specs.Option.{ForSome};
 ghost use Rattle.rtk_obs.specs.CivilText.{last_digits};
 ghost use Rattle.rtk_rinex.specs.MixedHead.{IsGlonassView, IsMixedList, TellsGlonass, has_glonass};
@@ -37,10 +37,10 @@ fn systems_taken(
     surveys: &[CaptureSurvey],
     station: u16,
     wanted: SystemFlags,
-    seconds: Option<LeapSeconds>,
+    seconds: &Option<LeapSeconds>,
     near: GpsMs,
 ) -> Result<SystemFlags, AllocError>
-    ensures { IfOk result (AreSystemsTaken surveys.now station wanted seconds near) }
+    ensures { IfOk result (AreSystemsTaken surveys.now station wanted seconds.now near) }
 {
     let leap_seconds = seconds_chosen(seconds, near);
     let right = systems_with_clocks(alloc, surveys, station, leap_seconds)?;
@@ -91,13 +91,13 @@ fn codes_to_convert(
     station: u16,
     kinds: SystemKinds,
     wanted: &Wanted,
-    seconds: Option<LeapSeconds>,
+    seconds: &Option<LeapSeconds>,
     near: GpsMs,
 ) -> Result<Vec<AnyCode>, PlanFault>
-    ensures codes { IfOk result (λ codes. AreCodesChosen wanted.now surveys.now station seconds near kinds codes.items) }
+    ensures codes { IfOk result (λ codes. AreCodesChosen wanted.now surveys.now station seconds.now near kinds codes.items) }
     ensures good { IfOk result (λ codes. IsMixedList codes.items) }
     ensures refused { IfErr result (IfRefused (λ refusal. (refusal ≡ Refusal.NoCode) × (wanted.now.codes ≡ None)
-        × FindsNoCode surveys.now kinds wanted.now station seconds near)) }
+        × FindsNoCode surveys.now kinds wanted.now station seconds.now near)) }
 {
     let systems = systems_taken(alloc, surveys, station, wanted.systems, seconds, near)?;
     let codes = codes_of_systems(alloc, surveys, station, systems, kinds, &wanted.codes)?;
@@ -136,15 +136,15 @@ fn marker_of(station: u16, marker: &Option<Marker>) -> Marker
 
 // The channels that are given, else those that messages tell.
 fn channels_chosen(
-    given: Option<Channels>,
+    given: &Option<Channels>,
     surveys: &[CaptureSurvey],
     station: u16,
     kind: MsmKind,
 ) -> Channels
-    ensures { AreChannelsChosen given surveys.now station kind result }
+    ensures { AreChannelsChosen given.now surveys.now station kind result }
 {
     match given {
-        Some(given) => given,
+        Some(given) => *given,
         None => channels_found(surveys, station, kind),
     }
 }
@@ -161,11 +161,11 @@ fn glonass_of(
     surveys: &[CaptureSurvey],
     station: u16,
     kind: MsmKind,
-    channels: Option<Channels>,
-    seconds: Option<LeapSeconds>,
+    channels: &Option<Channels>,
+    seconds: &Option<LeapSeconds>,
     near: GpsMs,
 ) -> Glonass
-    ensures found { IsGlonassOf surveys.now station kind channels seconds near result }
+    ensures found { IsGlonassOf surveys.now station kind channels.now seconds.now near result }
     ensures good { IsGlonassView result }
 {
     let channels = channels_chosen(channels, surveys, station, kind);
@@ -182,11 +182,11 @@ fn glonass_found(
     station: u16,
     kinds: SystemKinds,
     listed: &[AnyCode],
-    channels: Option<Channels>,
-    seconds: Option<LeapSeconds>,
+    channels: &Option<Channels>,
+    seconds: &Option<LeapSeconds>,
     near: GpsMs,
 ) -> Option<Glonass>
-    ensures found { IsGlonassFound surveys.now station kinds listed.now channels seconds near result }
+    ensures found { IsGlonassFound surveys.now station kinds listed.now channels.now seconds.now near result }
     ensures due { TellsGlonass listed.now result }
 {
     if has_glonass(listed) {
@@ -253,12 +253,12 @@ fn with_kinds_listed(setup: Setup, kinds: SystemKinds) -> Setup
 }
 
 // The setup with these leap seconds, if any are given.
-fn with_seconds(setup: Setup, given: Option<LeapSeconds>) -> Setup
+fn with_seconds(setup: Setup, given: &Option<LeapSeconds>) -> Setup
     requires { setup.leap_seconds ≡ None }
-    ensures { result ≡ record setup { leap_seconds = given } }
+    ensures { result ≡ record setup { leap_seconds = given.now } }
 {
     match given {
-        Some(given) => setup.with_leap_seconds(given),
+        Some(given) => setup.with_leap_seconds(*given),
         None => setup,
     }
 }
@@ -270,9 +270,9 @@ fn setup_of(
     head: MixedHead,
     window: Window,
     kinds: SystemKinds,
-    seconds: Option<LeapSeconds>,
+    seconds: &Option<LeapSeconds>,
 ) -> Setup
-    ensures { result ≡ record { station = station; near = near; head = head; window = window; kinds = msms.kinds_listed kinds head.listed; leap_seconds = seconds; takes_1012 = false } }
+    ensures { result ≡ record { station = station; near = near; head = head; window = window; kinds = msms.kinds_listed kinds head.listed; leap_seconds = seconds.now; takes_1012 = false } }
 {
     let setup = with_kinds_listed(Setup::mixed(station, near, head, window), kinds);
     with_seconds(setup, seconds)
@@ -301,9 +301,9 @@ pub(crate) fn setup_near(
 {
     let kinds = kinds_to_convert(surveys, links, wanted.msm, station);
     let seconds = seconds_of_setup(alloc, surveys, station, wanted, near, span)?;
-    let codes = codes_to_convert(alloc, surveys, station, kinds, wanted, seconds, near)?;
+    let codes = codes_to_convert(alloc, surveys, station, kinds, wanted, &seconds, near)?;
     let listed = codes.as_slice();
-    let glonass = glonass_found(surveys, station, kinds, listed, wanted.channels, seconds, near);
+    let glonass = glonass_found(surveys, station, kinds, listed, &wanted.channels, &seconds, near);
     let head = head_of(marker_of(station, &wanted.marker), listed, glonass, made);
     let Ok(station) = Station::new(station) else {
         unreachable!();
@@ -311,5 +311,5 @@ pub(crate) fn setup_near(
     let Ok(near) = Reference::new(near) else {
         return refused(Refusal::OutsideDates, Vec::new(alloc));
     };
-    Ok(setup_of(station, near, head, wanted.window, kinds, seconds))
+    Ok(setup_of(station, near, head, wanted.window, kinds, &seconds))
 }

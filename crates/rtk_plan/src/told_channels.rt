@@ -4,9 +4,11 @@
 //! If memory is refused, a first part of what is put may stand there.
 
 ghost use Rattle.std.specs.Prelude.{◌≡◌, ◌++◌, flat_map, OnOk};
+ghost use Rattle.std.specs.List.{sum_by};
+ghost use Rattle.rtk_survey.specs.Counting.{shown_count};
 ghost use Rattle.rtk_plan.specs.ToldChannels as spec;
 
-use crate::alike_channels::{CONSTELLATION, channel_in_slot, have_too_many, is_same_channel};
+use crate::alike_channels::{CONSTELLATION, have_too_many, is_same_channel, number_in_slot};
 use crate::channel_words::{SLOTS, put_channel, put_no_channel_line};
 use crate::planning::Plan;
 use crate::slot_channels::{channel_of_field, is_slot_given, own_count};
@@ -20,7 +22,7 @@ use std::alloc::AllocError;
 const FIELDS: [u8; 14] = [0, 1, 2, 3, 4, 5, 6, 7, 8, 9, 10, 11, 12, 13];
 
 fn put_slot_name(lines: &mut Vec<u8>, slot: u8) -> Result<(), AllocError>
-    ensures { OnOk result (lines.new.items ≡ lines.old.items ++ spec.slot_name slot) }
+    ensures { OnOk result (lines.new.items ≡ lines.old.items ++ spec.satellite_of_slot slot) }
 {
     lines.extend_from_slice(b" R")?;
     lines.extend_from_slice(&two_digits(slot))
@@ -31,12 +33,12 @@ fn put_slot_name(lines: &mut Vec<u8>, slot: u8) -> Result<(), AllocError>
 fn put_alike_name(
     lines: &mut Vec<u8>,
     own: &Channels,
-    channel: Option<Channel>,
+    channel: Option<i8>,
     slot: u8,
 ) -> Result<(), AllocError>
     ensures { OnOk result (lines.new.items ≡ lines.old.items ++ spec.alike_name own.now channel slot) }
 {
-    if is_same_channel(channel_in_slot(own, slot), channel) {
+    if is_same_channel(number_in_slot(own, slot), channel) {
         put_slot_name(lines, slot)
     } else {
         Ok(())
@@ -46,7 +48,7 @@ fn put_alike_name(
 fn put_alike_names(
     lines: &mut Vec<u8>,
     own: &Channels,
-    channel: Option<Channel>,
+    channel: Option<i8>,
     slots: &[u8],
 ) -> Result<(), AllocError>
     ensures { OnOk result (lines.new.items ≡ lines.old.items ++ flat_map (spec.alike_name own.now channel) slots.now) }
@@ -61,9 +63,10 @@ fn put_alike_names(
 fn put_alike_words(lines: &mut Vec<u8>, own: &Channels, channel: Channel) -> Result<(), AllocError>
     ensures { OnOk result (lines.new.items ≡ lines.old.items ++ spec.alike_words own.now channel) }
 {
+    let number = Some(channel.number());
     lines.extend_from_slice(b" channels-alike ")?;
     put_channel(lines, channel)?;
-    put_alike_names(lines, own, Some(channel), &CONSTELLATION)?;
+    put_alike_names(lines, own, number, &CONSTELLATION)?;
     lines.extend_from_slice(b"\n")?;
     Ok(())
 }
@@ -71,7 +74,7 @@ fn put_alike_words(lines: &mut Vec<u8>, own: &Channels, channel: Channel) -> Res
 fn put_alike_line(lines: &mut Vec<u8>, own: &Channels, channel: Channel) -> Result<(), AllocError>
     ensures { OnOk result (lines.new.items ≡ lines.old.items ++ spec.alike_line own.now channel) }
 {
-    if have_too_many(own, Some(channel)) {
+    if have_too_many(own, Some(channel.number())) {
         put_alike_words(lines, own, channel)
     } else {
         Ok(())
@@ -99,21 +102,29 @@ fn put_alike_among(lines: &mut Vec<u8>, own: &Channels, fields: &[u8]) -> Result
 
 // ---- several channels of one slot
 
+#[tactic(auto, unfolding(crate::specs::ToldChannels::count_if_told))]
 fn count_if_told(surveys: &[CaptureSurvey], station: u16, slot: u8, field: u8) -> u64
     ensures { result ≡ spec.count_if_told surveys.now station slot field }
 {
     u64::from(0 < own_count(surveys, station, slot, field))
 }
 
+// How many of these fields messages of the station tell of a slot.
+fn told_among(surveys: &[CaptureSurvey], station: u16, slot: u8, fields: &[u8]) -> u64
+    ensures { result ≡ shown_count (sum_by (spec.count_if_told surveys.now station slot) fields.now) }
+{
+    let mut count = 0u64;
+    for field in fields {
+        count = count.saturating_add(count_if_told(surveys, station, slot, *field));
+    }
+    count
+}
+
 // How many channels messages of the station tell of a slot.
 fn channels_told_of(surveys: &[CaptureSurvey], station: u16, slot: u8) -> u64
     ensures { result ≡ spec.channels_told_of surveys.now station slot }
 {
-    let mut count = 0u64;
-    for field in &FIELDS {
-        count = count.saturating_add(count_if_told(surveys, station, slot, *field));
-    }
-    count
+    told_among(surveys, station, slot, &FIELDS)
 }
 
 fn put_told_channel(
@@ -215,7 +226,7 @@ fn put_channels_of(
     own: &Channels,
     glonass: Glonass,
 ) -> Result<(), AllocError>
-    ensures { OnOk result (lines.new.items ≡ lines.old.items ++ spec.channel_lines surveys.now station kind own.now (Some glonass)) }
+    ensures { OnOk result (lines.new.items ≡ lines.old.items ++ spec.told_channel_lines surveys.now station kind own.now (Some glonass)) }
 {
     put_alike_among(lines, own, &FIELDS)?;
     put_several_among(lines, surveys, station, kind, &SLOTS)?;
@@ -231,7 +242,7 @@ fn put_channels_if(
     own: &Channels,
     glonass: Option<Glonass>,
 ) -> Result<(), AllocError>
-    ensures { OnOk result (lines.new.items ≡ lines.old.items ++ spec.channel_lines surveys.now station kind own.now glonass) }
+    ensures { OnOk result (lines.new.items ≡ lines.old.items ++ spec.told_channel_lines surveys.now station kind own.now glonass) }
 {
     match glonass {
         Some(glonass) => put_channels_of(lines, surveys, station, kind, own, glonass),
@@ -246,7 +257,7 @@ pub(crate) fn put_channels_in(
     plan: &Plan,
 ) -> Result<(), AllocError>
     ensures { OnOk result (lines.new.items ≡ lines.old.items
-        ++ spec.channel_lines surveys.now plan.now.setup.station plan.now.setup.kinds.glonass plan.now.own_channels plan.now.setup.head.glonass) }
+        ++ spec.told_channel_lines surveys.now plan.now.setup.station plan.now.setup.kinds.glonass plan.now.own_channels plan.now.setup.head.glonass) }
 {
     let setup = &plan.setup;
     let kind = setup.kinds().glonass;

@@ -1,6 +1,5 @@
 pub mod AlikeLemmas
 pub mod BitLemmas
-pub mod ChainLemmas
 pub mod ChannelLemmas
 pub mod ChannelLineLemmas
 pub mod CountingLemmas

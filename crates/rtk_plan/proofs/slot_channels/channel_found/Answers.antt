@@ -1,5 +1,5 @@
 use Rattle.std.proofs.Common.{◌∙◌, ℤ, Bool, Option, ap}
-use Rattle.rtk_obs.specs.Carriers.{channel_at}
+use Rattle.rtk_plan.specs.AlikeChannels.{is_alike}
 use Rattle.rtk_plan.specs.SlotChannels.{chosen_channel}
 use Rattle.rtk_plan.proofs.slot_channels.channel_found.Goals as goal
 
@@ -8,5 +8,5 @@ returns c = (
   c.channel_told-other.result,
   c.channel_told-other.ensures,
   c.chosen_channel.ensures ∙ ap (λ (b : Bool). chosen_channel b c.channel.result c.channel_told-other.result) c.is_alike.ensures
-  ∙ ap (λ (o : Option ℤ). chosen_channel c.is_alike.result o c.channel_told-other.result) c.channel.ensures,
+  ∙ ap (λ (o : Option ℤ). chosen_channel (is_alike c.args.own.now c.args.slot) o c.channel_told-other.result) c.channel.ensures,
 )
