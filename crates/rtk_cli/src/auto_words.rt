@@ -1,9 +1,11 @@
 //! The words of `auto`: what its options say.
 
-ghost use Rattle.std.specs.Prelude.{IfErr, IsTrue};
+ghost use Rattle.std.specs.Prelude.{◌≡◌, IfOk, IfErr, IsTrue};
 ghost use Rattle.std.specs.Option.{ForSome};
 ghost use Rattle.rtk_rinex.specs.MixedHead.{IsMixedList};
 ghost use Rattle.rtk_cli.specs.Words.{IsWordsFault};
+ghost use Rattle.rtk_cli.specs.Steps.ChartWords.{HasNoSystems};
+ghost use Rattle.rtk_cli.specs.Steps.AutoWords.{flags_named, SaysFlags, SaysCodesOrNone, SaysChannelsOrNone};
 
 use crate::channel_list::channels_said;
 use crate::chart_words::are_systems;
@@ -27,7 +29,8 @@ fn if_given<T: Drop>(read: Option<Result<T, BadWords>>) -> Result<Option<T>, Bad
 
 // The codes, if any are given, in the order of a file. Whether they are good together is not looked at.
 fn codes_if_any(alloc: Global, text: Option<&str>) -> Result<Option<Vec<AnyCode>>, WordsFault>
-    ensures { IfErr result IsWordsFault }
+    ensures said { IfOk result (SaysCodesOrNone text.entry) }
+    ensures refused { IfErr result IsWordsFault }
 {
     let Some(text) = text else {
         return Ok(None);
@@ -47,7 +50,9 @@ fn are_good_codes(codes: &Option<Vec<AnyCode>>) -> bool
 }
 
 // The systems of which a text has the letters.
-fn systems_of(letters: &[u8]) -> SystemFlags {
+fn systems_of(letters: &[u8]) -> SystemFlags
+    ensures { result ≡ flags_named letters.now }
+{
     SystemFlags {
         gps: letters.contains(&b'G'),
         glonass: letters.contains(&b'R'),
@@ -60,7 +65,10 @@ fn systems_of(letters: &[u8]) -> SystemFlags {
 }
 
 // The systems that are converted: all, if none are named.
-fn systems_said(text: Option<&str>) -> Result<SystemFlags, BadWords> {
+fn systems_said(text: Option<&str>) -> Result<SystemFlags, BadWords>
+    ensures said { IfOk result (SaysFlags text.entry) }
+    ensures cause { IfErr result (λ told. (told ≡ BadWords.Systems) × HasNoSystems text.entry) }
+{
     let Some(text) = text else {
         return Ok(SystemFlags::ALL);
     };
@@ -72,7 +80,8 @@ fn systems_said(text: Option<&str>) -> Result<SystemFlags, BadWords> {
 
 // The channels, if any are given.
 fn channels_if_any(alloc: Global, text: Option<&str>) -> Result<Option<Channels>, WordsFault>
-    ensures { IfErr result IsWordsFault }
+    ensures said { IfOk result (SaysChannelsOrNone text.entry) }
+    ensures refused { IfErr result IsWordsFault }
 {
     match text {
         Some(text) => Ok(Some(channels_said(alloc, text)?)),
@@ -94,7 +103,11 @@ pub(crate) fn auto_words<'a>(
     alloc: Global,
     options: &AutoOptions<'a>,
 ) -> Result<AutoWords<'a>, WordsFault>
-    ensures { IfErr result IsWordsFault }
+    ensures codes { IfOk result (λ words. SaysCodesOrNone options.now.codes words.wanted.codes) }
+    ensures systems { IfOk result (λ words. SaysFlags options.now.systems words.wanted.systems) }
+    ensures channels { IfOk result (λ words. SaysChannelsOrNone options.now.channels words.wanted.channels) }
+    ensures leap_seconds { IfOk result (λ words. words.wanted.leap_seconds ≡ options.now.leap_seconds) }
+    ensures refused { IfErr result IsWordsFault }
 {
     let near = moment_if_any(options.near, BadWords::Near)?;
     let made = if_given(options.made.map(made_said))?;
