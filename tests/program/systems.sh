@@ -81,6 +81,9 @@ convert R1C nowhere;                   bad_words no_channels 'R codes need --cha
 convert 1C,E1C,R2P nowhere;            bad_words no_channels_among_other_codes 'R codes need --channels'
 convert 1C,E1C --channels 1:1 nowhere; bad_words channels_without_codes 'bad --channels'
 convert 1C --channels none nowhere;    bad_words no_channels_without_codes 'bad --channels'
+convert 1C,E1C --with-1012 nowhere;    bad_words obs1012_without_codes '--with-1012 needs R codes'
+convert R1C --channels none --with-1012 nowhere
+expect obs1012_with_codes 1 '' 'rtcm2rinex: cannot open nowhere'
 
 # ---- which cause comes first
 
@@ -98,6 +101,9 @@ words $early X R1C,R1C --channels x stdin stdin;  bad_words the_list_before_chan
 words $early X R1C,R1C stdin stdin;               bad_words the_list_before_missing_channels 'bad --codes'
 words $early X R1C --channels x stdin stdin;      bad_words channels_before_links 'bad --channels'
 words $early X R1C stdin stdin;                   bad_words missing_channels_before_links 'R codes need --channels'
+words $early X R1C --with-1012 stdin stdin;       bad_words missing_channels_before_1012 'R codes need --channels'
+words $early X 1C --channels none --with-1012 a;  bad_words channels_before_1012 'bad --channels'
+words $early X 1C --with-1012 stdin stdin;        bad_words obs1012_before_links '--with-1012 needs R codes'
 words $early X R1C --channels none stdin stdin;   bad_words links_before_the_reference 'bad links'
 # pins: IsFirstCause
 words $early X R1C --channels none nowhere;       bad_words the_reference_last 'bad --near'
@@ -282,6 +288,34 @@ of_glonass '  1 R10 -5' '    17' '  2024     5    17    11    59   59.0000000' '
 channels_tell - - >told
 # pins: with_given, IsLeapSecondsOf
 convert R2P --msm 7 --channels 10:-5 --leap-seconds 17 glonass.rtcm; leaves leap_seconds_that_are_given 0 want told
+# 1012 are converted with a word, and dated within half a day of --near.
+python3 "$here/framed.py" 3F400124210600818318EAEE800097221CA7FACFF289C97E >obs1012.rtcm
+# obs1012 NEAR WORD..: of station 1
+obs1012() {
+    near_=$1
+    shift
+    run convert --station 1 --near "$near_" --made $made --marker BASE --codes R1C,R2P --channels 12:-1 "$@" obs1012.rtcm
+}
+{
+    begins R
+    lines <<LINES
+R    6 C1C L1C S1C C2P L2P S2P|SYS / # / OBS TYPES
+DBHZ|SIGNAL STRENGTH UNIT
+  2020     1    25     2    16    0.0000000     GPS|TIME OF FIRST OBS
+R|SYS / PHASE SHIFT
+LINES
+    glonass '  1 R12 -1' '    18'
+    cat <<RECORD
+> 2020 01 25 02 16  0.0000000  0  1
+R12  19916942.748 8 106392733.308 8        50.500    19916941.068 7  82749896.446 7        47.750
+RECORD
+} >want
+channels_tell - - >told
+obs1012 2020-01-25T14:16:00 --with-1012; leaves obs1012_half_a_day_before_near 0 want told
+sed 's/2020     1    25/2020     1    26/; s/2020 01 25/2020 01 26/' want >later
+obs1012 2020-01-25T14:16:01 --with-1012; leaves obs1012_after_near 0 later told
+{ printf 'other-channel -\nno-channel -\nno-message R\n'; report 1 1 0 0 0 0 0 0 0; } >told
+obs1012 2020-01-25T14:16:00; cp out any; leaves obs1012_without_the_word 0 any told
 : >nothing
 { of_glonass '  1 R10 -5' '    18' "$noon" | sed '$d'; } >want
 { printf 'other-channel -\nno-channel -\nno-message R\n'; report 0 0 0 0 0 0 0 0 0; } >told

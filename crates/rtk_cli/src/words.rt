@@ -117,6 +117,8 @@ pub(crate) enum BadWords {
     Channels,
     /// There are codes of GLONASS, and no channels.
     NoChannels,
+    /// The 1012 are to be converted, and there is no code of GLONASS.
+    NoGlonass,
     /// The links are not 1 to 16, or standard input stands twice.
     Links,
     /// A letter is that of no system, or there is none.
@@ -150,6 +152,7 @@ impl BadWords {
             BadWords::Marker => "bad --marker",
             BadWords::Channels => "bad --channels",
             BadWords::NoChannels => "R codes need --channels",
+            BadWords::NoGlonass => "--with-1012 needs R codes",
             BadWords::Links => "bad links",
             BadWords::Systems => "bad --systems",
             BadWords::Satellites => "bad --satellites",

@@ -59,6 +59,10 @@ Which channels:
   slot. A slot is 1 to 27, and a channel -7 to 6. A slot that is not listed has no
   phases, and with --channels none no slot has any.
 
+Which messages of GLONASS:
+  --with-1012 converts 1012 too, which old stations send beside 1004. A 1012 tells
+  no day, so all messages must lie within half a day of --near.
+
 Example:
   rtcm2rinex convert --station 2003 --near 2024-05-17T12:00:00 \\
       --made 2024-05-17T13:00:00 --marker BASE --codes 1C,2W \\
