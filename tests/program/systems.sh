@@ -1,5 +1,5 @@
 #!/bin/sh
-# Runs `convert` with codes of all systems as a user does. The program is $1. The payloads and their values were worked out by
+# Runs `convert` and `auto` with all systems as a user does. The program is $1. The payloads and their values were worked out by
 # hand from the tables of RTCM 10403.3.
 . "$(dirname "$(readlink -f "$0")")/common"
 here=$root/tests/program
@@ -321,10 +321,57 @@ obs1012 2020-01-25T14:16:00; cp out any; leaves obs1012_without_the_word 0 any t
 { printf 'other-channel -\nno-channel -\nno-message R\n'; report 0 0 0 0 0 0 0 0 0; } >told
 convert R2P --channels 10:-5 nothing;                            leaves an_empty_capture_of_glonass 0 want told
 
-# `auto` finds codes of GPS alone, and refuses others by one line.
-for codes in E1X G1C R1C 1C,E1X; do
-    run auto --codes "$codes" seven.rtcm
-    expect "auto_codes_$codes" 2 '' 'rtcm2rinex: bad --codes'
-done
+# ---- `auto`
+
+# The messages of an epoch follow each other, and the bit of DF393 is 1 in all but the last.
+more() {
+    for payload; do echo "$payload" | sed 's/^\(.............\)0/\12/'; done
+}
+python3 "$here/framed.py" $(more $G05_5X $R10_2P $E11_8X $C41_1P $J01_1X $S58_5I) $I14_5A >chained.rtcm
+no_position=' no-position: the header has zeros, as no 1005 or 1006 came in time, or the first one has zeros'
+# finds NAME FILE OPTIONS COUNTS LINES WORD..: `auto` writes FILE, as the command that it says does, and tells these lines
+finds() {
+    name=$1 file=$2 options=$3 counts=$4 said=$5
+    shift 5
+    run auto --near $near --made $made --marker BASE "$@"
+    {
+        printf ' the same by hand:\nrtcm2rinex convert --station 1 --near %s --made %s --marker BASE --codes %s\n' $near $made "$options"
+        report $counts
+        printf ' from %s until %s by --near\n%s\n%b' $near $near "$no_position" "$said"
+    } >want_err
+    leaves "auto_$name" 0 "$file" want_err
+    sed -n 's/^rtcm2rinex convert //p' err >said
+    run $(cat said | sed 's/^/convert /'); cp out again; same "auto_${name}_as_said" again "$file"
+}
+doppler=' not in the file: Doppler of 1077, 1 messages\n'
+seven_codes=5X,R2P,E8X,C1P,J1X,S5I,I5A
+seven_options="$seven_codes --msm 7 --window 4096 --channels 10:-5"
+taken='7 0 0 0 7 0 0 0 1'
+# pins: said_code, channels_option, channel_of_field
+finds seven_systems seven.rnx "$seven_options chained.rtcm" "$taken" "$doppler" chained.rtcm
+# Words go before what messages tell.
+finds codes_in_another_order seven.rnx "$seven_options chained.rtcm" "$taken" "$doppler" --codes I5A,S5I,J1X,C1P,E8X,R2P,5X chained.rtcm
+# pins: leap_words
+finds given_leap_seconds seven.rnx "$seven_options --leap-seconds 18 chained.rtcm" "$taken" "$doppler" --leap-seconds 18 chained.rtcm
+convert 5X,R2P --msm 7 --channels 10:-7 chained.rtcm; cp out other.rnx
+finds given_channels other.rnx '5X,R2P --msm 7 --window 64 --channels 10:-7 chained.rtcm' '7 5 0 0 2 0 0 0 1' \
+    "$doppler$(printf ' not in the file: %s, 1 messages\\n' 'Galileo 1097' 'SBAS 1107' 'QZSS 1117' 'BeiDou 1127' 'NavIC 1137')" \
+    --codes 5X,R2P --channels 10:-7 --window 64 chained.rtcm
+# Of a kind for each system the exceptions are said.
+python3 "$here/framed.py" $(more $G05_5X) $E36_7Q >two_kinds.rtcm
+finds kinds kinds.rnx '5X,E7Q --msm 7,E4 --window 4096 two_kinds.rtcm' '2 0 0 0 2 0 0 0 1' "$doppler" two_kinds.rtcm
+# A system that is not named is left out, and told.
+convert 5X --msm 7 two_kinds.rtcm; cp out gps_alone.rnx
+finds one_system gps_alone.rnx '5X --msm 7 --window 4096 two_kinds.rtcm' '2 1 0 0 1 0 0 0 1' \
+    "$doppler not in the file: Galileo 1094, 1 messages\n" --systems G two_kinds.rtcm
+# A message that tells no channel leaves the slot without one.
+R09_1C=43C001ACDECCC000000040000000000000200000005112C0961F6817CAF0
+python3 "$here/framed.py" $(more $G05_5X) $R09_1C >no_channel.rtcm
+convert 5X,R1C --msm 7,R4 --channels none no_channel.rtcm; cp out without.rnx
+# pins: no_channel_words, lacking_name
+finds no_channel without.rnx '5X,R1C --msm 7,R4 --window 4096 --channels none no_channel.rtcm' '2 0 0 0 2 0 0 0 1' \
+    " no-channel R09: give --channels, as a header's GLONASS SLOT / FRQ # of the same days has them\n$doppler" no_channel.rtcm
+run auto --systems GR --codes 1C seven.rtcm
+expect auto_systems_and_codes 2 '' "$(error "the argument '--systems <LETTERS>' cannot be used with '--codes <LIST>'" 'auto --systems <LETTERS> <CAPTURE>...')"
 
 ends
