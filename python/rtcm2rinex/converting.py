@@ -99,13 +99,15 @@ def convert(links: Union[Input, Sequence[Input]], *, station: int, near: Time, m
 
 def auto(captures: Union[Input, Sequence[Input]], *, output: Optional[Name] = None, force: bool = False, label: bool = False,
          near: Optional[Time] = None, made: Optional[Time] = None, marker: Optional[str] = None, station: Optional[int] = None,
-         codes: Optional[Codes] = None, msm: Optional[int] = None, window: Optional[int] = None, links_as_given: bool = False,
-         skip_empty: bool = False, report: bool = True, program: Optional[Location] = None) -> AutoConversion:
+         codes: Optional[Codes] = None, systems: Optional[str] = None, msm: Optional[int] = None, channels: Optional[Channels] = None,
+         leap_seconds: Optional[int] = None, window: Optional[int] = None, links_as_given: bool = False, skip_empty: bool = False,
+         report: bool = True, program: Optional[Location] = None) -> AutoConversion:
     """Converts the captures of one station, and finds the options of `convert` in them.
 
     `captures` is one capture or several, in any order, each a name or an open binary file. The program reads each capture twice, so an
     open file is first copied into a temporary file. The options are those of the command `auto`, and an option that is given is not
-    looked for. Without `report` the lists of late, conflicting and refused messages stay empty. `label` needs `output`.
+    looked for. `systems` has the letters of the systems that are converted, as `"GRE"`, and excludes `codes`. Without `report` the
+    lists of late, conflicting and refused messages stay empty. `label` needs `output`.
 
     The file goes to `output`, which gets its name when it is whole, or else into `text` of the result. A file that is there is
     replaced only with `force`.
@@ -114,8 +116,9 @@ def auto(captures: Union[Input, Sequence[Input]], *, output: Optional[Name] = No
     other faults. Without a record the file is a header alone, but a file that is there stays.
     """
     options: Dict[str, Value] = {"output": None if output is None else file_word(output), "force": force, "label": label,
-        "near": gps_word(near), "made": utc_word(made), "marker": marker, "station": station, "codes": code_word(codes), "msm": msm,
-        "window": window, "links_as_given": links_as_given, "skip_empty": skip_empty, "report": report}
+        "near": gps_word(near), "made": utc_word(made), "marker": marker, "station": station, "codes": code_word(codes),
+        "systems": systems, "msm": msm, "channels": channel_word(channels), "leap_seconds": leap_seconds, "window": window,
+        "links_as_given": links_as_given, "skip_empty": skip_empty, "report": report}
     with tempfile.TemporaryDirectory(prefix="rtcm2rinex-") as folder:
         given = [named(it, Path(folder), number) for number, it in enumerate(listed(captures), 1)]
         ran = run(program, ["auto", *option_words(options)], given, accepted=(0, 3), third=CapturesError)

@@ -371,6 +371,14 @@ convert 5X,R1C --msm 7,R4 --channels none no_channel.rtcm; cp out without.rnx
 # pins: no_channel_words, lacking_name
 finds no_channel without.rnx '5X,R1C --msm 7,R4 --window 4096 --channels none no_channel.rtcm' '2 0 0 0 2 0 0 0 1' \
     " no-channel R09: give --channels, as a header's GLONASS SLOT / FRQ # of the same days has them\n$doppler" no_channel.rtcm
+# The example of two links, in either order.
+examples=$root/examples
+for links in "1 2" "2 1"; do
+    run auto --made $made --marker BASE "$examples/systems_link${links% *}.rtcm" "$examples/systems_link${links#* }.rtcm"
+    leaves "the_example_of_systems_$links" 0 "$examples/systems.rnx" err
+done
+report 66 2 0 0 41 23 0 0 10 >want; grep -E '^(frames|other|refused|foreign|taken|repeat|conflict|late|epochs) ' err >told
+same counts_of_the_example_of_systems told want
 run auto --systems GR --codes 1C seven.rtcm
 expect auto_systems_and_codes 2 '' "$(error "the argument '--systems <LETTERS>' cannot be used with '--codes <LIST>'" 'auto --systems <LETTERS> <CAPTURE>...')"
 

@@ -3,9 +3,10 @@ use Rattle.std.proofs.Common.{◌≡◌, ◌≢◌, ◌<◌, ◌∙◌, ◌&&◌
 use Rattle.std.proofs.lemmas.Bool.{cases_Bool}
 use Rattle.std.proofs.lemmas.List.{get_or-replicate}
 use Rattle.rtk_message.specs.declared.any_message.AnyMessage.{AnyMessage}
-use Rattle.rtk_message.specs.declared.any_message.AnyMessage.TheVariants.{Message, Msm}
+use Rattle.rtk_message.specs.declared.any_message.AnyMessage.TheVariants.{Message, Msm, Obs1012}
 use Rattle.rtk_message.specs.declared.message.Message as four
 use Rattle.rtk_message.specs.declared.msm.Msm as msm
+use Rattle.rtk_message.specs.declared.obs1012.Obs1012 as obs1012
 use Rattle.rtk_survey.specs.Channels.{tells_field_of, is_glonass, tells_field, place_of_field, IsChannelTold, CountsFields, CountsTold, CountsChannels, tells_slot_channel, slot_channel_in, tells_slot_if, tells_slot_of_1020, CountsSlots}
 use Rattle.rtk_survey.specs.Steps.Fields.{TakesFields, IsTableMade}
 use Rattle.rtk_survey.specs.Counting.{count_of}
@@ -98,6 +99,9 @@ beside-glonass table m ms other counts = none-told tells_field table (Msm m) ms 
 
 pub no-msm : (table : List ℕ) (m : four.Message) (ms : List AnyMessage) → CountsChannels table ms → CountsChannels table (Message m ∷ ms)
 no-msm table m ms counts = none-told tells_field table (Message m) ms (λ slot field is. refl) counts
+
+pub no-1012 : (table : List ℕ) (m : obs1012.Obs1012) (ms : List AnyMessage) → CountsChannels table ms → CountsChannels table (Obs1012 m ∷ ms)
+no-1012 table m ms counts = none-told tells_field table (Obs1012 m) ms (λ slot field is. refl) counts
 
 -- ---- a 1020 more
 

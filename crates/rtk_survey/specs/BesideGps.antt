@@ -44,6 +44,7 @@ is_other_system Navic = true
 abbrev pub cells_beside_gps : AnyMessage → List SignalEntry
 cells_beside_gps (any.Message m) = []
 cells_beside_gps (any.Msm m) = if is_other_system m.system then signal_entries no_channels m else []
+cells_beside_gps (any.Obs1012 m) = []
 
 -- the cells of messages
 abbrev pub cells_beside : List AnyMessage → List SignalEntry
@@ -83,6 +84,7 @@ told_time Navic c = c
 abbrev pub told_time_of : AnyMessage → Option ℕ
 told_time_of (any.Message m) = None
 told_time_of (any.Msm m) = Some (told_time m.system m.header.tow)
+told_time_of (any.Obs1012 m) = None
 
 -- a message of another system than GPS that has a cell with a range, a phase or a strength
 abbrev pub gives_value_beside : AnyMessage → Bool

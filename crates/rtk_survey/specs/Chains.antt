@@ -35,6 +35,7 @@ clock_of_four (Msm1074 m) = Some (told_clock Gps m.header.tow)
 abbrev pub clock_of : AnyMessage → Option ClockTold
 clock_of (any.Message m) = clock_of_four m
 clock_of (any.Msm m) = Some (told_clock m.system (told_time m.system m.header.tow))
+clock_of (any.Obs1012 m) = None
 
 abbrev pub more_follow_four : Message → Bool
 more_follow_four (Obs1004 m) = m.synchronous
@@ -46,6 +47,7 @@ more_follow_four (Msm1074 m) = m.header.multiple_message
 abbrev pub more_follow : AnyMessage → Bool
 more_follow (any.Message m) = more_follow_four m
 more_follow (any.Msm m) = m.header.multiple_message
+more_follow (any.Obs1012 m) = false
 
 -- ---- the clock of a chain
 

@@ -47,6 +47,7 @@ tells_field_of m slot field = is_field (slot_field m slot) field
 abbrev pub tells_field : ℕ → ℕ → AnyMessage → Bool
 tells_field slot field (any.Message m) = false
 tells_field slot field (any.Msm m) = is_glonass m.system && tells_field_of m slot field
+tells_field slot field (any.Obs1012 m) = false
 
 -- formula
 -- the place of a slot, 1 to 27, and of a field that tells a channel, 0 to 13: 7 more than the channel

@@ -64,7 +64,7 @@ pub(crate) fn told_time_of(message: &AnyMessage) -> Option<u32>
     ensures { result ≡ spec.told_time_of message.now }
 {
     match message {
-        AnyMessage::Message(_) => None,
+        AnyMessage::Message(_) | AnyMessage::Obs1012(_) => None,
         AnyMessage::Msm(message) => Some(told_time(message.system, message.header.tow)),
     }
 }
@@ -104,7 +104,7 @@ pub(crate) fn put_cells_beside_gps(message: &AnyMessage, found: &mut ArrayVec<Si
     ensures { found.new.items ≡ spec.cells_beside_gps message.now }
 {
     match message {
-        AnyMessage::Message(_) => found.clear(),
+        AnyMessage::Message(_) | AnyMessage::Obs1012(_) => found.clear(),
         AnyMessage::Msm(message) => put_cells_of_other(message, found),
     }
 }

@@ -149,6 +149,7 @@ pub(crate) fn take_channels(
     match message {
         AnyMessage::Message(_) => Ok(()),
         AnyMessage::Msm(message) => take_msm(alloc, table, message),
+        AnyMessage::Obs1012(_) => Ok(()),
     }
 }
 

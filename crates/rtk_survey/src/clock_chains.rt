@@ -101,6 +101,7 @@ fn clock_of(message: &AnyMessage) -> Option<ClockTold>
             let time = told_time(message.system, message.header.tow);
             Some(told_clock(message.system, time))
         }
+        AnyMessage::Obs1012(_) => None,
     }
 }
 
@@ -120,6 +121,7 @@ fn more_follow(message: &AnyMessage) -> bool
     match message {
         AnyMessage::Message(message) => more_follow_four(message),
         AnyMessage::Msm(message) => message.header.multiple_message,
+        AnyMessage::Obs1012(_) => false,
     }
 }
 

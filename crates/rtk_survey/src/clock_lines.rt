@@ -136,7 +136,9 @@ fn put_clock_words(lines: &mut Vec<u8>, letter: u8, ahead: u32) -> Result<(), Al
     put_offset(lines, ahead)
 }
 
-fn put_told(
+/// Appends the line of the clocks of a system, if an offset is told: how many of all that are compared have
+/// it.
+pub fn put_clock_line(
     lines: &mut Vec<u8>,
     letter: u8,
     all: u64,
@@ -155,7 +157,7 @@ fn put_told(
 fn put_clock(lines: &mut Vec<u8>, letter: u8, offsets: &[ClockOffset]) -> Result<(), AllocError>
     ensures { OnOk result (lines.new.items ≡ lines.old.items ++ spec.clock_line letter offsets.now) }
 {
-    put_told(
+    put_clock_line(
         lines,
         letter,
         compared_clocks(offsets),
