@@ -361,7 +361,7 @@ finds glonass_1_s_ahead second.rnx '5X,R2P --msm 7 --window 4096 --channels 10:-
 # A system whose messages stand in no epoch with another one is not compared.
 chain $G05_5X $R10_2P >apart.rtcm
 convert 5X,R2P --msm 7 --channels 10:-5 apart.rtcm; cp out apart.rnx
-# pins: unchecked_line
+# pins: unchecked_system_line
 finds glonass_apart apart.rnx '5X,R2P --msm 7 --window 4096 --channels 10:-5 apart.rtcm' '2 0 0 0 2 0 0 0 1' " unchecked R\n$doppler" apart.rtcm
 # The example of two links, in either order.
 examples=$root/examples
