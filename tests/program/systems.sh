@@ -371,6 +371,32 @@ convert 5X,R1C --msm 7,R4 --channels none no_channel.rtcm; cp out without.rnx
 # pins: no_channel_words, lacking_name
 finds no_channel without.rnx '5X,R1C --msm 7,R4 --window 4096 --channels none no_channel.rtcm' '2 0 0 0 2 0 0 0 1' \
     " no-channel R09: give --channels, as a header's GLONASS SLOT / FRQ # of the same days has them\n$doppler" no_channel.rtcm
+# Clocks are compared within an epoch. BeiDou that tells GPS time is 14 s ahead, and is left out.
+chain() { python3 "$here/framed.py" "$@"; }
+chain $(more $G05_5X 467001714BE800${C41_1P#??????????????}) $I14_5A >beidou_ahead.rtcm
+convert 5X,I5A --msm 7 beidou_ahead.rtcm; cp out without.rnx
+# pins: is_wrong_offset, behind_of, gps_ahead
+finds beidou_14_s_ahead without.rnx '5X,I5A --msm 7 --window 4096 beidou_ahead.rtcm' '3 1 0 0 2 0 0 0 1' \
+    " clock C +14.000 1 of 1\n$doppler not in the file: BeiDou 1127, 1 messages\n" beidou_ahead.rtcm
+# GLONASS a day ahead is left out, and 1 ms ahead it stays in records of its own.
+chain $(more $G05_5X) 43F001CCDECCC0${R10_2P#??????????????} >day_ahead.rtcm
+finds glonass_a_day_ahead gps_alone.rnx '5X --msm 7 --window 4096 day_ahead.rtcm' '2 1 0 0 1 0 0 0 1' \
+    " clock R +86400.000 1 of 1\n$doppler not in the file: GLONASS 1087, 1 messages\n" day_ahead.rtcm
+chain $(more $G05_5X) 43F001ACDECCC4${R10_2P#??????????????} >ms_ahead.rtcm
+convert 5X,R2P --msm 7 --channels 10:-5 ms_ahead.rtcm; cp out two_records.rnx
+finds glonass_1_ms_ahead two_records.rnx '5X,R2P --msm 7 --window 4096 --channels 10:-5 ms_ahead.rtcm' '2 0 0 0 2 0 0 0 2' \
+    " clock R +0.001 1 of 1\n$doppler" ms_ahead.rtcm
+# A whole second ahead everywhere is a wrong number of leap seconds.
+chain $(more $G05_5X) 43F001ACDEDC60${R10_2P#??????????????} >second_ahead.rtcm
+convert 5X,R2P --msm 7 --channels 10:-5 --leap-seconds 17 second_ahead.rtcm; cp out second.rnx
+# pins: truly_behind, whole_seconds
+finds glonass_1_s_ahead second.rnx '5X,R2P --msm 7 --window 4096 --channels 10:-5 --leap-seconds 17 second_ahead.rtcm' '2 0 0 0 2 0 0 0 1' \
+    "$doppler" second_ahead.rtcm
+# A system whose messages stand in no epoch with another one is not compared.
+chain $G05_5X $R10_2P >apart.rtcm
+convert 5X,R2P --msm 7 --channels 10:-5 apart.rtcm; cp out apart.rnx
+# pins: unchecked_system_line
+finds glonass_apart apart.rnx '5X,R2P --msm 7 --window 4096 --channels 10:-5 apart.rtcm' '2 0 0 0 2 0 0 0 1' " unchecked R\n$doppler" apart.rtcm
 # The example of two links, in either order.
 examples=$root/examples
 for links in "1 2" "2 1"; do
