@@ -1,6 +1,6 @@
 use Rattle.std.proofs.Common.{ℕ, Option, arith, sym, subst}
 use Rattle.rtk_plan.specs.SlotChannels.{AreSecondsChosen}
-use Rattle.rtk_plan.proofs.station_setup.seconds_chosen.Goals as goal
+use Rattle.rtk_plan.proofs.setup_seconds.seconds_chosen.Goals as goal
 
 pub returns-in-Some-clause-said : goal.returns-in-Some-clause-said
 returns-in-Some-clause-said c =
