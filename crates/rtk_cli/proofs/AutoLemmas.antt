@@ -45,14 +45,13 @@ pub has-bad-list : {A : Type 0} (o : Option (Bor (List ℕ))) (codes : Option (V
 has-bad-list None None says bad = absurd (bad (λ x e. absurd (cc)))
 has-bad-list None (Some codes) says bad = absurd says
 has-bad-list (Some text) None says bad = absurd says
-has-bad-list {A} (Some text) (Some codes) (own, lists, is) bad =
-    (
-      own,
-      lists,
-      λ good. bad (λ x e.
-        let same : codes ≡ x = cc in
-        subst (λ (v : Vec AnyCode A). IsMixedList v.items) same (subst (λ (l : List AnyCode). IsMixedList l) (sym is) good)),
-    )
+has-bad-list {A} (Some text) (Some codes) (own, lists, is) bad = (
+  own,
+  lists,
+  λ good. bad (λ x e.
+      let same : codes ≡ x = cc in
+      subst (λ (v : Vec AnyCode A). IsMixedList v.items) same (subst (λ (l : List AnyCode). IsMixedList l) (sym is) good)),
+)
 
 -- ---- the causes
 
