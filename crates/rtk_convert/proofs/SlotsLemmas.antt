@@ -226,7 +226,8 @@ module _ (test : SatelliteTest) (channels : List (Option ℤ)) (m : Msm) (old no
 or-around : (a b c : Bool) → (a || (b || c)) ≡ ((b || a) || c)
 or-around true true c = refl
 or-around true false c = refl
-or-around false b c = refl
+or-around false true c = refl
+or-around false false c = refl
 
 -- one more satellite
 pub one-more : (test : GlonassSatellite → Bool) (ss : List GlonassSatellite) (i : ℕ) (d : GlonassSatellite) (has now new : Bool) → i < length ss
