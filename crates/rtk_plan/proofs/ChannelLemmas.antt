@@ -1,6 +1,6 @@
 -- The channels that messages tell.
 use Rattle.std.proofs.Common.{◌≡◌, ◌≢◌, ◌<◌, ◌≤◌, ◌+◌, ◌-◌, ◌∙◌, ℕ, zero, suc, ℤ, Bool, true, false, List, [], ◌∷◌, length, Option, None, Some, inl, inr, refl, sym, ap, subst, arith}
-use Rattle.std.specs.Prelude.{nat_lt, slice_index_or, if◌then◌else◌}
+use Rattle.std.specs.Prelude.{nat_lt, slice_index_or, IfSome, if◌then◌else◌}
 use Rattle.std.proofs.lemmas.Bool.{cases_lt, cases_order, cases_Bool, ltb-true, ltb-false}
 use Rattle.rtk_message.specs.declared.msm_kind.MsmKind.{MsmKind}
 use Rattle.rtk_obs.specs.Carriers.{AreChannels, IsSlot, channel_at}
@@ -9,9 +9,9 @@ use Rattle.rtk_obs.specs.declared.any_code.AnyCode.{AnyCode}
 use Rattle.rtk_rinex.specs.MixedHead.{GlonassView, has_glonass}
 use Rattle.rtk_setup.specs.declared.system_kinds.SystemKinds.{SystemKinds}
 use Rattle.rtk_survey.specs.declared.survey.CaptureSurvey.{CaptureSurvey}
-use Rattle.rtk_plan.specs.SlotChannels.{count_told, IsMostTold, IsToldField, IsSlotField, channel_if, is_slot_given, IsChannelFound, AreChannelsFound, AreChannelsChosen, AreSecondsChosen, IsGlonassOf, IsGlonassFound}
+use Rattle.rtk_plan.specs.AlikeChannels.{is_alike}
+use Rattle.rtk_plan.specs.SlotChannels.{count_told, IsMostTold, IsToldField, IsToldChannel, channel_if, is_slot_given, AreOwnChannels, chosen_channel, IsChannelFound, AreChannelsFound, AreChannelsChosen, AreSecondsChosen, IsGlonassOf, IsGlonassFound}
 use Rattle.rtk_plan.specs.Steps.ToldFields.{most_told_with}
-use Rattle.rtk_plan.specs.Values.{or_else}
 use Rattle.rtk_plan.specs.declared.slot_channels.MostTold.{MostTold}
 
 -- ---- the field that is told most often
@@ -83,9 +83,10 @@ told-step counts n t is =
           (record { told = told-same counts n t.field is.told (omega (arith, le, is_count)); count = is.count })
     ]
 
-pub told-few : (counts : ℕ → ℕ) (told : Option ℕ) (field : ℕ) → IsToldField counts 14 told → told ≡ Some field → field < 14
-told-few counts None field is some = absurd (cc)
-told-few counts (Some f) field is some = let same : f ≡ field = cc in let few = is.few in omega (arith, same, few)
+-- a field that is told is one of so many
+pub told-few : (counts : ℕ → ℕ) (told : Option ℕ) → IsToldField counts 14 told → IfSome told (λ field. field < 14)
+told-few counts None is = tt
+told-few counts (Some field) is = is.few
 
 -- ---- one field, one channel
 
@@ -99,15 +100,13 @@ one-field counts fields (Some f) (Some g) is also = elim (cases_order f g) [
   | inr (inr behind) ↦ let less = is.least g behind in let most = also.most f is.few in absurd (omega (arith, less, most))
 ]
 
-one-slot-field : (ss : List CaptureSurvey) (n slot : ℕ) (a b : Option ℕ) → IsSlotField ss n slot a → IsSlotField ss n slot b → a ≡ b
-one-slot-field ss n slot a b is also =
-    let own : is.own ≡ also.own = one-field (count_told ss (Some n) slot) 14 is.own also.own is.own_told also.own_told in
-    let other : is.other ≡ also.other = one-field (count_told ss None slot) 14 is.other also.other is.other_told also.other_told in
-    is.told_is ∙ ap (λ (o : Option ℕ). or_else o is.other) own ∙ ap (λ (o : Option ℕ). or_else also.own o) other ∙ sym also.told_is
+one-told : (ss : List CaptureSurvey) (n : ℕ) (kind : MsmKind) (source : Option ℕ) (slot : ℕ) (a b : Option ℤ) → IsToldChannel ss n kind source slot a → IsToldChannel ss n kind source slot b → a ≡ b
+one-told ss n kind source slot a b is also =
+    is.2 ∙ ap (λ (o : Option ℕ). channel_if (is_slot_given ss n kind slot) o) (one-field (count_told ss source slot) 14 is.0 also.0 is.1 also.1) ∙ sym also.2
 
-one-channel : (ss : List CaptureSurvey) (n : ℕ) (kind : MsmKind) (slot : ℕ) (a b : Option ℤ) → IsChannelFound ss n kind slot a → IsChannelFound ss n kind slot b → a ≡ b
-one-channel ss n kind slot a b is also =
-    is.2 ∙ ap (λ (o : Option ℕ). channel_if (is_slot_given ss n kind slot) o) (one-slot-field ss n slot is.0 also.0 is.1 also.1) ∙ sym also.2
+one-channel : (ss : List CaptureSurvey) (n : ℕ) (kind : MsmKind) (own : List (Option ℤ)) (slot : ℕ) (a b : Option ℤ) → IsChannelFound ss n kind own slot a → IsChannelFound ss n kind own slot b → a ≡ b
+one-channel ss n kind own slot a b is also =
+    is.2 ∙ ap (λ (o : Option ℤ). chosen_channel (is_alike own slot) (channel_at own slot) o) (one-told ss n kind None slot is.0 also.0 is.1 also.1) ∙ sym also.2
 
 same-list : (xs ys : List (Option ℤ)) → length xs ≡ length ys → ((k : ℕ) → k < length xs → slice_index_or xs k None ≡ slice_index_or ys k None) → xs ≡ ys
 same-list [] [] n at = refl
@@ -117,17 +116,28 @@ same-list (x ∷ xs) (y ∷ ys) n at =
     ap (λ (z : Option ℤ). z ∷ xs) (at 0 (omega arith))
     ∙ ap (λ (zs : List (Option ℤ)). y ∷ zs) (same-list xs ys (omega (arith, n)) (λ k lt. at (suc k) (omega (arith, lt))))
 
-one-channels : (ss : List CaptureSurvey) (n : ℕ) (kind : MsmKind) (a b : List (Option ℤ)) → AreChannelsFound ss n kind a → AreChannelsFound ss n kind b → a ≡ b
-one-channels ss n kind a b is also =
-    let count = is.good.count in
-    let as_many = also.good.count in
+-- lists of channels that are the same at each slot
+same-channels : (a b : List (Option ℤ)) → AreChannels a → AreChannels b → ((slot : ℕ) → IsSlot slot → channel_at a slot ≡ channel_at b slot) → a ≡ b
+same-channels a b good also same =
+    let count = good.count in
+    let as_many = also.count in
     same-list a b (omega (arith, count, as_many)) (λ k lt.
         let slot : IsSlot (k + 1) = (omega arith, omega (arith, lt, count)) in
-        let same : channel_at a (k + 1) ≡ channel_at b (k + 1) = one-channel ss n kind (k + 1) (channel_at a (k + 1)) (channel_at b (k + 1)) (is.each (k + 1) slot) (also.each (k + 1) slot) in
         let place : (k + 1) - 1 ≡ k = omega arith in
-        ap (λ (p : ℕ). slice_index_or a p None) (sym place) ∙ same ∙ ap (λ (p : ℕ). slice_index_or b p None) place)
+        ap (λ (p : ℕ). slice_index_or a p None) (sym place) ∙ same (k + 1) slot ∙ ap (λ (p : ℕ). slice_index_or b p None) place)
 
-one-row : (Begun : ℕ → Type 0) (m n : ℕ) → IsLastRow Begun m → IsLastRow Begun n → m ≡ n
+one-own : (ss : List CaptureSurvey) (n : ℕ) (kind : MsmKind) (a b : List (Option ℤ)) → AreOwnChannels ss n kind a → AreOwnChannels ss n kind b → a ≡ b
+one-own ss n kind a b is also =
+    same-channels a b is.good also.good (λ slot s. one-told ss n kind (Some n) slot (channel_at a slot) (channel_at b slot) (is.each slot s) (also.each slot s))
+
+one-channels : (ss : List CaptureSurvey) (n : ℕ) (kind : MsmKind) (a b : List (Option ℤ)) → AreChannelsFound ss n kind a → AreChannelsFound ss n kind b → a ≡ b
+one-channels ss n kind a b is also =
+    let own : is.own ≡ also.own = one-own ss n kind is.own also.own is.own_are also.own_are in
+    same-channels a b is.good also.good (λ slot s.
+        one-channel ss n kind is.own slot (channel_at a slot) (channel_at b slot) (is.each slot s)
+        (subst (λ (cs : List (Option ℤ)). IsChannelFound ss n kind cs slot (channel_at b slot)) (sym own) (also.each slot s)))
+
+pub one-row : (Begun : ℕ → Type 0) (m n : ℕ) → IsLastRow Begun m → IsLastRow Begun n → m ≡ n
 one-row Begun m n is also = elim (cases_order m n) [
   | inl same ↦ same
   | inr (inl before) ↦ absurd (is.last n before also.known (also.begun (omega (arith, before))))
@@ -138,7 +148,7 @@ one-chosen : (given : Option (List (Option ℤ))) (ss : List CaptureSurvey) (n :
 one-chosen None ss n kind a b is also = one-channels ss n kind a b is also
 one-chosen (Some given) ss n kind a b is also = is ∙ sym also
 
-one-seconds : (given : Option ℕ) (near m n : ℕ) → AreSecondsChosen given near m → AreSecondsChosen given near n → m ≡ n
+pub one-seconds : (given : Option ℕ) (near m n : ℕ) → AreSecondsChosen given near m → AreSecondsChosen given near n → m ≡ n
 one-seconds None near m n is also = one-row _ m n is also
 one-seconds (Some given) near m n is also = is ∙ sym also
 
@@ -157,27 +167,27 @@ one-glonass ss n ks listed channels seconds near (Some g) (Some h) is also =
 
 -- ---- the slots one after another
 
--- the slots before this one have their channels, and no other has one
-pub record SetsChannels (ss : List CaptureSurvey) (n : ℕ) (kind : MsmKind) (slot : ℕ) (channels : List (Option ℤ)) : Type 0 where
-  pub own : (s : ℕ) → IsSlot s → s < slot → IsChannelFound ss n kind s (channel_at channels s)
+-- the slots before this one have such channels, and no other has one
+pub record SetsChannels (IsRight : ℕ → Option ℤ → Type 0) (slot : ℕ) (channels : List (Option ℤ)) : Type 0 where
+  pub own : (s : ℕ) → IsSlot s → s < slot → IsRight s (channel_at channels s)
   pub others : (s : ℕ) → IsSlot s → slot ≤ s → channel_at channels s ≡ None
 
-pub sets-first : (ss : List CaptureSurvey) (n : ℕ) (kind : MsmKind) (channels : List (Option ℤ)) → ((s : ℕ) → channel_at channels s ≡ None) → SetsChannels ss n kind 1 channels
-sets-first ss n kind channels none = record {
+pub sets-first : (IsRight : ℕ → Option ℤ → Type 0) (channels : List (Option ℤ)) → ((s : ℕ) → channel_at channels s ≡ None) → SetsChannels IsRight 1 channels
+sets-first IsRight channels none = record {
   own = λ s slot before. let from = slot.0 in absurd (omega (arith, from, before));
   others = λ s slot past. none s;
 }
 
-pub sets-next : (ss : List CaptureSurvey) (n : ℕ) (kind : MsmKind) (slot : ℕ) (old new : List (Option ℤ)) (channel : Option ℤ) → SetsChannels ss n kind slot old
-    → IsChannelFound ss n kind slot channel → channel_at new slot ≡ channel → ((s : ℕ) → IsSlot s → s ≢ slot → channel_at new s ≡ channel_at old s)
-    → SetsChannels ss n kind (slot + 1) new
-sets-next ss n kind slot old new channel sets found set kept = record {
+pub sets-next : (IsRight : ℕ → Option ℤ → Type 0) (slot : ℕ) (old new : List (Option ℤ)) (channel : Option ℤ) → SetsChannels IsRight slot old
+    → IsRight slot channel → channel_at new slot ≡ channel → ((s : ℕ) → IsSlot s → s ≢ slot → channel_at new s ≡ channel_at old s)
+    → SetsChannels IsRight (slot + 1) new
+sets-next IsRight slot old new channel sets found set kept = record {
   own = λ s is before. elim (cases_order s slot) [
     | inl same ↦
         let here : channel ≡ channel_at new s = sym set ∙ ap (λ (k : ℕ). channel_at new k) (sym same) in
-        subst (λ (k : ℕ). IsChannelFound ss n kind k (channel_at new s)) (sym same) (subst (λ (o : Option ℤ). IsChannelFound ss n kind slot o) here found)
+        subst (λ (k : ℕ). IsRight k (channel_at new s)) (sym same) (subst (λ (o : Option ℤ). IsRight slot o) here found)
     | inr (inl less) ↦
-        subst (λ (o : Option ℤ). IsChannelFound ss n kind s o) (sym (kept s is (λ e. absurd (omega (arith, less, e))))) (sets.own s is less)
+        subst (λ (o : Option ℤ). IsRight s o) (sym (kept s is (λ e. absurd (omega (arith, less, e))))) (sets.own s is less)
     | inr (inr more) ↦ absurd (omega (arith, before, more))
   ];
   others = λ s is past. kept s is (λ e. absurd (omega (arith, past, e))) ∙ sets.others s is (omega (arith, past));

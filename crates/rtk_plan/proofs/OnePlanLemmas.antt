@@ -8,17 +8,23 @@ use Rattle.rtk_survey.specs.declared.placing.Placed.{Placed}
 use Rattle.rtk_survey.specs.declared.survey.CaptureSurvey.{CaptureSurvey}
 use Rattle.rtk_plan.specs.Kept.{empty_captures}
 use Rattle.rtk_plan.specs.Laws.{OnePlan, NearIsWholeSecond}
+use Rattle.rtk_plan.specs.FoundSeconds.{seconds_found_if, AreSecondsFound, AreSecondsOfSetup, asks_glonass}
 use Rattle.rtk_plan.specs.Linking.{links_found, AreLinksOf}
-use Rattle.rtk_plan.specs.Plan.{IsChosenStation, kinds_found, codes_chosen, marker_chosen, captures_of, IsBaseOf, IsReachOf, ArePlaced, IsNearOf, AreStrays, IsSetupFor}
+use Rattle.rtk_plan.specs.ClockOffsets.{systems_with_clocks}
+use Rattle.rtk_plan.specs.Plan.{IsChosenStation, kinds_found, codes_chosen, AreSystemsTaken, AreCodesChosen, marker_chosen, captures_of, IsBaseOf, IsReachOf, ArePlaced, IsNearOf, IsSpanOf, AreLeapSecondsOf, AreStrays, IsSetupFor}
 use Rattle.rtk_plan.specs.Reach.{least_told, placed_if_any, reach_after, second_of}
 use Rattle.rtk_plan.specs.SlotChannels.{IsGlonassFound}
+use Rattle.rtk_plan.specs.Sources.{dated_span_of}
 use Rattle.rtk_plan.specs.Stray.{strays}
+use Rattle.rtk_plan.specs.SystemFlags.{in_both}
 use Rattle.rtk_plan.specs.SystemMsms.{kinds_listed}
 use Rattle.rtk_plan.specs.declared.reach.Base.{Base}
 use Rattle.rtk_plan.specs.declared.reach.Base.TheVariants.{Told}
+use Rattle.rtk_plan.specs.declared.span_line.DatedSpan.{DatedSpan}
 use Rattle.rtk_plan.specs.declared.station_capture.StationCapture.{StationCapture}
+use Rattle.rtk_plan.specs.declared.system_flags.SystemFlags.{SystemFlags}
 use Rattle.rtk_plan.specs.declared.wanted.Wanted.{Wanted}
-use Rattle.rtk_plan.proofs.ChannelLemmas.{one-glonass}
+use Rattle.rtk_plan.proofs.ChannelLemmas.{one-glonass, one-row, one-seconds}
 
 one-some : {A : Type 0} (o : Option A) (a b : A) → o ≡ Some a → o ≡ Some b → a ≡ b
 one-some o a b is also = let same : Some a ≡ Some b = sym is ∙ also in cc
@@ -56,8 +62,47 @@ one-links true given cs xs ys is also = is ∙ sym also
 one-links false given cs xs ys is also =
     is.2 ∙ ap (λ (ps : List (Option Placed)). links_found cs ps) (one-placed given cs is.0 also.0 is.1 also.1) ∙ sym also.2
 
-abbrev setup_with : ℕ → ℕ → List ℕ → List AnyCode → Option GlonassView → ℕ → ℕ → SystemKinds → Option ℕ → SetupView
-setup_with station near marker listed glonass made window kinds leap_seconds =
+one-span : (given : Option ℕ) (cs : List StationCapture) (station : ℕ) (a b : DatedSpan) → IsSpanOf given cs station a → IsSpanOf given cs station b → a ≡ b
+one-span given cs station a b is also =
+    let base = one-base given cs is.0 also.0 is.1 also.1 in
+    let reach : is.2.0 ≡ also.2.0 = one-reach cs is.0 also.0 is.2.0 also.2.0 base is.2.1 also.2.1 in
+    is.2.2 ∙ ap (λ (r : Placed). dated_span_of cs is.0 station r) reach
+    ∙ ap (λ (x : Base). dated_span_of cs x station also.2.0) base ∙ sym also.2.2
+
+one-found : (asked : Bool) (ss : List CaptureSurvey) (station near from until : ℕ) (a b : Option ℕ)
+    → AreSecondsFound asked ss station near from until a → AreSecondsFound asked ss station near from until b → a ≡ b
+one-found asked ss station near from until a b is also =
+    let table : is.0 ≡ also.0 = one-row _ is.0 also.0 is.1 also.1 in
+    let first : is.2.0 ≡ also.2.0 = one-row _ is.2.0 also.2.0 is.2.1 also.2.1 in
+    let last : is.2.2.0 ≡ also.2.2.0 = one-row _ is.2.2.0 also.2.2.0 is.2.2.1 also.2.2.1 in
+    is.2.2.2 ∙ ap (λ (n : ℕ). seconds_found_if asked ss station n is.2.0 is.2.2.0) table
+    ∙ ap (λ (n : ℕ). seconds_found_if asked ss station also.0 n is.2.2.0) first
+    ∙ ap (λ (n : ℕ). seconds_found_if asked ss station also.0 also.2.0 n) last ∙ sym also.2.2.2
+
+one-of-setup : (given : Option ℕ) (asked : Bool) (ss : List CaptureSurvey) (station near from until : ℕ) (a b : Option ℕ)
+    → AreSecondsOfSetup given asked ss station near from until a → AreSecondsOfSetup given asked ss station near from until b → a ≡ b
+one-of-setup None asked ss station near from until a b is also = one-found asked ss station near from until a b is also
+one-of-setup (Some given) asked ss station near from until a b is also = is ∙ sym also
+
+one-leap : (ss : List CaptureSurvey) (w : Wanted) (station near : ℕ) (a b : Option ℕ) → AreLeapSecondsOf ss w station near a → AreLeapSecondsOf ss w station near b → a ≡ b
+one-leap ss w station near a b is also =
+    let asked = asks_glonass w.codes w.systems in
+    let span : is.0 ≡ also.0 = one-span w.near (captures_of ss station) station is.0 also.0 is.1 also.1 in
+    one-of-setup w.leap_seconds asked ss station near is.0.from is.0.until a b is.2
+    (subst (λ (s : DatedSpan). AreSecondsOfSetup w.leap_seconds asked ss station near s.from s.until b) (sym span) also.2)
+
+one-systems : (ss : List CaptureSurvey) (station : ℕ) (wanted : SystemFlags) (seconds : Option ℕ) (near : ℕ) (a b : SystemFlags)
+    → AreSystemsTaken ss station wanted seconds near a → AreSystemsTaken ss station wanted seconds near b → a ≡ b
+one-systems ss station wanted seconds near a b is also =
+    is.2 ∙ ap (λ (n : ℕ). in_both wanted (systems_with_clocks ss station n)) (one-seconds seconds near is.0 also.0 is.1 also.1) ∙ sym also.2
+
+one-list : (w : Wanted) (ss : List CaptureSurvey) (station : ℕ) (seconds : Option ℕ) (near : ℕ) (kinds : SystemKinds) (a b : List AnyCode)
+    → AreCodesChosen w ss station seconds near kinds a → AreCodesChosen w ss station seconds near kinds b → a ≡ b
+one-list w ss station seconds near kinds a b is also =
+    is.2 ∙ ap (λ (systems : SystemFlags). codes_chosen w.codes ss station systems kinds) (one-systems ss station w.systems seconds near is.0 also.0 is.1 also.1) ∙ sym also.2
+
+abbrev setup_with : ℕ → ℕ → List ℕ → List AnyCode → Option GlonassView → ℕ → ℕ → SystemKinds → Option ℕ → Bool → SetupView
+setup_with station near marker listed glonass made window kinds leap_seconds takes_1012 =
     record {
       station = station;
       near = near;
@@ -65,37 +110,48 @@ setup_with station near marker listed glonass made window kinds leap_seconds =
       window = window;
       kinds = kinds;
       leap_seconds = leap_seconds;
+      takes_1012 = takes_1012;
     }
 
 one-setup : (ss : List CaptureSurvey) (links : List (List ℕ)) (w : Wanted) (made : ℕ) (s t : SetupView) → IsSetupFor ss links w made s → IsSetupFor ss links w made t → s ≡ t
 one-setup ss links w made s t is also =
     let station : s.station ≡ t.station = one-station ss w.station s.station t.station is.station also.station in
+    let near : s.near ≡ t.near =
+    one-near w.near (captures_of ss s.station) s.near t.near is.near_by (subst (λ (n : ℕ). IsNearOf w.near (captures_of ss n) t.near) (sym station) also.near_by) in
+    let leap : AreLeapSecondsOf ss w s.station s.near t.leap_seconds =
+    subst (λ (n : ℕ). AreLeapSecondsOf ss w s.station n t.leap_seconds) (sym near)
+    (subst (λ (n : ℕ). AreLeapSecondsOf ss w n t.near t.leap_seconds) (sym station) also.leap_seconds) in
+    let leap_seconds : s.leap_seconds ≡ t.leap_seconds = one-leap ss w s.station s.near s.leap_seconds t.leap_seconds is.leap_seconds leap in
+    let chosen : AreCodesChosen w ss s.station s.leap_seconds s.near (kinds_found w.msm ss links s.station) t.head.listed =
+    subst (λ (n : ℕ). AreCodesChosen w ss s.station s.leap_seconds n (kinds_found w.msm ss links s.station) t.head.listed) (sym near)
+    (subst (λ (o : Option ℕ). AreCodesChosen w ss s.station o t.near (kinds_found w.msm ss links s.station) t.head.listed) (sym leap_seconds)
+    (subst (λ (n : ℕ). AreCodesChosen w ss n t.leap_seconds t.near (kinds_found w.msm ss links n) t.head.listed) (sym station) also.listed)) in
     let listed : s.head.listed ≡ t.head.listed =
-    is.listed ∙ ap (λ (n : ℕ). codes_chosen w.codes ss n w.systems (kinds_found w.msm ss links n)) station ∙ sym also.listed in
+    one-list w ss s.station s.leap_seconds s.near (kinds_found w.msm ss links s.station) s.head.listed t.head.listed is.listed chosen in
     let kinds : s.kinds ≡ t.kinds =
     is.kinds ∙ ap (λ (n : ℕ). kinds_listed (kinds_found w.msm ss links n) s.head.listed) station
     ∙ ap (λ (cs : List AnyCode). kinds_listed (kinds_found w.msm ss links t.station) cs) listed ∙ sym also.kinds in
     let marker : s.head.marker ≡ t.head.marker = is.marker ∙ ap (λ (n : ℕ). marker_chosen w.marker n) station ∙ sym also.marker in
     let made_at : s.head.made ≡ t.head.made = is.made_at ∙ sym also.made_at in
     let window : s.window ≡ t.window = is.window ∙ sym also.window in
-    let leap_seconds : s.leap_seconds ≡ t.leap_seconds = is.leap_seconds ∙ sym also.leap_seconds in
-    let near : s.near ≡ t.near =
-    one-near w.near (captures_of ss s.station) s.near t.near is.near_by (subst (λ (n : ℕ). IsNearOf w.near (captures_of ss n) t.near) (sym station) also.near_by) in
-    let told : IsGlonassFound ss s.station (kinds_found w.msm ss links s.station) s.head.listed w.channels w.leap_seconds s.near t.head.glonass =
-    subst (λ (n : ℕ). IsGlonassFound ss s.station (kinds_found w.msm ss links s.station) s.head.listed w.channels w.leap_seconds n t.head.glonass) (sym near)
-    (subst (λ (cs : List AnyCode). IsGlonassFound ss s.station (kinds_found w.msm ss links s.station) cs w.channels w.leap_seconds t.near t.head.glonass) (sym listed)
-    (subst (λ (n : ℕ). IsGlonassFound ss n (kinds_found w.msm ss links n) t.head.listed w.channels w.leap_seconds t.near t.head.glonass) (sym station) also.glonass)) in
+    let told : IsGlonassFound ss s.station (kinds_found w.msm ss links s.station) s.head.listed w.channels s.leap_seconds s.near t.head.glonass =
+    subst (λ (n : ℕ). IsGlonassFound ss s.station (kinds_found w.msm ss links s.station) s.head.listed w.channels s.leap_seconds n t.head.glonass) (sym near)
+    (subst (λ (o : Option ℕ). IsGlonassFound ss s.station (kinds_found w.msm ss links s.station) s.head.listed w.channels o t.near t.head.glonass) (sym leap_seconds)
+    (subst (λ (cs : List AnyCode). IsGlonassFound ss s.station (kinds_found w.msm ss links s.station) cs w.channels t.leap_seconds t.near t.head.glonass) (sym listed)
+    (subst (λ (n : ℕ). IsGlonassFound ss n (kinds_found w.msm ss links n) t.head.listed w.channels t.leap_seconds t.near t.head.glonass) (sym station) also.glonass))) in
     let glonass : s.head.glonass ≡ t.head.glonass =
-    one-glonass ss s.station (kinds_found w.msm ss links s.station) s.head.listed w.channels w.leap_seconds s.near s.head.glonass t.head.glonass is.glonass told in
-    ap (λ (n : ℕ). setup_with n s.near s.head.marker s.head.listed s.head.glonass s.head.made s.window s.kinds s.leap_seconds) station
-    ∙ ap (λ (n : ℕ). setup_with t.station n s.head.marker s.head.listed s.head.glonass s.head.made s.window s.kinds s.leap_seconds) near
-    ∙ ap (λ (name : List ℕ). setup_with t.station t.near name s.head.listed s.head.glonass s.head.made s.window s.kinds s.leap_seconds) marker
-    ∙ ap (λ (codes : List AnyCode). setup_with t.station t.near t.head.marker codes s.head.glonass s.head.made s.window s.kinds s.leap_seconds) listed
-    ∙ ap (λ (g : Option GlonassView). setup_with t.station t.near t.head.marker t.head.listed g s.head.made s.window s.kinds s.leap_seconds) glonass
-    ∙ ap (λ (n : ℕ). setup_with t.station t.near t.head.marker t.head.listed t.head.glonass n s.window s.kinds s.leap_seconds) made_at
-    ∙ ap (λ (n : ℕ). setup_with t.station t.near t.head.marker t.head.listed t.head.glonass t.head.made n s.kinds s.leap_seconds) window
-    ∙ ap (λ (ks : SystemKinds). setup_with t.station t.near t.head.marker t.head.listed t.head.glonass t.head.made t.window ks s.leap_seconds) kinds
-    ∙ ap (λ (leap : Option ℕ). setup_with t.station t.near t.head.marker t.head.listed t.head.glonass t.head.made t.window t.kinds leap) leap_seconds
+    one-glonass ss s.station (kinds_found w.msm ss links s.station) s.head.listed w.channels s.leap_seconds s.near s.head.glonass t.head.glonass is.glonass told in
+    let no_1012 : s.takes_1012 ≡ t.takes_1012 = is.no_1012 ∙ sym also.no_1012 in
+    ap (λ (n : ℕ). setup_with n s.near s.head.marker s.head.listed s.head.glonass s.head.made s.window s.kinds s.leap_seconds s.takes_1012) station
+    ∙ ap (λ (n : ℕ). setup_with t.station n s.head.marker s.head.listed s.head.glonass s.head.made s.window s.kinds s.leap_seconds s.takes_1012) near
+    ∙ ap (λ (name : List ℕ). setup_with t.station t.near name s.head.listed s.head.glonass s.head.made s.window s.kinds s.leap_seconds s.takes_1012) marker
+    ∙ ap (λ (codes : List AnyCode). setup_with t.station t.near t.head.marker codes s.head.glonass s.head.made s.window s.kinds s.leap_seconds s.takes_1012) listed
+    ∙ ap (λ (g : Option GlonassView). setup_with t.station t.near t.head.marker t.head.listed g s.head.made s.window s.kinds s.leap_seconds s.takes_1012) glonass
+    ∙ ap (λ (n : ℕ). setup_with t.station t.near t.head.marker t.head.listed t.head.glonass n s.window s.kinds s.leap_seconds s.takes_1012) made_at
+    ∙ ap (λ (n : ℕ). setup_with t.station t.near t.head.marker t.head.listed t.head.glonass t.head.made n s.kinds s.leap_seconds s.takes_1012) window
+    ∙ ap (λ (ks : SystemKinds). setup_with t.station t.near t.head.marker t.head.listed t.head.glonass t.head.made t.window ks s.leap_seconds s.takes_1012) kinds
+    ∙ ap (λ (leap : Option ℕ). setup_with t.station t.near t.head.marker t.head.listed t.head.glonass t.head.made t.window t.kinds leap s.takes_1012) leap_seconds
+    ∙ ap (λ (is_asked : Bool). setup_with t.station t.near t.head.marker t.head.listed t.head.glonass t.head.made t.window t.kinds t.leap_seconds is_asked) no_1012
 
 pub one-plan : OnePlan
 one-plan ss w made as_given s t links others skipped left strays strayed is also =

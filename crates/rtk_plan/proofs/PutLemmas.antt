@@ -13,6 +13,9 @@ five-parts old a b c d e = ap (λ l. l ++ e) (four-parts old a b c d) ∙ append
 pub six-parts : (old a b c d e f : List ℕ) → (((((old ++ a) ++ b) ++ c) ++ d) ++ e) ++ f ≡ old ++ (((((a ++ b) ++ c) ++ d) ++ e) ++ f)
 six-parts old a b c d e f = ap (λ l. l ++ f) (five-parts old a b c d e) ∙ append_assoc old ((((a ++ b) ++ c) ++ d) ++ e) f
 
+pub seven-parts : (old a b c d e f g : List ℕ) → ((((((old ++ a) ++ b) ++ c) ++ d) ++ e) ++ f) ++ g ≡ old ++ ((((((a ++ b) ++ c) ++ d) ++ e) ++ f) ++ g)
+seven-parts old a b c d e f g = ap (λ l. l ++ g) (six-parts old a b c d e f) ∙ append_assoc old (((((a ++ b) ++ c) ++ d) ++ e) ++ f) g
+
 -- a part more
 pub then-put : (old l new a b : List ℕ) → l ≡ old ++ a → new ≡ l ++ b → new ≡ old ++ (a ++ b)
 then-put old l new a b so_far more = more ∙ ap (λ (t : List ℕ). t ++ b) so_far ∙ append_assoc old a b

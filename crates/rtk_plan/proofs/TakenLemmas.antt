@@ -329,7 +329,7 @@ unfolding lines_behind_late known_lines
 left-out-told names ss plan known late by_stray place lasts some =
     let skipped : List ℕ = skipped_lines names plan.captures.items plan.skipped.items in
     let epochs : List ℕ = epochs_lines names plan.captures.items (places_of plan.links.items) in
-    let rest : List ℕ = not_taken ss plan.setup.station plan.setup.kinds.gps (taken_by plan.setup) in
+    let rest : List ℕ = not_taken ss plan.setup in
     let line = line-of (skipped_line names plan.captures.items) plan.skipped.items place some in
     let first = before-and-after [] skipped epochs (skipped_line names plan.captures.items place) line in
     let last = before-and-after [] (skipped ++ epochs) rest (skipped_line names plan.captures.items place) first in

@@ -15,8 +15,11 @@ use Rattle.rtk_plan.specs.declared.station_capture.StationCapture.{StationCaptur
 use Rattle.rtk_plan.specs.declared.reach.Base.{Base}
 use Rattle.rtk_plan.specs.Kept.{empty_captures}
 use Rattle.rtk_plan.specs.Linking.{AreLinksOf}
-use Rattle.rtk_plan.specs.Plan.{IsChosenStation, kinds_found, codes_chosen, captures_of, IsBaseOf, IsReachOf, some_out_of_reach}
+use Rattle.rtk_plan.specs.Plan.{IsChosenStation, kinds_found, AreSystemsTaken, AreLeapSecondsOf, captures_of, IsBaseOf, IsReachOf, IsNearOf, some_out_of_reach}
 use Rattle.rtk_plan.specs.Positions.{some_are_far}
+use Rattle.rtk_plan.specs.Values.{codes_in_captures}
+use Rattle.rtk_plan.specs.declared.system_flags.SystemFlags.{SystemFlags}
+use Rattle.rtk_setup.specs.declared.system_kinds.SystemKinds.{SystemKinds}
 use Rattle.rtk_plan.specs.declared.refusal.PlanFault.{PlanFault}
 use Rattle.rtk_plan.specs.declared.refusal.PlanFault.TheVariants.{Refused, OutOfMemory}
 use Rattle.rtk_plan.specs.declared.refusal.Refusal.{Refusal}
@@ -99,13 +102,23 @@ IsDatingCause given cs refusal = (base : Base) × IsBaseOf given cs base × IsRe
 
 -- ---- the values of the conversion of a station
 
--- no codes are named, and none is found in the MSM of these links
-abbrev pub HasNoCode : List CaptureSurvey → List (List ℕ) → Wanted → ℕ → Type 0
-HasNoCode ss links w station =
-    (w.codes ≡ None) × (codes_chosen w.codes ss station w.systems (kinds_found w.msm ss links station) ≡ [])
+-- no code is found in the MSM of these kinds, of the systems that are taken with these leap seconds
+abbrev pub FindsNoCode : List CaptureSurvey → SystemKinds → Wanted → ℕ → Option ℕ → ℕ → Type 0
+FindsNoCode ss kinds w station seconds near =
+    (systems : SystemFlags) × AreSystemsTaken ss station w.systems seconds near systems × (codes_in_captures ss station systems kinds ≡ [])
+
+-- no codes are named, and none is found in the MSM of these links, near this moment
+abbrev pub HasNoCode : List CaptureSurvey → List (List ℕ) → Wanted → ℕ → ℕ → Type 0
+HasNoCode ss links w station near =
+    (w.codes ≡ None) × ((seconds : Option ℕ) × AreLeapSecondsOf ss w station near seconds
+      × FindsNoCode ss (kinds_found w.msm ss links station) w station seconds near)
+
+-- the same near the moment near which captures are dated
+abbrev pub HasNoCodeNear : List CaptureSurvey → List (List ℕ) → Wanted → ℕ → List StationCapture → Type 0
+HasNoCodeNear ss links w station cs = (near : ℕ) × IsNearOf w.near cs near × HasNoCode ss links w station near
 
 abbrev pub IsSetupCause : List CaptureSurvey → List (List ℕ) → Wanted → ℕ → ℕ → Refusal → Type 0
-IsSetupCause ss links w station near NoCode = HasNoCode ss links w station
+IsSetupCause ss links w station near NoCode = HasNoCode ss links w station near
 IsSetupCause ss links w station near OutsideDates = ¬ (IsReference near)
 IsSetupCause ss links w station near other = ⊥
 
@@ -124,7 +137,7 @@ has_frames s = not (s.contents.frames == 0)
 abbrev pub IsCaptureCause : List CaptureSurvey → Wanted → Bool → Bool → ℕ → List StationCapture → Refusal → Type 0
 IsCaptureCause ss w skip_empty as_given station cs (Empty n) = IsEmptyCause station cs skip_empty (Empty n)
 IsCaptureCause ss w skip_empty as_given station cs NoCode =
-    (links : List (List ℕ)) × AreLinksOf as_given w.near cs links × HasNoCode ss links w station
+    (links : List (List ℕ)) × AreLinksOf as_given w.near cs links × HasNoCodeNear ss links w station cs
 IsCaptureCause ss w skip_empty as_given station cs TooManyLinks =
     (links : List (List ℕ)) × AreLinksOf as_given w.near cs links × (16 < length links)
 IsCaptureCause ss w skip_empty as_given station cs PositionsDiffer = (as_given ≡ false) × (some_are_far cs ≡ true)

@@ -4,10 +4,10 @@ use Rattle.std.specs.Fmt.{sign_text}
 use Rattle.std.specs.Int.{is_negative}
 use Rattle.std.specs.List.{list_any}
 use Rattle.rtk_message.specs.declared.msm_kind.MsmKind.{MsmKind}
-use Rattle.rtk_obs.specs.Carriers.{channel_at}
 use Rattle.rtk_obs.specs.CivilText.{last_digits}
 use Rattle.rtk_rinex.specs.MixedHead.{GlonassView}
 use Rattle.rtk_survey.specs.declared.survey.CaptureSurvey.{CaptureSurvey}
+use Rattle.rtk_plan.specs.AlikeChannels.{channel_in_slot}
 use Rattle.rtk_plan.specs.SlotChannels.{is_slot_given}
 
 -- table
@@ -16,9 +16,6 @@ abbrev pub all_slots : List ℕ
 all_slots = 1 ∷ 2 ∷ 3 ∷ 4 ∷ 5 ∷ 6 ∷ 7 ∷ 8 ∷ 9 ∷ 10 ∷ 11 ∷ 12 ∷ 13 ∷ 14 ∷ 15 ∷ 16 ∷ 17 ∷ 18 ∷ 19 ∷ 20 ∷ 21 ∷ 22 ∷ 23 ∷ 24 ∷ 25 ∷ 26 ∷ 27 ∷ []
 
 -- ---- the option
-
-abbrev pub channel_in_slot : List (Option ℤ) → ℕ → Option ℤ
-channel_in_slot channels slot = if nat_le 1 slot && nat_le slot 27 then channel_at channels slot else None
 
 -- formula
 abbrev pub said_channel : ℤ → List ℕ
@@ -85,7 +82,3 @@ no_channel_words ss n kind channels =
 
 abbrev pub no_channel_line : List CaptureSurvey → ℕ → MsmKind → List (Option ℤ) → List ℕ
 no_channel_line ss n kind channels = if have_none ss n kind channels then no_channel_words ss n kind channels else []
-
-abbrev pub no_channel_lines : List CaptureSurvey → ℕ → MsmKind → Option GlonassView → List ℕ
-no_channel_lines ss n kind None = []
-no_channel_lines ss n kind (Some g) = no_channel_line ss n kind g.channels

@@ -14,6 +14,7 @@ use Rattle.rtk_survey.specs.declared.clock_chains.ClockSurvey.{ClockSurvey}
 use Rattle.rtk_survey.specs.declared.station.StationSurvey.{StationSurvey}
 use Rattle.rtk_survey.specs.declared.survey.CaptureSurvey.{CaptureSurvey}
 use Rattle.rtk_plan.specs.StationCaptures.{station_in}
+use Rattle.rtk_plan.specs.SystemFlags.{flag_of}
 use Rattle.rtk_plan.specs.declared.system_flags.SystemFlags.{SystemFlags}
 
 -- ---- the offsets of captures
@@ -85,9 +86,20 @@ is_clock_wrong ss n behind system =
     is_wrong_offset (ahead_in_captures ss n system (zero_ahead behind)) (clock_told ss n system behind)
 
 -- formula
--- the clocks of GLONASS are behind by the leap seconds
-abbrev pub glonass_behind : ℕ → ℕ
-glonass_behind leap_seconds = 1000 * leap_seconds
+-- the clocks of a system are behind GPS time by so many ms: those of GLONASS by the leap seconds, and those of others, as
+-- a survey has them, by nothing
+abbrev pub behind_of : ℕ → System → ℕ
+behind_of leap_seconds Gps = 0
+behind_of leap_seconds Glonass = 1000 * leap_seconds
+behind_of leap_seconds Galileo = 0
+behind_of leap_seconds Beidou = 0
+behind_of leap_seconds Qzss = 0
+behind_of leap_seconds Sbas = 0
+behind_of leap_seconds Navic = 0
+
+-- the clocks of a system are right, by these leap seconds
+abbrev pub is_clock_right : List CaptureSurvey → ℕ → ℕ → System → Bool
+is_clock_right ss n leap_seconds system = not (is_clock_wrong ss n (behind_of leap_seconds system) system)
 
 -- table
 -- the systems whose clocks are not wrong. That of GPS times the chains
@@ -95,12 +107,12 @@ abbrev pub systems_with_clocks : List CaptureSurvey → ℕ → ℕ → SystemFl
 systems_with_clocks ss n leap_seconds =
     record {
       gps = true;
-      glonass = not (is_clock_wrong ss n (glonass_behind leap_seconds) Glonass);
-      galileo = not (is_clock_wrong ss n 0 Galileo);
-      beidou = not (is_clock_wrong ss n 0 Beidou);
-      qzss = not (is_clock_wrong ss n 0 Qzss);
-      sbas = not (is_clock_wrong ss n 0 Sbas);
-      navic = not (is_clock_wrong ss n 0 Navic);
+      glonass = is_clock_right ss n leap_seconds Glonass;
+      galileo = is_clock_right ss n leap_seconds Galileo;
+      beidou = is_clock_right ss n leap_seconds Beidou;
+      qzss = is_clock_right ss n leap_seconds Qzss;
+      sbas = is_clock_right ss n leap_seconds Sbas;
+      navic = is_clock_right ss n leap_seconds Navic;
     }
 
 -- ---- the lines
@@ -109,8 +121,16 @@ abbrev pub told_clock_line : List CaptureSurvey → ℕ → ℕ → System → L
 told_clock_line ss n behind system =
     clock_line_of (letter_of system) (clocks_compared ss n system) (clock_told ss n system behind)
 
--- the systems whose clocks differ from those of their chains
-unfoldable pub told_clock_lines : List CaptureSurvey → ℕ → ℕ → List ℕ
-told_clock_lines ss n leap_seconds =
-    told_clock_line ss n (glonass_behind leap_seconds) Glonass ++ told_clock_line ss n 0 Galileo ++ told_clock_line ss n 0 Beidou
-    ++ told_clock_line ss n 0 Qzss ++ told_clock_line ss n 0 Sbas ++ told_clock_line ss n 0 Navic
+-- the same of a system that is asked for
+abbrev pub asked_clock_line : SystemFlags → List CaptureSurvey → ℕ → ℕ → System → List ℕ
+asked_clock_line asked ss n leap_seconds system =
+    if flag_of asked system then told_clock_line ss n (behind_of leap_seconds system) system else []
+
+-- table
+-- the systems whose clocks are compared with those of GPS, in the order of a file
+abbrev pub compared_systems : List System
+compared_systems = Glonass ∷ Galileo ∷ Beidou ∷ Qzss ∷ Sbas ∷ Navic ∷ []
+
+-- the systems among those that are asked for whose clocks differ from those of their chains
+unfoldable pub told_clock_lines : SystemFlags → List CaptureSurvey → ℕ → ℕ → List ℕ
+told_clock_lines asked ss n leap_seconds = flat_map (asked_clock_line asked ss n leap_seconds) compared_systems

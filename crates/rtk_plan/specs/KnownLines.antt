@@ -11,7 +11,7 @@ use Rattle.rtk_obs.specs.AnyCode.{system_of, place_of}
 use Rattle.rtk_obs.specs.Code.{name_of, all_codes}
 use Rattle.rtk_obs.specs.declared.any_code.AnyCode.{AnyCode}
 use Rattle.rtk_obs.specs.declared.code.Code.{Code}
-use Rattle.rtk_setup.specs.Setup.{taken_by}
+use Rattle.rtk_setup.specs.Setup.{SetupView, taken_by, takes_1004, lists_system}
 use Rattle.rtk_survey.specs.Counting.{shown_count}
 use Rattle.rtk_survey.specs.Placing.{placed}
 use Rattle.rtk_survey.specs.declared.equipment.Equipment.{Equipment}
@@ -19,15 +19,18 @@ use Rattle.rtk_survey.specs.declared.span.Span.{Span}
 use Rattle.rtk_survey.specs.declared.survey.CaptureSurvey.{CaptureSurvey}
 use Rattle.rtk_survey.specs.declared.tellings.Told.{Told}
 use Rattle.rtk_plan.specs.CaptureNames.{capture_name, lines_by}
-use Rattle.rtk_plan.specs.ChannelWords.{no_channel_lines}
+use Rattle.rtk_plan.specs.ClockOffsets.{told_clock_lines}
 use Rattle.rtk_plan.specs.FewPhases.{has_few_phases}
+use Rattle.rtk_plan.specs.LeapLines.{other_leap_lines}
 use Rattle.rtk_plan.specs.Linking.{places_of}
-use Rattle.rtk_plan.specs.Lists.{date_line, undated_line, stray_line, capture_line, name_line, msm_lines, doppler_line, sbas_line, all_unread}
+use Rattle.rtk_plan.specs.Lists.{date_line, undated_line, stray_line, capture_line, name_line, obs_1004_line, msm_lines, doppler_line, sbas_line, all_unread}
 use Rattle.rtk_plan.specs.Positions.{no_position_line}
 use Rattle.rtk_plan.specs.Reported.{late_of}
 use Rattle.rtk_plan.specs.SpanLine.{span_line}
 use Rattle.rtk_plan.specs.StationCaptures.{dates_in, told_in, passed_over_in}
 use Rattle.rtk_plan.specs.TextsLeftOut.{texts_left_out}
+use Rattle.rtk_plan.specs.ToldChannels.{told_channel_lines}
+use Rattle.rtk_plan.specs.UncheckedSystems.{unchecked_system_lines}
 use Rattle.rtk_plan.specs.WrittenFile.{written_span, gap_lines}
 use Rattle.rtk_plan.specs.declared.known_lines.Known.{Known}
 use Rattle.rtk_plan.specs.declared.planning.Plan.{Plan}
@@ -118,13 +121,21 @@ few_phases_lines ss station kind cs = flat_map (few_phases_line_at ss station ki
 abbrev pub stray_lines : List (Bor (List ℕ)) → ℕ → List ℕ → List ℕ
 stray_lines names epoch places = flat_map (λ place. stray_line epoch (capture_name names place)) places
 
+-- the systems whose clocks differ from those of their chains, those of which no clock is compared, and the captures that
+-- tell other leap seconds
+abbrev pub clock_lines_of : List (Bor (List ℕ)) → List CaptureSurvey → Plan → List ℕ
+clock_lines_of names ss plan =
+    told_clock_lines plan.asked ss plan.setup.station plan.leap_seconds ++ unchecked_system_lines plan.setup.head.listed ss plan.setup.station
+    ++ other_leap_lines names plan.setup.station ss plan.setup.head.glonass
+
 -- everything before the line of late messages
 unfoldable pub lines_before_late : List (Bor (List ℕ)) → List CaptureSurvey → Plan → Equipment → List ℕ
 lines_before_late names ss plan told =
     undated_lines plan.span.source names plan.captures.items
     ++ all_other_dates names plan.setup.station plan.setup.near ss
+    ++ clock_lines_of names ss plan
     ++ few_phases_lines ss plan.setup.station plan.setup.kinds.gps plan.setup.head.listed
-    ++ no_channel_lines ss plan.setup.station plan.setup.kinds.glonass plan.setup.head.glonass
+    ++ told_channel_lines ss plan.setup.station plan.setup.kinds.glonass plan.own_channels plan.setup.head.glonass
     ++ texts_left_out told
     ++ stray_lines names plan.span.until plan.strays.items
 
@@ -162,16 +173,22 @@ epochs_lines_of names cs link = flat_map (epochs_line_at names cs) link
 abbrev pub epochs_lines : List (Bor (List ℕ)) → List StationCapture → List (List ℕ) → List ℕ
 epochs_lines names cs links = flat_map (epochs_lines_of names cs) links
 
--- the observations that are not taken, if these messages are and this is the MSM of GPS
-unfoldable pub not_taken : List CaptureSurvey → ℕ → MsmKind → Accepted → List ℕ
-not_taken ss station kind taken =
-    msm_lines taken ss station ++ doppler_line kind ss station ++ sbas_line ss station ++ all_unread taken ss
+-- the observations of a station that are not taken, if these messages are; the flags say whether 1004 are, and
+-- satellites of SBAS in them
+unfoldable pub not_taken_by : Accepted → Bool → Bool → List CaptureSurvey → ℕ → List ℕ
+not_taken_by taken has_1004 has_sbas ss station =
+    obs_1004_line has_1004 ss station ++ msm_lines taken ss station ++ doppler_line taken ss station ++ sbas_line has_sbas ss station
+    ++ all_unread taken ss
+
+-- those that a conversion does not take
+abbrev pub not_taken : List CaptureSurvey → SetupView → List ℕ
+not_taken ss s = not_taken_by (taken_by s) (takes_1004 s) (lists_system s.head.listed Sbas) ss s.station
 
 unfoldable pub lines_behind_late : List (Bor (List ℕ)) → List CaptureSurvey → Plan → List ℕ
 lines_behind_late names ss plan =
     skipped_lines names plan.captures.items plan.skipped.items
     ++ epochs_lines names plan.captures.items (places_of plan.links.items)
-    ++ not_taken ss plan.setup.station plan.setup.kinds.gps (taken_by plan.setup)
+    ++ not_taken ss plan.setup
 
 -- ---- the links with a stray epoch
 

@@ -1,14 +1,18 @@
+pub mod AlikeChannels
 pub mod CaptureEquipment
 pub mod CaptureNames
 pub mod Causes
 pub mod ChannelWords
 pub mod ChosenStation
+pub mod ClockOffsets
 pub mod FewPhases
+pub mod FoundSeconds
 pub mod Joining
 pub mod Kept
 pub mod KnownLines
 pub mod LabelCommand
 pub mod Laws
+pub mod LeapLines
 pub mod Linking
 pub mod Lists
 pub mod Plan
@@ -17,6 +21,7 @@ pub mod Reach
 pub mod RefusalLists
 pub mod Reported
 pub mod SaidCommand
+pub mod SatelliteMarks
 pub mod SlotChannels
 pub mod Sources
 pub mod SpanLine
@@ -26,6 +31,8 @@ pub mod Stray
 pub mod SystemFlags
 pub mod SystemMsms
 pub mod TextsLeftOut
+pub mod ToldChannels
 pub mod ToldLabel
+pub mod UncheckedSystems
 pub mod Values
 pub mod WrittenFile

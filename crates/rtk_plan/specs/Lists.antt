@@ -10,9 +10,8 @@ use Rattle.rtk_message.specs.Accepted.{accepts}
 use Rattle.rtk_message.specs.Systems.{number_of_kind}
 use Rattle.rtk_message.specs.ShellText.{sh_quoted}
 use Rattle.rtk_survey.specs.declared.survey.CaptureSurvey.{CaptureSurvey}
-use Rattle.rtk_plan.specs.ChosenStation.{observes}
-use Rattle.rtk_plan.specs.StationCaptures.{epochs_heard, station_in}
-use Rattle.rtk_plan.specs.Values.{held_in_captures, messages_in_captures, others_in_captures, sbas_in_captures}
+use Rattle.rtk_plan.specs.StationCaptures.{epochs_heard, is_observed_in, station_in}
+use Rattle.rtk_plan.specs.Values.{held_in_captures, messages_in_captures, obs_1004_in_captures, others_in_captures, sbas_in_captures}
 use Rattle.rtk_obs.specs.declared.time.TheConstants.{LAST_MS}
 use Rattle.rtk_survey.specs.Telling.{moment_of}
 use Rattle.rtk_survey.specs.declared.date_message.DateMessage.TheVariants.{Utc}
@@ -133,16 +132,23 @@ msm_lines taken ss station =
     msm_line taken ss station Msm4 ++ msm_line taken ss station Msm5 ++ msm_line taken ss station Msm6 ++ msm_line taken ss station Msm7
 
 -- formula
+-- the Doppler of messages of a number, if they are taken
+abbrev pub doppler_line_of : Accepted → ℕ → ℕ → List ℕ
+doppler_line_of taken number count = if accepts taken number then count_line_of (codes " not in the file: Doppler of ") number count else []
+
 -- the Doppler of the messages of an MSM
-abbrev pub doppler_of : MsmKind → List CaptureSurvey → ℕ → List ℕ
-doppler_of kind ss station = count_line_of (codes " not in the file: Doppler of ") (number_of_kind kind) (messages_in_captures ss station kind)
+abbrev pub doppler_of : Accepted → List CaptureSurvey → ℕ → MsmKind → List ℕ
+doppler_of taken ss station kind = doppler_line_of taken (number_of_kind kind) (messages_in_captures ss station kind)
 
 -- formula
 -- 1075 and 1077 have Doppler
-abbrev pub doppler_line : MsmKind → List CaptureSurvey → ℕ → List ℕ
-doppler_line Msm4 ss station = []
-doppler_line Msm6 ss station = []
-doppler_line kind ss station = doppler_of kind ss station
+unfoldable pub doppler_line : Accepted → List CaptureSurvey → ℕ → List ℕ
+doppler_line taken ss station = doppler_of taken ss station Msm5 ++ doppler_of taken ss station Msm7
+
+-- formula
+-- the 1004 of a station, unless they are taken
+abbrev pub obs_1004_line : Bool → List CaptureSurvey → ℕ → List ℕ
+obs_1004_line is_taken ss station = if is_taken then [] else count_line_of (codes " not in the file: GPS ") 1004 (obs_1004_in_captures ss station)
 
 -- formula
 -- a first epoch that a message tells, if it can be written
@@ -159,14 +165,14 @@ epochs_text epochs = codes ": " ++ decimal epochs ++ codes " epochs\n"
 -- a station with observations in a capture
 abbrev pub station_line : CaptureSurvey → ℕ → List ℕ → List ℕ
 station_line s station name =
-    if observes station s then
+    if is_observed_in station s then
     codes " station " ++ decimal station ++ words_and_name (codes " in ") name ++ epochs_text (epochs_heard (station_in station s))
     else []
 
 -- formula
--- the 1004 of a station that have satellites of SBAS
-abbrev pub sbas_line : List CaptureSurvey → ℕ → List ℕ
-sbas_line ss station = count_line_of (codes " not in the file: SBAS of ") 1004 (sbas_in_captures ss station)
+-- the 1004 of a station that have satellites of SBAS, unless these are taken
+abbrev pub sbas_line : Bool → List CaptureSurvey → ℕ → List ℕ
+sbas_line is_taken ss station = if is_taken then [] else count_line_of (codes " not in the file: SBAS of ") 1004 (sbas_in_captures ss station)
 
 -- formula
 -- a date that is to come, and its capture

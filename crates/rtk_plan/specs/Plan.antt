@@ -18,7 +18,10 @@ use Rattle.rtk_plan.specs.declared.reach.Base.TheVariants.{Given, Told}
 use Rattle.rtk_plan.specs.StationCaptures.{capture_of}
 use Rattle.rtk_plan.specs.Sources.{dated_span_of}
 use Rattle.rtk_plan.specs.Stray.{strays}
-use Rattle.rtk_plan.specs.SlotChannels.{IsGlonassFound}
+use Rattle.rtk_plan.specs.ClockOffsets.{systems_with_clocks}
+use Rattle.rtk_plan.specs.FoundSeconds.{asks_glonass, AreSecondsOfSetup}
+use Rattle.rtk_plan.specs.SlotChannels.{AreSecondsChosen, IsGlonassFound}
+use Rattle.rtk_plan.specs.SystemFlags.{in_both, flags_listed}
 use Rattle.rtk_plan.specs.SystemMsms.{kinds_listed}
 use Rattle.rtk_plan.specs.Values.{kinds_in_links, codes_in_captures}
 use Rattle.rtk_plan.specs.declared.wanted.Wanted.{Wanted}
@@ -38,6 +41,22 @@ kinds_found (Some named) ss links station = all_of named
 abbrev pub codes_chosen : {A : Type 0} → Option (Vec AnyCode A) → List CaptureSurvey → ℕ → SystemFlags → SystemKinds → List AnyCode
 codes_chosen None ss station systems kinds = codes_in_captures ss station systems kinds
 codes_chosen (Some named) ss station systems kinds = named.items
+
+-- the systems that are wanted, but for those whose clocks are wrong by these leap seconds, or else by those of the table
+-- at this moment
+abbrev pub AreSystemsTaken : List CaptureSurvey → ℕ → SystemFlags → Option ℕ → ℕ → SystemFlags → Type 0
+AreSystemsTaken ss station wanted seconds near systems =
+    (n : ℕ) × AreSecondsChosen seconds near n × (systems ≡ in_both wanted (systems_with_clocks ss station n))
+
+-- the codes that are named; else those of the systems that are taken
+abbrev pub AreCodesChosen : Wanted → List CaptureSurvey → ℕ → Option ℕ → ℕ → SystemKinds → List AnyCode → Type 0
+AreCodesChosen w ss station seconds near kinds listed =
+    (systems : SystemFlags) × AreSystemsTaken ss station w.systems seconds near systems × (listed ≡ codes_chosen w.codes ss station systems kinds)
+
+-- the systems that are asked for: those that are wanted; if codes are named those of the codes that are listed
+abbrev pub systems_asked : {A : Type 0} → Option (Vec AnyCode A) → SystemFlags → List AnyCode → SystemFlags
+systems_asked None wanted listed = wanted
+systems_asked (Some named) wanted listed = flags_listed listed
 
 -- formula
 -- the marker that is named; else the station's number in four digits
@@ -88,15 +107,22 @@ IsSpanOf given cs station span =
 abbrev pub captures_of : List CaptureSurvey → ℕ → List StationCapture
 captures_of ss station = map (capture_of station) ss
 
+-- the leap seconds of the setup of a conversion of a station near this moment
+abbrev pub AreLeapSecondsOf : List CaptureSurvey → Wanted → ℕ → ℕ → Option ℕ → Type 0
+AreLeapSecondsOf ss w station near seconds =
+    (span : DatedSpan) × IsSpanOf w.near (captures_of ss station) station span
+    × AreSecondsOfSetup w.leap_seconds (asks_glonass w.codes w.systems) ss station near span.from span.until seconds
+
 -- the setup of a conversion of captures with these surveys on these links, by these words and at this time of
 -- making: each value is named or found
 pub record IsSetupFor (ss : List CaptureSurvey) (links : List (List ℕ)) (w : Wanted) (made : ℕ) (s : SetupView) : Type 0 where
   pub station : IsChosenStation ss w.station s.station
   pub kinds : s.kinds ≡ kinds_listed (kinds_found w.msm ss links s.station) s.head.listed
-  pub listed : s.head.listed ≡ codes_chosen w.codes ss s.station w.systems (kinds_found w.msm ss links s.station)
+  pub listed : AreCodesChosen w ss s.station s.leap_seconds s.near (kinds_found w.msm ss links s.station) s.head.listed
   pub marker : s.head.marker ≡ marker_chosen w.marker s.station
   pub made_at : s.head.made ≡ made
   pub window : s.window ≡ w.window
-  pub glonass : IsGlonassFound ss s.station (kinds_found w.msm ss links s.station) s.head.listed w.channels w.leap_seconds s.near s.head.glonass
-  pub leap_seconds : s.leap_seconds ≡ w.leap_seconds
+  pub glonass : IsGlonassFound ss s.station (kinds_found w.msm ss links s.station) s.head.listed w.channels s.leap_seconds s.near s.head.glonass
+  pub leap_seconds : AreLeapSecondsOf ss w s.station s.near s.leap_seconds
+  pub no_1012 : s.takes_1012 ≡ false
   pub near_by : IsNearOf w.near (captures_of ss s.station) s.near

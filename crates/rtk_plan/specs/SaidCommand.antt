@@ -51,15 +51,24 @@ code_names separator (c ∷ cs) = separator ∷ said_code c ++ code_names 44 cs
 unfoldable pub value_words : SetupView → List ℕ
 value_words s = codes " --codes" ++ code_names 32 s.head.listed ++ kinds_words s.kinds s.head.listed ++ codes " --window " ++ decimal s.window
 
+-- formula
+abbrev pub leap_option : ℕ → List ℕ
+leap_option n = codes " --leap-seconds " ++ decimal n
+
 -- the option of leap seconds, if they are given
 abbrev pub leap_words : Option ℕ → List ℕ
 leap_words None = []
-leap_words (Some n) = codes " --leap-seconds " ++ decimal n
+leap_words (Some n) = leap_option n
+
+-- the option of 1012, if they are asked for
+abbrev pub words_of_1012 : Bool → List ℕ
+words_of_1012 is_asked = if is_asked then codes " --with-1012" else []
 
 -- formula
 -- the command with its options
 unfoldable pub convert_words : SetupView → List ℕ
-convert_words s = station_words s ++ marker_words s.head ++ value_words s ++ glonass_words s.head.glonass ++ leap_words s.leap_seconds
+convert_words s =
+    station_words s ++ marker_words s.head ++ value_words s ++ glonass_words s.head.glonass ++ leap_words s.leap_seconds ++ words_of_1012 s.takes_1012
 
 -- formula
 -- names of files, each after a blank

@@ -17,8 +17,8 @@ use Rattle.rtk_survey.specs.Counting.{shown_count}
 use Rattle.rtk_survey.specs.declared.station.StationSurvey.{StationSurvey}
 use Rattle.rtk_survey.specs.declared.survey.CaptureSurvey.{CaptureSurvey}
 use Rattle.rtk_survey.specs.declared.system_msm.SystemMsm.{SystemMsm}
+use Rattle.rtk_plan.specs.AlikeChannels.{is_alike}
 use Rattle.rtk_plan.specs.StationCaptures.{station_in}
-use Rattle.rtk_plan.specs.Values.{or_else}
 
 -- ---- slots that have a value
 
@@ -73,15 +73,6 @@ abbrev pub IsToldField : (ℕ → ℕ) → ℕ → Option ℕ → Type 0
 IsToldField counts fields None = (f : ℕ) → f < fields → counts f ≡ 0
 IsToldField counts fields (Some field) = IsMostTold counts fields field
 
--- constant
--- the field of a slot, 0 to 13: messages of the station tell it, or else 1020
-pub record IsSlotField (ss : List CaptureSurvey) (n slot : ℕ) (told : Option ℕ) : Type 0 where
-  pub own : Option ℕ
-  pub other : Option ℕ
-  pub own_told : IsToldField (count_told ss (Some n) slot) 14 own
-  pub other_told : IsToldField (count_told ss None slot) 14 other
-  pub told_is : told ≡ or_else own other
-
 -- formula
 -- a field is 7 more than the channel
 abbrev pub channel_of_field : ℕ → ℤ
@@ -92,21 +83,48 @@ channel_if is_given None = None
 channel_if false (Some field) = None
 channel_if true (Some field) = Some (channel_of_field field)
 
--- the channel of a slot: none, if no satellite has a value there or if none is told
-abbrev pub IsChannelFound : List CaptureSurvey → ℕ → MsmKind → ℕ → Option ℤ → Type 0
-IsChannelFound ss n kind slot channel = (told : Option ℕ) × IsSlotField ss n slot told × (channel ≡ channel_if (is_slot_given ss n kind slot) told)
+-- constant
+-- the channel that these messages tell most often of a slot, by the fields 0 to 13: none, if no satellite has a value
+-- there or if none is told
+abbrev pub IsToldChannel : List CaptureSurvey → ℕ → MsmKind → Option ℕ → ℕ → Option ℤ → Type 0
+IsToldChannel ss n kind source slot channel =
+    (told : Option ℕ) × IsToldField (count_told ss source slot) 14 told × (channel ≡ channel_if (is_slot_given ss n kind slot) told)
+
+-- each slot has the channel that messages of the station tell
+abbrev pub HasOwnChannels : List CaptureSurvey → ℕ → MsmKind → List (Option ℤ) → Type 0
+HasOwnChannels ss n kind channels = (slot : ℕ) → IsSlot slot → IsToldChannel ss n kind (Some n) slot (channel_at channels slot)
+
+pub record AreOwnChannels (ss : List CaptureSurvey) (n : ℕ) (kind : MsmKind) (channels : List (Option ℤ)) : Type 0 where
+  pub good : AreChannels channels
+  pub each : HasOwnChannels ss n kind channels
+
+abbrev pub channel_or : Option ℤ → Option ℤ → Option ℤ
+channel_or None other = other
+channel_or (Some k) other = Some k
+
+-- the channel of the station's own messages goes before that of 1020, but not if it is alike at more slots than may share it
+abbrev pub chosen_channel : Bool → Option ℤ → Option ℤ → Option ℤ
+chosen_channel true own other = channel_or other own
+chosen_channel false own other = channel_or own other
+
+-- the channel of a slot, by those that messages of the station tell and by that of 1020
+abbrev pub IsChannelFound : List CaptureSurvey → ℕ → MsmKind → List (Option ℤ) → ℕ → Option ℤ → Type 0
+IsChannelFound ss n kind own slot channel =
+    (other : Option ℤ) × IsToldChannel ss n kind None slot other × (channel ≡ chosen_channel (is_alike own slot) (channel_at own slot) other)
 
 -- other slots than this one keep their channels: before, after
 abbrev pub KeepsOtherSlots : ℕ → List (Option ℤ) → List (Option ℤ) → Type 0
 KeepsOtherSlots slot old new = (s : ℕ) → IsSlot s → s ≢ slot → channel_at new s ≡ channel_at old s
 
 -- each slot has the channel that is found
-abbrev pub HasChannelsFound : List CaptureSurvey → ℕ → MsmKind → List (Option ℤ) → Type 0
-HasChannelsFound ss n kind channels = (slot : ℕ) → IsSlot slot → IsChannelFound ss n kind slot (channel_at channels slot)
+abbrev pub HasChannelsFound : List CaptureSurvey → ℕ → MsmKind → List (Option ℤ) → List (Option ℤ) → Type 0
+HasChannelsFound ss n kind own channels = (slot : ℕ) → IsSlot slot → IsChannelFound ss n kind own slot (channel_at channels slot)
 
 pub record AreChannelsFound (ss : List CaptureSurvey) (n : ℕ) (kind : MsmKind) (channels : List (Option ℤ)) : Type 0 where
   pub good : AreChannels channels
-  pub each : HasChannelsFound ss n kind channels
+  pub own : List (Option ℤ)
+  pub own_are : AreOwnChannels ss n kind own
+  pub each : HasChannelsFound ss n kind own channels
 
 -- ---- what is told of GLONASS
 

@@ -151,6 +151,14 @@ messages_of_station kind (Some t) = (msm_part t.msm kind).messages
 abbrev pub messages_in_captures : List CaptureSurvey → ℕ → MsmKind → ℕ
 messages_in_captures ss n kind = shown_count (sum_by (λ s. messages_of_station kind (station_in n s)) ss)
 
+abbrev pub obs_1004_of_station : Option StationSurvey → ℕ
+obs_1004_of_station None = 0
+obs_1004_of_station (Some t) = t.counts.obs_1004
+
+-- how many 1004 of a station captures have
+abbrev pub obs_1004_in_captures : List CaptureSurvey → ℕ → ℕ
+obs_1004_in_captures ss n = shown_count (sum_by (λ s. obs_1004_of_station (station_in n s)) ss)
+
 abbrev pub sbas_of_station : Option StationSurvey → ℕ
 sbas_of_station None = 0
 sbas_of_station (Some t) = t.counts.sbas_1004

@@ -6,9 +6,6 @@ use Rattle.rtk_plan.specs.SaidCommand.{time_text}
 use Rattle.rtk_plan.specs.declared.written_file.Step.{Step}
 use Rattle.rtk_plan.specs.declared.written_file.WrittenFile.{WrittenFile}
 
-abbrev pub is_satellite_mark : Bool → Bool
-is_satellite_mark mark = mark
-
 -- ---- epochs
 
 abbrev pub step_if_both : Option ℕ → Option ℕ → Option Step

@@ -3,18 +3,19 @@
 //! If memory is refused, a first part of what is put may stand there.
 
 ghost use Rattle.std.specs.Prelude.{◌≡◌, ◌++◌, flat_map, OnOk};
+ghost use Rattle.rtk_plan.specs.AlikeChannels.{channel_in_slot};
 ghost use Rattle.rtk_plan.specs.ChannelWords as spec;
 
+use crate::alike_channels::channel_in_slot;
 use crate::slot_channels::is_slot_given;
 use rtk_message::{MsmKind, put_number};
 use rtk_obs::{Channel, Channels, two_digits};
 use rtk_rinex::Glonass;
-use rtk_setup::Setup;
 use rtk_survey::CaptureSurvey;
 use std::alloc::AllocError;
 
 /// The slots of GLONASS.
-const SLOTS: [u8; 27] = [
+pub(crate) const SLOTS: [u8; 27] = [
     1, 2, 3, 4, 5, 6, 7, 8, 9, 10, 11, 12, 13, 14, 15, 16, 17, 18, 19, 20, 21, 22, 23, 24, 25, 26,
     27,
 ];
@@ -25,17 +26,8 @@ const TO_GIVE: &[u8] =
 
 // ---- the option
 
-fn channel_in_slot(channels: &Channels, slot: u8) -> Option<Channel>
-    ensures { result ≡ spec.channel_in_slot channels.now slot }
-{
-    if 1 <= slot && slot <= 27 {
-        channels.channel(slot)
-    } else {
-        None
-    }
-}
-
-fn put_channel(line: &mut Vec<u8>, channel: Channel) -> Result<(), AllocError>
+/// Appends a channel.
+pub(crate) fn put_channel(line: &mut Vec<u8>, channel: Channel) -> Result<(), AllocError>
     ensures { OnOk result (line.new.items ≡ line.old.items ++ spec.said_channel channel) }
 {
     let number = channel.number();
@@ -71,14 +63,14 @@ fn put_slot_of(
     separator: u8,
     slot: u8,
 ) -> Result<(), AllocError>
-    ensures { OnOk result (line.new.items ≡ line.old.items ++ spec.said_slot separator slot (spec.channel_in_slot channels.now slot)) }
+    ensures { OnOk result (line.new.items ≡ line.old.items ++ spec.said_slot separator slot (channel_in_slot channels.now slot)) }
 {
     put_slot(line, separator, slot, channel_in_slot(channels, slot))?;
     Ok(())
 }
 
 fn separator_after(channels: &Channels, separator: u8, slot: u8) -> u8
-    ensures { result ≡ spec.separator_after separator (spec.channel_in_slot channels.now slot) }
+    ensures { result ≡ spec.separator_after separator (channel_in_slot channels.now slot) }
 {
     match channel_in_slot(channels, slot) {
         Some(_) => b',',
@@ -213,7 +205,8 @@ fn put_no_channel_words(
     Ok(())
 }
 
-fn put_no_channel_line(
+/// Appends the slots that have a value and no channel, if there are some.
+pub(crate) fn put_no_channel_line(
     lines: &mut Vec<u8>,
     surveys: &[CaptureSurvey],
     station: u16,
@@ -227,40 +220,4 @@ fn put_no_channel_line(
     } else {
         Ok(())
     }
-}
-
-// Appends the slots that have a value and no channel, if this is told of GLONASS.
-fn put_no_channel_if(
-    lines: &mut Vec<u8>,
-    surveys: &[CaptureSurvey],
-    station: u16,
-    kind: MsmKind,
-    glonass: Option<Glonass>,
-) -> Result<(), AllocError>
-    ensures { OnOk result (lines.new.items ≡ lines.old.items ++ spec.no_channel_lines surveys.now station kind glonass) }
-{
-    match glonass {
-        Some(glonass) => { put_no_channel_line(lines, surveys, station, kind, &glonass.channels()) }
-        None => Ok(()),
-    }
-}
-
-/// Appends the slots of a conversion that have a value and no channel.
-pub(crate) fn put_no_channel_in(
-    lines: &mut Vec<u8>,
-    surveys: &[CaptureSurvey],
-    setup: &Setup,
-) -> Result<(), AllocError>
-    ensures { OnOk result (lines.new.items ≡ lines.old.items
-        ++ spec.no_channel_lines surveys.now setup.now.station setup.now.kinds.glonass setup.now.head.glonass) }
-{
-    let kind = setup.kinds().glonass;
-    put_no_channel_if(
-        lines,
-        surveys,
-        setup.station(),
-        kind,
-        setup.head().glonass(),
-    )?;
-    Ok(())
 }

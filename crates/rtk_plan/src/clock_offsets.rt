@@ -5,12 +5,10 @@ ghost use Rattle.std.specs.Option.{option_copied};
 ghost use Rattle.rtk_plan.specs.ClockOffsets as spec;
 
 use crate::system_flags::SystemFlags;
-use crate::system_msms::system_letter;
 use rtk_message::System;
 use rtk_obs::WEEK_MS;
 use rtk_survey::{
-    CaptureSurvey, ClockOffset, ClockSurvey, StationSurvey, compared_clocks, put_clock_line,
-    told_offset,
+    CaptureSurvey, ClockOffset, ClockSurvey, StationSurvey, compared_clocks, told_offset,
 };
 use std::alloc::{AllocError, Global};
 
@@ -37,7 +35,8 @@ fn offsets_of_station(system: System, station: Option<&StationSurvey>) -> &[Cloc
     }
 }
 
-fn offsets_in_capture(station: u16, system: System, survey: &CaptureSurvey) -> &[ClockOffset]
+/// The offsets of a system within the chains of a capture.
+pub(crate) fn offsets_in_capture(station: u16, system: System, survey: &CaptureSurvey) -> &[ClockOffset]
     ensures { result.now ≡ spec.offsets_in_capture station system survey.now }
 {
     offsets_of_station(system, survey.contents.stations.get(&station))
@@ -53,7 +52,8 @@ fn count_if_ahead(ahead: u32, offset: ClockOffset) -> u64
     }
 }
 
-fn ahead_in_list(ahead: u32, offsets: &[ClockOffset]) -> u64
+/// How many clocks of a list are ahead by this.
+pub(crate) fn ahead_in_list(ahead: u32, offsets: &[ClockOffset]) -> u64
     ensures { result ≡ spec.ahead_in_list ahead offsets.now }
 {
     let mut count = 0u64;
@@ -75,13 +75,15 @@ fn ahead_in_captures(surveys: &[CaptureSurvey], station: u16, system: System, ah
     count
 }
 
-fn gps_ahead(behind: u32, ahead: u32) -> u32
+/// The offset of GPS time, in ms, of clocks that are so much behind it.
+pub(crate) fn gps_ahead(behind: u32, ahead: u32) -> u32
     ensures { result ≡ spec.gps_ahead behind ahead }
 {
     ((u64::from(ahead) + u64::from(behind)) % WEEK_MS) as u32
 }
 
-fn zero_ahead(behind: u32) -> u32
+/// The offset of clocks that are behind GPS time by what they should be.
+pub(crate) fn zero_ahead(behind: u32) -> u32
     requires { behind < 604_800_000 }
     ensures { result ≡ spec.zero_ahead behind }
 {
@@ -152,8 +154,8 @@ fn total_offsets(
     Ok(totals)
 }
 
-// The offset that is told of a system.
-fn clock_told(
+/// The offset that is told of a system.
+pub(crate) fn clock_told(
     alloc: Global,
     surveys: &[CaptureSurvey],
     station: u16,
@@ -166,7 +168,8 @@ fn clock_told(
     Ok(told_offset(totals.as_slice()))
 }
 
-fn clocks_compared(surveys: &[CaptureSurvey], station: u16, system: System) -> u64
+/// How many clocks of a system are compared.
+pub(crate) fn clocks_compared(surveys: &[CaptureSurvey], station: u16, system: System) -> u64
     ensures { result ≡ spec.clocks_compared surveys.now station system }
 {
     let mut count = 0u64;
@@ -191,7 +194,8 @@ fn is_wrong_offset(right: u64, told: Option<ClockOffset>) -> bool
     }
 }
 
-fn is_clock_wrong(
+/// Have more clocks an offset of 500 ms or more than are right?
+pub(crate) fn is_clock_wrong(
     alloc: Global,
     surveys: &[CaptureSurvey],
     station: u16,
@@ -206,14 +210,37 @@ fn is_clock_wrong(
     Ok(is_wrong_offset(right, told))
 }
 
-fn glonass_behind(leap_seconds: u8) -> u32
-    ensures value { result ≡ spec.glonass_behind leap_seconds }
+/// The clocks of a system are behind GPS time by so many ms: those of GLONASS by the leap seconds.
+pub(crate) fn behind_of(leap_seconds: u8, system: System) -> u32
+    ensures value { result ≡ spec.behind_of leap_seconds system }
     ensures bound { result < 604_800_000 }
 {
-    1000 * u32::from(leap_seconds)
+    match system {
+        System::Glonass => 1000 * u32::from(leap_seconds),
+        System::Gps
+        | System::Galileo
+        | System::Beidou
+        | System::Qzss
+        | System::Sbas
+        | System::Navic => 0,
+    }
 }
 
-/// The systems whose clocks are not wrong, with so many leap seconds.
+// Are the clocks of a system right, by these leap seconds?
+fn is_clock_right(
+    alloc: Global,
+    surveys: &[CaptureSurvey],
+    station: u16,
+    leap_seconds: u8,
+    system: System,
+) -> Result<bool, AllocError>
+    ensures { IfOk result (λ right. right ≡ spec.is_clock_right surveys.now station leap_seconds system) }
+{
+    let behind = behind_of(leap_seconds, system);
+    Ok(!is_clock_wrong(alloc, surveys, station, behind, system)?)
+}
+
+/// The systems whose clocks are not wrong, by these leap seconds.
 pub(crate) fn systems_with_clocks(
     alloc: Global,
     surveys: &[CaptureSurvey],
@@ -222,52 +249,13 @@ pub(crate) fn systems_with_clocks(
 ) -> Result<SystemFlags, AllocError>
     ensures { IfOk result (λ systems. systems ≡ spec.systems_with_clocks surveys.now station leap_seconds) }
 {
-    let behind = glonass_behind(leap_seconds);
     Ok(SystemFlags {
         gps: true,
-        glonass: !is_clock_wrong(alloc, surveys, station, behind, System::Glonass)?,
-        galileo: !is_clock_wrong(alloc, surveys, station, 0, System::Galileo)?,
-        beidou: !is_clock_wrong(alloc, surveys, station, 0, System::Beidou)?,
-        qzss: !is_clock_wrong(alloc, surveys, station, 0, System::Qzss)?,
-        sbas: !is_clock_wrong(alloc, surveys, station, 0, System::Sbas)?,
-        navic: !is_clock_wrong(alloc, surveys, station, 0, System::Navic)?,
+        glonass: is_clock_right(alloc, surveys, station, leap_seconds, System::Glonass)?,
+        galileo: is_clock_right(alloc, surveys, station, leap_seconds, System::Galileo)?,
+        beidou: is_clock_right(alloc, surveys, station, leap_seconds, System::Beidou)?,
+        qzss: is_clock_right(alloc, surveys, station, leap_seconds, System::Qzss)?,
+        sbas: is_clock_right(alloc, surveys, station, leap_seconds, System::Sbas)?,
+        navic: is_clock_right(alloc, surveys, station, leap_seconds, System::Navic)?,
     })
-}
-
-// ---- the lines
-
-fn put_told_clock(
-    alloc: Global,
-    lines: &mut Vec<u8>,
-    surveys: &[CaptureSurvey],
-    station: u16,
-    behind: u32,
-    system: System,
-) -> Result<(), AllocError>
-    ensures { OnOk result (lines.new.items ≡ lines.old.items ++ spec.told_clock_line surveys.now station behind system) }
-{
-    let told = clock_told(alloc, surveys, station, system, behind)?;
-    let compared = clocks_compared(surveys, station, system);
-    put_clock_line(lines, system_letter(system), compared, told)?;
-    Ok(())
-}
-
-/// Appends the lines of the systems whose clocks differ from those of their chains.
-pub(crate) fn put_told_clocks(
-    alloc: Global,
-    lines: &mut Vec<u8>,
-    surveys: &[CaptureSurvey],
-    station: u16,
-    leap_seconds: u8,
-) -> Result<(), AllocError>
-    ensures { OnOk result (lines.new.items ≡ lines.old.items ++ spec.told_clock_lines surveys.now station leap_seconds) }
-{
-    let behind = glonass_behind(leap_seconds);
-    put_told_clock(alloc, lines, surveys, station, behind, System::Glonass)?;
-    put_told_clock(alloc, lines, surveys, station, 0, System::Galileo)?;
-    put_told_clock(alloc, lines, surveys, station, 0, System::Beidou)?;
-    put_told_clock(alloc, lines, surveys, station, 0, System::Qzss)?;
-    put_told_clock(alloc, lines, surveys, station, 0, System::Sbas)?;
-    put_told_clock(alloc, lines, surveys, station, 0, System::Navic)?;
-    Ok(())
 }

@@ -29,6 +29,27 @@ pub(crate) fn messages_in_captures(surveys: &[CaptureSurvey], station: u16, kind
     count
 }
 
+fn obs_1004_of_station(station: Option<&StationSurvey>) -> u64
+    ensures { result ≡ spec.obs_1004_of_station (option_copied station.entry) }
+{
+    match station {
+        Some(station) => station.counts.obs_1004,
+        None => 0,
+    }
+}
+
+/// How many 1004 of a station captures have.
+pub(crate) fn obs_1004_in_captures(surveys: &[CaptureSurvey], station: u16) -> u64
+    ensures { result ≡ spec.obs_1004_in_captures surveys.now station }
+{
+    let mut count = 0u64;
+    for survey in surveys {
+        let more = obs_1004_of_station(survey.contents.stations.get(&station));
+        count = count.saturating_add(more);
+    }
+    count
+}
+
 fn sbas_of_station(station: Option<&StationSurvey>) -> u64
     ensures { result ≡ spec.sbas_of_station (option_copied station.entry) }
 {

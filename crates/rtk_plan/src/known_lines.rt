@@ -3,22 +3,24 @@
 //! If memory is refused, a first part of what is put may stand there.
 
 ghost use Rattle.std.specs.Prelude.{◌≡◌, ◌++◌, IfOk, OnOk};
-ghost use Rattle.rtk_setup.specs.Setup.{taken_by};
 ghost use Rattle.rtk_plan.specs.KnownLines as spec;
 ghost use Rattle.rtk_plan.specs.Linking.{places_of};
 
 use crate::capture_lines::{put_epochs, put_other_dates, put_skipped, put_strays, put_undated};
 use crate::captures::Captures;
-use crate::channel_words::put_no_channel_in;
-use crate::message_lines::{put_doppler, put_msms, put_sbas, put_unread};
+use crate::clock_lines::put_told_clocks;
+use crate::leap_lines::put_other_leap_in;
+use crate::message_lines::{put_doppler, put_msms, put_obs_1004, put_sbas, put_unread};
 use crate::phase_lines::put_few_phases_in;
 use crate::planning::Plan;
 use crate::positions::put_no_position;
 use crate::reported::Reported;
 use crate::span_line::{DateSource, DatedSpan, put_span};
 use crate::texts_left_out::put_texts_left_out;
+use crate::told_channels::put_channels_in;
+use crate::unchecked_systems::put_unchecked;
 use crate::written_file::{Step, WrittenFile};
-use rtk_message::{Accepted, MsmKind, put_named};
+use rtk_message::{Accepted, put_named};
 use rtk_setup::{Counts, Setup};
 use rtk_survey::{CaptureSurvey, Equipment};
 use std::alloc::{AllocError, Global};
@@ -114,9 +116,30 @@ fn late_on_links(reported: &Reported, links: &[usize]) -> u64
     count
 }
 
+// Appends the systems of a plan whose clocks differ from those of their chains, those of which no clock is compared, and
+// the captures that tell other leap seconds.
+fn put_clocks_in(
+    alloc: Global,
+    lines: &mut Vec<u8>,
+    captures: &Captures<'_, '_>,
+    plan: &Plan,
+) -> Result<(), AllocError>
+    ensures { OnOk result (lines.new.items ≡ lines.old.items
+        ++ spec.clock_lines_of captures.now.names.now captures.now.surveys.now plan.now) }
+{
+    let surveys = captures.surveys;
+    let setup = &plan.setup;
+    let station = setup.station();
+    put_told_clocks(alloc, lines, plan.asked, surveys, station, plan.leap_seconds)?;
+    put_unchecked(lines, setup, surveys, station)?;
+    put_other_leap_in(lines, captures, setup)?;
+    Ok(())
+}
+
 // Appends what a person should know before the line of late messages.
 #[tactic(auto, unfolding(crate::specs::KnownLines::lines_before_late))]
 fn put_first_lines(
+    alloc: Global,
     lines: &mut Vec<u8>,
     captures: &Captures<'_, '_>,
     plan: &Plan,
@@ -127,27 +150,30 @@ fn put_first_lines(
 {
     put_undated(lines, captures, plan)?;
     put_other_dates(lines, captures, &plan.setup)?;
+    put_clocks_in(alloc, lines, captures, plan)?;
     put_few_phases_in(lines, captures.surveys, &plan.setup)?;
-    put_no_channel_in(lines, captures.surveys, &plan.setup)?;
+    put_channels_in(lines, captures.surveys, plan)?;
     put_texts_left_out(lines, told)?;
     put_strays(lines, captures, plan.span.until, plan.strays.as_slice())?;
     Ok(())
 }
 
 // Appends the observations that are not taken.
-#[tactic(auto, unfolding(crate::specs::KnownLines::not_taken))]
+#[tactic(auto, unfolding(crate::specs::KnownLines::not_taken_by))]
 fn put_not_taken(
     lines: &mut Vec<u8>,
     surveys: &[CaptureSurvey],
     station: u16,
-    msm: MsmKind,
     taken: Accepted,
+    has_1004: bool,
+    has_sbas: bool,
 ) -> Result<(), AllocError>
-    ensures { OnOk result (lines.new.items ≡ lines.old.items ++ spec.not_taken surveys.now station msm taken) }
+    ensures { OnOk result (lines.new.items ≡ lines.old.items ++ spec.not_taken_by taken has_1004 has_sbas surveys.now station) }
 {
+    put_obs_1004(lines, surveys, station, has_1004)?;
     put_msms(lines, surveys, station, taken)?;
-    put_doppler(lines, surveys, station, msm)?;
-    put_sbas(lines, surveys, station)?;
+    put_doppler(lines, surveys, station, taken)?;
+    put_sbas(lines, surveys, station, has_sbas)?;
     put_unread(lines, surveys, taken)?;
     Ok(())
 }
@@ -158,11 +184,12 @@ fn put_not_taken_in(
     surveys: &[CaptureSurvey],
     setup: &Setup,
 ) -> Result<(), AllocError>
-    ensures { OnOk result (lines.new.items ≡ lines.old.items
-        ++ spec.not_taken surveys.now setup.now.station setup.now.kinds.gps (taken_by setup.now)) }
+    ensures { OnOk result (lines.new.items ≡ lines.old.items ++ spec.not_taken surveys.now setup.now) }
 {
     let taken = setup.accepted();
-    put_not_taken(lines, surveys, setup.station(), setup.kinds().gps, taken)?;
+    let has_1004 = setup.takes_1004();
+    let has_sbas = setup.takes_sbas();
+    put_not_taken(lines, surveys, setup.station(), taken, has_1004, has_sbas)?;
     Ok(())
 }
 
@@ -198,7 +225,7 @@ fn put_last_lines(
 }
 
 /// What a person should know of a conversion, a line each, only where it is so: captures that are dated near
-/// the others; a date that is told and does not count; codes with few phases; satellites without a channel; texts
+/// the others; a date that is told and does not count; systems whose clocks differ from those of their chains, or of which no clock is compared; captures that tell other leap seconds; codes with few phases; channels of GLONASS that many slots have, or one has several of, and satellites without one; texts
 /// that messages told and that a label does not have; captures with a stray epoch, that are left out, that have no epoch or whose time falls;
 /// and observations that are not taken.
 pub fn what_is_known(
@@ -214,7 +241,7 @@ pub fn what_is_known(
     ensures strays { IfOk result (λ known. known.stray_links.items ≡ spec.links_with_strays (places_of plan.now.links.items) plan.now.strays.items) }
 {
     let mut first = Vec::new(alloc);
-    put_first_lines(&mut first, captures, plan, told)?;
+    put_first_lines(alloc, &mut first, captures, plan, told)?;
     let mut last = Vec::new(alloc);
     put_last_lines(&mut last, captures, plan)?;
     let strays = plan.strays.as_slice();

@@ -6,7 +6,8 @@ ghost use Rattle.std.specs.Prelude.{◌≡◌, ◌≤◌, ◌+◌, ◌++◌, OnO
 ghost use Rattle.rtk_plan.specs.Lists as spec;
 
 use crate::held_messages::{
-    held_in_captures, messages_in_captures, others_in_captures, sbas_in_captures,
+    held_in_captures, messages_in_captures, obs_1004_in_captures, others_in_captures,
+    sbas_in_captures,
 };
 use rtk_message::{Accepted, MsmKind, put_named};
 use rtk_survey::CaptureSurvey;
@@ -259,47 +260,79 @@ pub(crate) fn put_held(lines: &mut Vec<u8>, surveys: &[CaptureSurvey]) -> Result
     Ok(())
 }
 
-// Appends the line of the Doppler of an MSM that is taken, if there is a message of it.
+// Appends the line of the Doppler of messages of a number, if they are taken.
+fn put_doppler_numbered(
+    lines: &mut Vec<u8>,
+    taken: Accepted,
+    number: u16,
+    count: u64,
+) -> Result<(), AllocError>
+    ensures { OnOk result (lines.new.items ≡ lines.old.items ++ spec.doppler_line_of taken number count) }
+{
+    if !taken.accepts(number) {
+        return Ok(());
+    }
+    put_count_line(lines, b" not in the file: Doppler of ", number, count)
+}
+
+// Appends the line of the Doppler of an MSM, if it is taken.
 fn put_doppler_of(
     lines: &mut Vec<u8>,
     surveys: &[CaptureSurvey],
     station: u16,
-    taken: MsmKind,
+    taken: Accepted,
+    msm: MsmKind,
 ) -> Result<(), AllocError>
-    ensures { OnOk result (lines.new.items ≡ lines.old.items ++ spec.doppler_of taken surveys.now station) }
+    ensures { OnOk result (lines.new.items ≡ lines.old.items ++ spec.doppler_of taken surveys.now station msm) }
 {
-    let count = messages_in_captures(surveys, station, taken);
-    put_count_line(
-        lines,
-        b" not in the file: Doppler of ",
-        taken.number(),
-        count,
-    )
+    let count = messages_in_captures(surveys, station, msm);
+    put_doppler_numbered(lines, taken, msm.number(), count)?;
+    Ok(())
 }
 
-/// Appends a line if the MSM that is taken has Doppler, which no file has.
+/// Appends a line if an MSM of GPS that is taken has Doppler, which no file has.
+#[tactic(auto, unfolding(crate::specs::Lists::doppler_line))]
 pub(crate) fn put_doppler(
     lines: &mut Vec<u8>,
     surveys: &[CaptureSurvey],
     station: u16,
-    taken: MsmKind,
+    taken: Accepted,
 ) -> Result<(), AllocError>
     ensures { OnOk result (lines.new.items ≡ lines.old.items ++ spec.doppler_line taken surveys.now station) }
 {
-    match taken {
-        MsmKind::Msm4 | MsmKind::Msm6 => Ok(()),
-        MsmKind::Msm5 | MsmKind::Msm7 => put_doppler_of(lines, surveys, station, taken),
-    }
+    put_doppler_of(lines, surveys, station, taken, MsmKind::Msm5)?;
+    put_doppler_of(lines, surveys, station, taken, MsmKind::Msm7)?;
+    Ok(())
 }
 
-/// Appends a line if 1004 of a station have satellites of SBAS, which no file has.
+/// Appends a line of the 1004 of a station, unless they are taken.
+pub(crate) fn put_obs_1004(
+    lines: &mut Vec<u8>,
+    surveys: &[CaptureSurvey],
+    station: u16,
+    is_taken: bool,
+) -> Result<(), AllocError>
+    ensures { OnOk result (lines.new.items ≡ lines.old.items ++ spec.obs_1004_line is_taken surveys.now station) }
+{
+    if is_taken {
+        return Ok(());
+    }
+    let count = obs_1004_in_captures(surveys, station);
+    put_count_line(lines, b" not in the file: GPS ", 1004, count)
+}
+
+/// Appends a line if 1004 of a station have satellites of SBAS, unless these are taken.
 pub(crate) fn put_sbas(
     lines: &mut Vec<u8>,
     surveys: &[CaptureSurvey],
     station: u16,
+    is_taken: bool,
 ) -> Result<(), AllocError>
-    ensures { OnOk result (lines.new.items ≡ lines.old.items ++ spec.sbas_line surveys.now station) }
+    ensures { OnOk result (lines.new.items ≡ lines.old.items ++ spec.sbas_line is_taken surveys.now station) }
 {
+    if is_taken {
+        return Ok(());
+    }
     let count = sbas_in_captures(surveys, station);
     put_count_line(lines, b" not in the file: SBAS of ", 1004, count)
 }

@@ -6,7 +6,8 @@ ghost use Rattle.rtk_plan.specs.Causes.{IfRefused, IsStationCause, IsEmptyCause,
 ghost use Rattle.rtk_plan.specs.Kept.{empty_captures};
 ghost use Rattle.rtk_plan.specs.Linking.{places_of, AreLinksOf};
 ghost use Rattle.rtk_plan.specs.Positions.{some_are_far};
-ghost use Rattle.rtk_plan.specs.Plan.{IsChosenStation, captures_of, ArePlaced, AreStrays, IsSpanOf, IsInReach, IsSetupFor};
+ghost use Rattle.rtk_plan.specs.Plan.{IsChosenStation, captures_of, ArePlaced, AreStrays, IsSpanOf, IsInReach, IsSetupFor, systems_asked};
+ghost use Rattle.rtk_plan.specs.SlotChannels.{AreSecondsChosen, AreOwnChannels};
 
 use crate::captures::{Captures, StationCaptures, list_held};
 use crate::chosen_station::{OnlyStation, is_observed, only_station};
@@ -17,8 +18,11 @@ use crate::positions::agree_on_position;
 use crate::refusal::{PlanFault, Refusal, refused};
 use crate::span_line::DatedSpan;
 use crate::station_capture::{StationCapture, captures_of};
-use crate::station_setup::setup_near;
+use crate::setup_seconds::seconds_of;
+use crate::station_setup::{own_channels_in, setup_near, systems_asked};
+use crate::system_flags::SystemFlags;
 use crate::wanted::Wanted;
+use rtk_obs::Channels;
 use rtk_rinex::CreationTime;
 use rtk_setup::{Reference, Setup, Station};
 use rtk_survey::{CaptureSurvey, Placed};
@@ -38,6 +42,12 @@ pub struct Plan {
     pub strays: Vec<usize>,
     /// What each capture tells of the station.
     pub captures: Vec<StationCapture>,
+    /// The systems that are asked for.
+    pub asked: SystemFlags,
+    /// The leap seconds by which clocks of GLONASS are compared with those of GPS.
+    pub leap_seconds: u8,
+    /// The channels of slots of GLONASS that messages of the station tell.
+    pub own_channels: Channels,
 }
 
 // The plan of a station, but for what its captures tell.
@@ -200,6 +210,7 @@ fn plan_of_station(
         made,
         captured.station,
         dating.near,
+        &dating.span,
     )?;
     limit_links(alloc, captured, links.as_slice())?;
     agree_unless(alloc, captured, as_given)?;
@@ -225,6 +236,9 @@ pub fn plan_of(
     // What a plan has.
     ensures setup { IfOk result (λ plan. IsSetupFor captures.now.surveys.now (places_of plan.links.items) wanted.now made plan.setup) }
     ensures captures { IfOk result (λ plan. plan.captures.items ≡ captures_of captures.now.surveys.now plan.setup.station) }
+    ensures asked { IfOk result (λ plan. plan.asked ≡ systems_asked wanted.now.codes wanted.now.systems plan.setup.head.listed) }
+    ensures own_channels { IfOk result (λ plan. AreOwnChannels captures.now.surveys.now plan.setup.station plan.setup.kinds.glonass plan.own_channels) }
+    ensures leap_seconds { IfOk result (λ plan. AreSecondsChosen plan.setup.leap_seconds plan.setup.near plan.leap_seconds) }
     ensures in_reach { IfOk result (λ plan. IsInReach wanted.now.near plan.captures.items plan.setup.near) }
     ensures links { IfOk result (λ plan. AreLinksOf as_given wanted.now.near plan.captures.items (places_of plan.links.items)) }
     ensures few_links { IfOk result (λ plan. length plan.links.items ≤ 16) }
@@ -248,6 +262,9 @@ pub fn plan_of(
         captures: of_station.as_slice(),
     };
     let plan = plan_of_station(alloc, &captured, wanted, made, skip_empty, as_given)?;
+    let asked = systems_asked(wanted, &plan.setup);
+    let leap_seconds = seconds_of(&plan.setup);
+    let own_channels = own_channels_in(captures.surveys, &plan.setup);
     Ok(Plan {
         setup: plan.setup,
         span: plan.span,
@@ -255,5 +272,8 @@ pub fn plan_of(
         skipped: plan.skipped,
         strays: plan.strays,
         captures: of_station,
+        asked,
+        leap_seconds,
+        own_channels,
     })
 }

@@ -120,13 +120,29 @@ fn put_value_words(line: &mut Vec<u8>, setup: &Setup) -> Result<(), AllocError>
     Ok(())
 }
 
+fn put_leap_option(line: &mut Vec<u8>, seconds: u8) -> Result<(), AllocError>
+    ensures { OnOk result (line.new.items ≡ line.old.items ++ spec.leap_option seconds) }
+{
+    put_named(line, b" --leap-seconds ", u64::from(seconds))?;
+    Ok(())
+}
+
 fn put_leap_words(line: &mut Vec<u8>, leap_seconds: Option<u8>) -> Result<(), AllocError>
     ensures { OnOk result (line.new.items ≡ line.old.items ++ spec.leap_words leap_seconds) }
 {
     match leap_seconds {
-        Some(seconds) => put_named(line, b" --leap-seconds ", u64::from(seconds)),
+        Some(seconds) => put_leap_option(line, seconds),
         None => Ok(()),
     }
+}
+
+fn put_words_of_1012(line: &mut Vec<u8>, is_asked: bool) -> Result<(), AllocError>
+    ensures { OnOk result (line.new.items ≡ line.old.items ++ spec.words_of_1012 is_asked) }
+{
+    if is_asked {
+        line.extend_from_slice(b" --with-1012")?;
+    }
+    Ok(())
 }
 
 // Appends the command with its options.
@@ -139,6 +155,7 @@ fn put_convert_words(line: &mut Vec<u8>, setup: &Setup) -> Result<(), AllocError
     put_value_words(line, setup)?;
     put_glonass_words(line, setup.head().glonass())?;
     put_leap_words(line, setup.leap_seconds())?;
+    put_words_of_1012(line, setup.takes_1012())?;
     Ok(())
 }
 

@@ -6,6 +6,7 @@ ghost use Rattle.rtk_obs.specs.Carriers.{IsSlot, channel_at};
 ghost use Rattle.rtk_plan.specs.SlotChannels as spec;
 ghost use Rattle.rtk_plan.specs.Steps.ToldFields.{most_told_with};
 
+use crate::alike_channels::is_alike;
 use rtk_message::{MsmKind, MsmType, System};
 use rtk_obs::{Channel, Channels};
 use rtk_survey::{CaptureSurvey, StationSurvey, SystemMsm, count_of_field};
@@ -77,7 +78,8 @@ fn fields_of_station(slot: u8, field: u8, station: Option<&StationSurvey>) -> u6
     }
 }
 
-fn own_count(surveys: &[CaptureSurvey], station: u16, slot: u8, field: u8) -> u64
+/// How many messages of a station tell a field of a slot.
+pub(crate) fn own_count(surveys: &[CaptureSurvey], station: u16, slot: u8, field: u8) -> u64
     ensures { result ≡ spec.own_count surveys.now station slot field }
 {
     let mut count = 0u64;
@@ -153,17 +155,8 @@ fn told_field(surveys: &[CaptureSurvey], source: Option<u16>, slot: u8) -> Optio
     told.field
 }
 
-// The field that messages of the station tell most often, else the one that 1020 do.
-fn slot_field(surveys: &[CaptureSurvey], station: u16, slot: u8) -> Option<u8>
-    ensures field { spec.IsSlotField surveys.now station slot result }
-    ensures few { IfSome result (λ field. field < 14) }
-{
-    let own = told_field(surveys, Some(station), slot);
-    let other = told_field(surveys, None, slot);
-    own.or(other)
-}
-
-fn channel_of_field(field: u8) -> Channel
+/// The channel that a field tells.
+pub(crate) fn channel_of_field(field: u8) -> Channel
     requires { field < 14 }
     ensures { result ≡ spec.channel_of_field field }
 {
@@ -183,17 +176,18 @@ fn channel_if(is_given: bool, field: Option<u8>) -> Option<Channel>
     }
 }
 
-// The channel of a slot, if it has a value and a channel is told.
-fn channel_found(
+// The channel that messages of the station tell most often of a slot, if it has a value; without a station what 1020 tell.
+fn channel_told(
     surveys: &[CaptureSurvey],
     station: u16,
     kind: MsmKind,
+    source: Option<u16>,
     slot: u8,
 ) -> Option<Channel>
     requires { IsSlot slot }
-    ensures { spec.IsChannelFound surveys.now station kind slot result }
+    ensures { spec.IsToldChannel surveys.now station kind source slot result }
 {
-    let field = slot_field(surveys, station, slot);
+    let field = told_field(surveys, source, slot);
     channel_if(is_slot_given(surveys, station, kind, slot), field)
 }
 
@@ -209,13 +203,62 @@ fn set_if(channels: &mut Channels, slot: u8, channel: Option<Channel>)
     }
 }
 
-// The channels of the slots of which the station has a value, as messages tell them.
+// The channels of the slots of which the station has a value, as its messages tell them.
 fn channels_told(surveys: &[CaptureSurvey], station: u16, kind: MsmKind) -> Channels
-    ensures { spec.HasChannelsFound surveys.now station kind result }
+    ensures { spec.HasOwnChannels surveys.now station kind result }
 {
     let mut channels = Channels::new();
     for slot in 1u8..SLOTS_END {
-        let channel = channel_found(surveys, station, kind, slot);
+        let channel = channel_told(surveys, station, kind, Some(station), slot);
+        set_if(&mut channels, slot, channel);
+    }
+    channels
+}
+
+/// The channels of the slots of which the station has a value, as its messages tell them.
+pub(crate) fn own_channels(surveys: &[CaptureSurvey], station: u16, kind: MsmKind) -> Channels
+    ensures { spec.AreOwnChannels surveys.now station kind result }
+{
+    channels_told(surveys, station, kind)
+}
+
+fn chosen_channel(is_alike: bool, own: Option<Channel>, other: Option<Channel>) -> Option<Channel>
+    ensures { result ≡ spec.chosen_channel is_alike own other }
+{
+    if is_alike {
+        other.or(own)
+    } else {
+        own.or(other)
+    }
+}
+
+// The channel of a slot, by those that messages of the station tell and by that of 1020.
+fn channel_found(
+    surveys: &[CaptureSurvey],
+    station: u16,
+    kind: MsmKind,
+    own: &Channels,
+    slot: u8,
+) -> Option<Channel>
+    requires { IsSlot slot }
+    ensures { spec.IsChannelFound surveys.now station kind own.now slot result }
+{
+    let other = channel_told(surveys, station, kind, None, slot);
+    chosen_channel(is_alike(own, slot), own.channel(slot), other)
+}
+
+// The channels of the slots of which the station has a value, by what its messages tell.
+fn channels_by(
+    surveys: &[CaptureSurvey],
+    station: u16,
+    kind: MsmKind,
+    own: &Channels,
+) -> Channels
+    ensures { spec.HasChannelsFound surveys.now station kind own.now result }
+{
+    let mut channels = Channels::new();
+    for slot in 1u8..SLOTS_END {
+        let channel = channel_found(surveys, station, kind, own, slot);
         set_if(&mut channels, slot, channel);
     }
     channels
@@ -225,5 +268,6 @@ fn channels_told(surveys: &[CaptureSurvey], station: u16, kind: MsmKind) -> Chan
 pub(crate) fn channels_found(surveys: &[CaptureSurvey], station: u16, kind: MsmKind) -> Channels
     ensures { spec.AreChannelsFound surveys.now station kind result }
 {
-    channels_told(surveys, station, kind)
+    let own = own_channels(surveys, station, kind);
+    channels_by(surveys, station, kind, &own)
 }

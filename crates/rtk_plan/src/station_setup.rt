@@ -1,34 +1,66 @@
 //! What the conversion of a station is told: the MSM and the codes of each system, and the head of the file.
 
-ghost use Rattle.std.specs.Prelude.{◌≡◌, ◌<◌, ◌≤◌, None, [], IfOk, IfErr};
+ghost use Rattle.std.specs.Prelude.{◌≡◌, ◌<◌, ◌≤◌, None, [], false, IfOk, IfErr};
 ghost use Rattle.std.specs.Option.{ForSome};
 ghost use Rattle.rtk_obs.specs.CivilText.{last_digits};
 ghost use Rattle.rtk_rinex.specs.MixedHead.{IsGlonassView, IsMixedList, TellsGlonass, has_glonass};
-ghost use Rattle.rtk_plan.specs.Causes.{IfRefused, IsSetupCause};
+ghost use Rattle.rtk_plan.specs.Causes.{IfRefused, FindsNoCode, IsSetupCause};
 ghost use Rattle.rtk_plan.specs.Linking.{places_of};
-ghost use Rattle.rtk_plan.specs.Plan.{IsChosenStation, kinds_found, codes_chosen, marker_chosen, captures_of, IsNearOf, IsSetupFor};
-ghost use Rattle.rtk_plan.specs.SlotChannels.{AreChannelsChosen, AreSecondsChosen, IsGlonassOf, IsGlonassFound};
+ghost use Rattle.rtk_plan.specs.Plan.{IsChosenStation, kinds_found, AreSystemsTaken, AreCodesChosen, systems_asked, marker_chosen, captures_of, IsNearOf, IsSpanOf, IsSetupFor};
+ghost use Rattle.rtk_plan.specs.SlotChannels.{AreChannelsChosen, AreOwnChannels, AreSecondsChosen, IsGlonassOf, IsGlonassFound};
 ghost use Rattle.rtk_plan.specs.SystemMsms as msms;
-ghost use Rattle.rtk_plan.specs.Values.{codes_in_captures, or_else as seconds_or};
+ghost use Rattle.rtk_plan.specs.Plan.{codes_chosen};
+ghost use Rattle.rtk_plan.specs.Values.{codes_in_captures};
 
 use crate::captures::list_held;
+use crate::clock_offsets::systems_with_clocks;
 use crate::refusal::{PlanFault, Refusal, refused};
-use crate::slot_channels::channels_found;
+use crate::setup_seconds::{has_glonass, seconds_chosen, seconds_of_setup};
+use crate::slot_channels::{channels_found, own_channels};
+use crate::span_line::DatedSpan;
 use crate::system_flags::SystemFlags;
 use crate::system_msms::kinds_listed;
 use crate::values::{codes_in_captures, kinds_in_links};
 use crate::wanted::Wanted;
 use rtk_message::{MsmKind, System};
-use rtk_obs::{AnyCode, Channels, GpsMs, leap_seconds_at};
+use rtk_obs::{AnyCode, Channels, GpsMs};
 use rtk_rinex::{CreationTime, Glonass, Marker, MixedHead};
-use rtk_setup::{LeapSeconds, Reference, Setup, Station, SystemKinds};
+use rtk_setup::{LeapSeconds, Reference, Setup, Station, SystemKinds, Window};
 use rtk_survey::CaptureSurvey;
 use std::alloc::{AllocError, Global};
 
+// ---- the systems
+
+// The systems that are wanted, but for those whose clocks are wrong.
+fn systems_taken(
+    alloc: Global,
+    surveys: &[CaptureSurvey],
+    station: u16,
+    wanted: SystemFlags,
+    seconds: &Option<LeapSeconds>,
+    near: GpsMs,
+) -> Result<SystemFlags, AllocError>
+    ensures { IfOk result (AreSystemsTaken surveys.now station wanted seconds.now near) }
+{
+    let leap_seconds = seconds_chosen(seconds, near);
+    let right = systems_with_clocks(alloc, surveys, station, leap_seconds)?;
+    Ok(wanted.both(right))
+}
+
+/// The systems that are asked for, by words and by the setup that is made of them.
+pub(crate) fn systems_asked(wanted: &Wanted, setup: &Setup) -> SystemFlags
+    ensures { result ≡ systems_asked wanted.now.codes wanted.now.systems setup.now.head.listed }
+{
+    match &wanted.codes {
+        Some(_) => SystemFlags::listed(setup),
+        None => wanted.systems,
+    }
+}
+
 // ---- the codes
 
-// The codes that are converted.
-fn codes_to_convert(
+// The codes that are named, else those of these systems that are found.
+fn codes_of_systems(
     alloc: Global,
     surveys: &[CaptureSurvey],
     station: u16,
@@ -49,6 +81,26 @@ fn codes_to_convert(
     if codes.is_empty() {
         return refused(Refusal::NoCode, list_held(alloc, surveys)?);
     }
+    Ok(codes)
+}
+
+// The codes that are converted.
+fn codes_to_convert(
+    alloc: Global,
+    surveys: &[CaptureSurvey],
+    station: u16,
+    kinds: SystemKinds,
+    wanted: &Wanted,
+    seconds: &Option<LeapSeconds>,
+    near: GpsMs,
+) -> Result<Vec<AnyCode>, PlanFault>
+    ensures codes { IfOk result (λ codes. AreCodesChosen wanted.now surveys.now station seconds.now near kinds codes.items) }
+    ensures good { IfOk result (λ codes. IsMixedList codes.items) }
+    ensures refused { IfErr result (IfRefused (λ refusal. (refusal ≡ Refusal.NoCode) × (wanted.now.codes ≡ None)
+        × FindsNoCode surveys.now kinds wanted.now station seconds.now near)) }
+{
+    let systems = systems_taken(alloc, surveys, station, wanted.systems, seconds, near)?;
+    let codes = codes_of_systems(alloc, surveys, station, systems, kinds, &wanted.codes)?;
     Ok(codes)
 }
 
@@ -82,42 +134,26 @@ fn marker_of(station: u16, marker: &Option<Marker>) -> Marker
     marker
 }
 
-// Is a listed code of GLONASS?
-fn has_glonass(listed: &[AnyCode]) -> bool
-    ensures { result ≡ has_glonass listed.now }
-{
-    for code in listed {
-        if code.text()[0] == b'R' {
-            return true;
-        }
-    }
-    false
-}
-
-// The leap seconds that are given, else those of the table at a moment.
-fn seconds_chosen(given: Option<LeapSeconds>, near: GpsMs) -> u8
-    ensures said { AreSecondsChosen given near result }
-    ensures bound { result ≤ 99 }
-{
-    match given {
-        Some(given) => given.number(),
-        None => leap_seconds_at(near),
-    }
-}
-
 // The channels that are given, else those that messages tell.
 fn channels_chosen(
-    given: Option<Channels>,
+    given: &Option<Channels>,
     surveys: &[CaptureSurvey],
     station: u16,
     kind: MsmKind,
 ) -> Channels
-    ensures { AreChannelsChosen given surveys.now station kind result }
+    ensures { AreChannelsChosen given.now surveys.now station kind result }
 {
     match given {
-        Some(given) => given,
+        Some(given) => *given,
         None => channels_found(surveys, station, kind),
     }
+}
+
+/// The channels of slots that messages of the station tell, by the MSM of GLONASS of a setup.
+pub(crate) fn own_channels_in(surveys: &[CaptureSurvey], setup: &Setup) -> Channels
+    ensures { AreOwnChannels surveys.now setup.now.station setup.now.kinds.glonass result }
+{
+    own_channels(surveys, setup.station(), setup.kinds().glonass)
 }
 
 // What the file tells of GLONASS.
@@ -125,14 +161,15 @@ fn glonass_of(
     surveys: &[CaptureSurvey],
     station: u16,
     kind: MsmKind,
-    wanted: &Wanted,
+    channels: &Option<Channels>,
+    seconds: &Option<LeapSeconds>,
     near: GpsMs,
 ) -> Glonass
-    ensures found { IsGlonassOf surveys.now station kind wanted.now.channels wanted.now.leap_seconds near result }
+    ensures found { IsGlonassOf surveys.now station kind channels.now seconds.now near result }
     ensures good { IsGlonassView result }
 {
-    let channels = channels_chosen(wanted.channels, surveys, station, kind);
-    let seconds = seconds_chosen(wanted.leap_seconds, near);
+    let channels = channels_chosen(channels, surveys, station, kind);
+    let seconds = seconds_chosen(seconds, near);
     let Some(glonass) = Glonass::new(channels, seconds) else {
         unreachable!();
     };
@@ -145,14 +182,15 @@ fn glonass_found(
     station: u16,
     kinds: SystemKinds,
     listed: &[AnyCode],
-    wanted: &Wanted,
+    channels: &Option<Channels>,
+    seconds: &Option<LeapSeconds>,
     near: GpsMs,
 ) -> Option<Glonass>
-    ensures found { IsGlonassFound surveys.now station kinds listed.now wanted.now.channels wanted.now.leap_seconds near result }
+    ensures found { IsGlonassFound surveys.now station kinds listed.now channels.now seconds.now near result }
     ensures due { TellsGlonass listed.now result }
 {
     if has_glonass(listed) {
-        Some(glonass_of(surveys, station, kinds.glonass, wanted, near))
+        Some(glonass_of(surveys, station, kinds.glonass, channels, seconds, near))
     } else {
         None
     }
@@ -215,13 +253,29 @@ fn with_kinds_listed(setup: Setup, kinds: SystemKinds) -> Setup
 }
 
 // The setup with these leap seconds, if any are given.
-fn with_seconds(setup: Setup, given: Option<LeapSeconds>) -> Setup
-    ensures { result ≡ record setup { leap_seconds = seconds_or given setup.leap_seconds } }
+fn with_seconds(setup: Setup, given: &Option<LeapSeconds>) -> Setup
+    requires { setup.leap_seconds ≡ None }
+    ensures { result ≡ record setup { leap_seconds = given.now } }
 {
     match given {
-        Some(given) => setup.with_leap_seconds(given),
+        Some(given) => setup.with_leap_seconds(*given),
         None => setup,
     }
+}
+
+// The setup of these parts, in which systems without a listed code have the MSM of the first one that has.
+fn setup_of(
+    station: Station,
+    near: Reference,
+    head: MixedHead,
+    window: Window,
+    kinds: SystemKinds,
+    seconds: &Option<LeapSeconds>,
+) -> Setup
+    ensures { result ≡ record { station = station; near = near; head = head; window = window; kinds = msms.kinds_listed kinds head.listed; leap_seconds = seconds.now; takes_1012 = false } }
+{
+    let setup = with_kinds_listed(Setup::mixed(station, near, head, window), kinds);
+    with_seconds(setup, seconds)
 }
 
 // ---- all of it
@@ -235,18 +289,21 @@ pub(crate) fn setup_near(
     made: CreationTime,
     station: u16,
     near: GpsMs,
+    span: &DatedSpan,
 ) -> Result<Setup, PlanFault>
     requires bound { station < 4096 }
     requires chosen { IsChosenStation surveys.now wanted.now.station station }
     requires near { IsNearOf wanted.now.near (captures_of surveys.now station) near }
+    requires span { IsSpanOf wanted.now.near (captures_of surveys.now station) station span.now }
     ensures setup { IfOk result (IsSetupFor surveys.now (places_of links.now) wanted.now made) }
     ensures station { IfOk result (λ setup. (setup.station ≡ station) × (setup.near ≡ near)) }
     ensures refused { IfErr result (IfRefused (IsSetupCause surveys.now (places_of links.now) wanted.now station near)) }
 {
     let kinds = kinds_to_convert(surveys, links, wanted.msm, station);
-    let codes = codes_to_convert(alloc, surveys, station, wanted.systems, kinds, &wanted.codes)?;
+    let seconds = seconds_of_setup(alloc, surveys, station, wanted, near, span)?;
+    let codes = codes_to_convert(alloc, surveys, station, kinds, wanted, &seconds, near)?;
     let listed = codes.as_slice();
-    let glonass = glonass_found(surveys, station, kinds, listed, wanted, near);
+    let glonass = glonass_found(surveys, station, kinds, listed, &wanted.channels, &seconds, near);
     let head = head_of(marker_of(station, &wanted.marker), listed, glonass, made);
     let Ok(station) = Station::new(station) else {
         unreachable!();
@@ -254,6 +311,5 @@ pub(crate) fn setup_near(
     let Ok(near) = Reference::new(near) else {
         return refused(Refusal::OutsideDates, Vec::new(alloc));
     };
-    let setup = with_kinds_listed(Setup::mixed(station, near, head, wanted.window), kinds);
-    Ok(with_seconds(setup, wanted.leap_seconds))
+    Ok(setup_of(station, near, head, wanted.window, kinds, &seconds))
 }

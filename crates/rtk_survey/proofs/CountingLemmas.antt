@@ -20,7 +20,7 @@ use Rattle.rtk_message.specs.Systems.{number_of_type}
 use Rattle.rtk_survey.specs.BesideGps.{cells_beside, has_index, has_any_code}
 use Rattle.rtk_survey.specs.Chains.{clocks_of}
 use Rattle.rtk_survey.specs.Channels.{place_is_told}
-use Rattle.rtk_survey.specs.ClockLines.{clock_lines}
+use Rattle.rtk_survey.specs.UncheckedClocks.{systems_sent, all_clock_lines}
 use Rattle.rtk_survey.specs.Counting.{count_of}
 use Rattle.rtk_survey.specs.CountingLaws.{IsReadMessage, EachFrameIsCounted, EachMessageIsCounted, StandsIn, PartsStand, StationsStand, ProposalsStand, UntakenStand}
 use Rattle.rtk_survey.specs.EquipmentHistory.{equipment_of}
@@ -117,14 +117,14 @@ hit-type Navic Msm5 = refl
 hit-type Navic Msm6 = refl
 hit-type Navic Msm7 = refl
 
-hit : (m : AnyMessage) → IsReadMessage m → hits (number_of m) ≡ 1
+hit : (m : AnyMessage) → hits (number_of m) ≡ 1
 unfolding hits
-hit (any.Message (Obs1004 m)) read = refl
-hit (any.Message (Arp1005 m)) read = refl
-hit (any.Message (Arp1006 m)) read = refl
-hit (any.Message (Msm1074 m)) read = refl
-hit (any.Msm m) read = hit-type m.system m.kind
-hit (any.Obs1012 m) read = absurd cc
+hit (any.Message (Obs1004 m)) = refl
+hit (any.Message (Arp1005 m)) = refl
+hit (any.Message (Arp1006 m)) = refl
+hit (any.Message (Msm1074 m)) = refl
+hit (any.Msm m) = hit-type m.system m.kind
+hit (any.Obs1012 m) = refl
 
 -- the sum of two counts of each number
 sum-both : (f g : ℕ → ℕ) (ns : List ℕ) → sum_by (λ n. f n + g n) ns ≡ sum_by f ns + sum_by g ns
@@ -138,15 +138,15 @@ sum-both f g (n ∷ ns) =
 
 pub messages-counted : EachMessageIsCounted
 unfolding hits
-messages-counted [] read = refl
-messages-counted (m ∷ ms) read =
+messages-counted [] = refl
+messages-counted (m ∷ ms) =
     let here : ℕ → ℕ = λ n. cond (is_numbered n m) 1 0 in
     let there : ℕ → ℕ = λ n. count_by (is_numbered n) ms in
     let each : ◌≡◌ {A = ℕ → ℕ} (λ n. count_by (is_numbered n) (m ∷ ms)) (λ n. here n + there n) = fun_ext (λ n. sum_by-cons (λ (x : AnyMessage). cond (is_numbered n x) 1 0) m ms) in
     let split : sum_by (λ n. count_by (is_numbered n) (m ∷ ms)) message_numbers ≡ sum_by here message_numbers + sum_by there message_numbers =
     ap (λ (f : ℕ → ℕ). sum_by f message_numbers) each ∙ sum-both here there message_numbers in
-    let one : sum_by here message_numbers ≡ 1 = hit m read.0 in
-    let rest = messages-counted ms read.1 in
+    let one : sum_by here message_numbers ≡ 1 = hit m in
+    let rest = messages-counted ms in
     omega (arith, split, one, rest)
 
 -- ---- what stands in the text
@@ -215,7 +215,7 @@ proposals-stand name station ms d e held =
     ++ signal_lines (has_satellite (entries_in ms)) (has_code (entries_in ms)) (has_index (cells_beside ms)) (has_any_code (cells_beside ms))
     ++ system_epoch_lines (epochs_beside ms)
     ++ channel_line (place_is_told ms)
-    ++ clock_lines (clocks_of ms).offsets in
+    ++ all_clock_lines (proposed_date d) (systems_sent (has_code (entries_in ms)) (has_any_code (cells_beside ms))) (clocks_of ms).offsets in
     let whole = append-nil (station_lines name station ms d e) in
     subst (λ (epochs : MsmKind → ℕ). StandsIn (proposal epochs) (station_lines name station ms d e)) (epochs-are ms held) (lines, [], sym whole)
 

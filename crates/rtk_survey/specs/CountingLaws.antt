@@ -39,9 +39,9 @@ pub record FramesAreCounted (bytes : List ℕ) (fs : List ReadFrame) : Type 0 wh
 abbrev pub EachFrameIsCounted : Type 0
 EachFrameIsCounted = (bytes : List ℕ) (fs : List ReadFrame) → AreFramesOf bytes fs → FramesAreCounted bytes fs
 
--- each message that is read is counted under one of the numbers that have a line
+-- each message is counted under one of the numbers that have a line
 abbrev pub EachMessageIsCounted : Type 0
-EachMessageIsCounted = (ms : List AnyMessage) → AllByRecursion IsReadMessage ms → sum_by (λ n. count_by (is_numbered n) ms) message_numbers ≡ length ms
+EachMessageIsCounted = (ms : List AnyMessage) → sum_by (λ n. count_by (is_numbered n) ms) message_numbers ≡ length ms
 
 -- ---- all are taken alike, whatever came before
 

@@ -1,4 +1,11 @@
+use Rattle.std.proofs.Common.{ℕ, List, ◌++◌, ap, ◌∙◌}
+use Rattle.rtk_message.specs.Systems.{number_of_kind}
+use Rattle.rtk_plan.specs.Lists.{doppler_line_of}
 use Rattle.rtk_plan.proofs.message_lines.put_doppler_of.Goals as goal
 
 pub returns : goal.returns
-returns c = rw (← c.messages_in_captures-count.ensures) (rw (← c.number.ensures) c.put_count_line.ensures)
+returns c =
+    let old : List ℕ = c.args.lines.now.items in
+    c.in_ok-put_doppler_numbered.ensures
+    ∙ ap (λ (n : ℕ). old ++ doppler_line_of c.args.taken n c.messages_in_captures-count.result) c.number.ensures
+    ∙ ap (λ (n : ℕ). old ++ doppler_line_of c.args.taken (number_of_kind c.args.msm) n) c.messages_in_captures-count.ensures

@@ -1,10 +1,12 @@
-use Rattle.std.proofs.Common.{◌∙◌, Bool, ap}
-use Rattle.rtk_plan.specs.SlotChannels.{channel_if}
+use Rattle.std.proofs.Common.{◌∙◌, ℤ, Bool, Option, ap}
+use Rattle.rtk_plan.specs.AlikeChannels.{is_alike}
+use Rattle.rtk_plan.specs.SlotChannels.{chosen_channel}
 use Rattle.rtk_plan.proofs.slot_channels.channel_found.Goals as goal
 
 pub returns : goal.returns
 returns c = (
-  c.slot_field-field.result,
-  c.slot_field-field.ensures.field,
-  c.channel_if.ensures ∙ ap (λ (b : Bool). channel_if b c.slot_field-field.result) c.is_slot_given.ensures,
+  c.channel_told-other.result,
+  c.channel_told-other.ensures,
+  c.chosen_channel.ensures ∙ ap (λ (b : Bool). chosen_channel b c.channel.result c.channel_told-other.result) c.is_alike.ensures
+  ∙ ap (λ (o : Option ℤ). chosen_channel (is_alike c.args.own.now c.args.slot) o c.channel_told-other.result) c.channel.ensures,
 )

@@ -4,5 +4,5 @@ use Rattle.rtk_plan.proofs.slot_channels.channels_found.Goals as goal
 
 pub returns : goal.returns
 returns c =
-    let good : AreChannels c.channels_told.result = search rules in
-    record { good = good; each = c.channels_told.ensures }
+    let good : AreChannels c.channels_by.result = search rules in
+    record { good = good; own = c.own_channels-own.result; own_are = c.own_channels-own.ensures; each = c.channels_by.ensures }

@@ -1,10 +1,21 @@
-use Rattle.rtk_plan.specs.Values.{is_found}
-use Rattle.rtk_plan.proofs.CodeLemmas.{mixed-found}
+use Rattle.std.proofs.Common.{◌≡◌, [], None}
+use Rattle.rtk_plan.specs.Causes.{FindsNoCode}
+use Rattle.rtk_plan.specs.Values.{codes_in_captures}
+use Rattle.rtk_plan.specs.declared.refusal.Refusal.{Refusal}
+use Rattle.rtk_plan.specs.declared.refusal.Refusal.TheVariants.{NoCode}
+use Rattle.rtk_plan.proofs.RefusedLemmas.{exit-also, no-code-of}
 use Rattle.rtk_plan.proofs.station_setup.codes_to_convert.Goals as goal
 
--- the codes that are found are some of all
-pub returns-clause-good : goal.returns-clause-good
-returns-clause-good c =
-    mixed-found (is_found c.args.surveys.now c.args.station c.args.systems c.args.kinds)
-    c.in_ok-codes.codes.items _ c.is_empty.result c.in_ok-codes.ensures
-    c.in_ok-codes.codes.ok.0 c.is_empty.ensures c.if-is_empty.false
+pub returns-clause-codes : goal.returns-clause-codes
+returns-clause-codes c = (c.in_ok-systems.systems, c.in_ok-systems.ensures, c.in_ok-codes.ensures.codes)
+
+-- no code of the systems that are taken is found
+pub returns-in_err-codes-clause-refused : goal.returns-in_err-codes-clause-refused
+returns-in_err-codes-clause-refused c =
+    let ss = c.args.surveys.now in
+    let w = c.args.wanted.now in
+    let systems = c.in_ok-systems.systems in
+    exit-also (λ (r : Refusal). (r ≡ NoCode) × (w.codes ≡ None) × (codes_in_captures ss c.args.station systems c.args.kinds ≡ []))
+    (λ (r : Refusal). (r ≡ NoCode) × (w.codes ≡ None) × FindsNoCode ss c.args.kinds w c.args.station c.args.seconds.now c.args.near)
+    c.in_err-codes.field-0.0 c.from_residual.result c.from_residual.ensures.1
+    (no-code-of ss w c.args.station c.args.seconds.now c.args.near c.args.kinds systems c.in_ok-systems.ensures) c.in_err-codes.ensures.refused

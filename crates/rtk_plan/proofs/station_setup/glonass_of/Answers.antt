@@ -7,11 +7,10 @@ use Rattle.rtk_plan.proofs.station_setup.glonass_of.Goals as goal
 pub returns-clause-found : goal.returns-clause-found
 returns-clause-found c =
     let is = c.in-Some.ensures.1 in
-    let w = c.args.wanted.now in
     record {
       channels_are =
-          subst (λ (cs : List (Option ℤ)). AreChannelsChosen w.channels c.args.surveys.now c.args.station c.args.kind cs) (sym (ap (λ (g : GlonassView). g.channels) is)) c.channels_chosen-channels.ensures;
-      seconds_are = subst (λ (n : ℕ). AreSecondsChosen w.leap_seconds c.args.near n) (sym (ap (λ (g : GlonassView). g.leap_seconds) is)) c.seconds_chosen-seconds.ensures.said;
+          subst (λ (cs : List (Option ℤ)). AreChannelsChosen c.args.channels.now c.args.surveys.now c.args.station c.args.kind cs) (sym (ap (λ (g : GlonassView). g.channels) is)) c.channels_chosen-channels.ensures;
+      seconds_are = subst (λ (n : ℕ). AreSecondsChosen c.args.seconds.now c.args.near n) (sym (ap (λ (g : GlonassView). g.leap_seconds) is)) c.seconds_chosen-seconds.ensures.said;
     }
 
 pub returns-clause-good : goal.returns-clause-good

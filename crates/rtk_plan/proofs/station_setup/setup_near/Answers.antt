@@ -1,7 +1,6 @@
-use Rattle.std.proofs.Common.{◌≡◌, [], None}
-use Rattle.rtk_plan.specs.Causes.{IsSetupCause}
+use Rattle.std.proofs.Common.{◌≡◌, None}
+use Rattle.rtk_plan.specs.Causes.{FindsNoCode, IsSetupCause}
 use Rattle.rtk_plan.specs.Linking.{places_of}
-use Rattle.rtk_plan.specs.Values.{codes_in_captures}
 use Rattle.rtk_plan.specs.declared.refusal.Refusal.{Refusal}
 use Rattle.rtk_plan.specs.declared.refusal.Refusal.TheVariants.{NoCode}
 use Rattle.rtk_plan.proofs.RefusedLemmas.{exit-also, no-code-found}
@@ -14,6 +13,7 @@ returns-in_err-codes-clause-refused c =
     let w = c.args.wanted.now in
     let kinds = c.kinds_to_convert-kinds.result in
     let links = places_of c.args.links.now in
-    exit-also (λ (r : Refusal). (r ≡ NoCode) × (w.codes ≡ None) × (codes_in_captures ss c.args.station w.systems kinds ≡ [])) (IsSetupCause ss links w c.args.station c.args.near)
+    let seconds = c.in_ok-seconds.seconds in
+    exit-also (λ (r : Refusal). (r ≡ NoCode) × (w.codes ≡ None) × FindsNoCode ss kinds w c.args.station seconds c.args.near) (IsSetupCause ss links w c.args.station c.args.near)
     c.in_err-codes.field-0.0 c.from_residual.result c.from_residual.ensures.1
-    (no-code-found ss links w c.args.station c.args.near kinds c.kinds_to_convert-kinds.ensures) c.in_err-codes.ensures.refused
+    (no-code-found ss links w c.args.station seconds c.args.near kinds c.kinds_to_convert-kinds.ensures c.in_ok-seconds.ensures) c.in_err-codes.ensures.refused
