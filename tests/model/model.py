@@ -2,7 +2,6 @@
 
 It keeps all that came and looks back over it; nothing is closed, written early or forgotten.
 """
-# pins: band_at
 # refuses: a body of a conversion that is wrong in the same way as its definition, at the values of 12,000 captures
 
 from __future__ import annotations

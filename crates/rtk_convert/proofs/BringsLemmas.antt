@@ -211,11 +211,6 @@ sbas-put y sbas class system some is =
     ∙ ap (λ (b : Bool). ((b && (letter_of Sbas == letter_of system)) && true) || has_system y system) (sym some)
     ∙ ap (λ (c : Class). sbas_by sbas c system || has_system y system) (sym is)
 
-pub sbas-stays : (y : Systems) (sbas : Bool) (class : Class) (system : System) → is_taken class ≡ false → has_system y system ≡ (sbas_by sbas class system || has_system y system)
-sbas-stays y sbas class system left =
-    ap (λ (b : Bool). b || has_system y system) (sym (and-false (is_of_sbas sbas system)))
-    ∙ ap (λ (b : Bool). (is_of_sbas sbas system && b) || has_system y system) (sym left)
-
 or-turn : (a b c : Bool) → (b || (a || c)) ≡ ((a || b) || c)
 or-turn true true c = refl
 or-turn true false c = refl

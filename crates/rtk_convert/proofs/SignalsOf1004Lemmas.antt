@@ -13,7 +13,7 @@ use Rattle.rtk_obs.specs.declared.any_code.AnyCode.TheVariants.{S1C}
 use Rattle.rtk_obs.specs.declared.cell.CellEntry.{CellEntry}
 use Rattle.rtk_obs.specs.declared.signal_cells.SignalEntry.{SignalEntry}
 use Rattle.rtk_obs.specs.Cell.{IsSatellite, is_satellite}
-use Rattle.rtk_obs.specs.LegacyCells.{entry_of, first_entries, l1_cell_of, l1_code_of, l2_cell_of, l2_code_of, satellite_entries}
+use Rattle.rtk_obs.specs.LegacyCells.{first_entries, l1_cell_of, l1_code_of, l2_cell_of, l2_code_of, satellite_entries}
 use Rattle.rtk_obs.specs.SatelliteIndex.{index_in, is_taken}
 use Rattle.rtk_obs.specs.SbasCells.{is_sbas_number, satellite_signals, sbas_entry_if, signals_of_1004}
 use Rattle.rtk_obs.specs.SignalCells.{IsSignalInRange, signal_of}
@@ -39,8 +39,8 @@ module _ (P : SignalEntry → Type 0) (of-gps : (e : CellEntry) → IsSatellite 
   satellite-if : (a b : Bool) (s : Satellite) → is_satellite s.satellite ≡ a
       → All P (cond a (map signal_of (satellite_entries s)) (cond b (sbas_entry_if s (index_in Sbas (s.satellite - 39))) []))
   satellite-if true b s is =
-      let one : CellEntry = entry_of s.satellite (l1_code_of s.l1_code) (l1_cell_of s) in
-      let other : CellEntry = entry_of s.satellite (l2_code_of s.l2_code) (l2_cell_of s) in
+      let one : CellEntry = record { satellite = s.satellite; code = l1_code_of s.l1_code; cell = l1_cell_of s } in
+      let other : CellEntry = record { satellite = s.satellite; code = l2_code_of s.l2_code; cell = l2_cell_of s } in
       All-cons P (signal_of one) (signal_of other ∷ []) (of-gps one (satellite-is s.satellite is))
       (All-cons P (signal_of other) [] (of-gps other (satellite-is s.satellite is)) (All-nil P))
   satellite-if false true s is = sbas-if (is_taken Sbas (s.satellite - 39)) s (s.satellite - 39) refl

@@ -1,9 +1,11 @@
 -- The slots of GLONASS whose satellites have no phases.
-use Rattle.std.proofs.Common.{◌≡◌, ◌≢◌, ◌∙◌, ◌+◌, ◌-◌, ◌^◌, ◌<◌, ◌≤◌, ◌==◌, ℕ, zero, suc, ℤ, Bool, true, false, List, ◌∷◌, Option, None, Some, Result, refl, sym, ap, subst, replicate, inl, inr, arith}
+use Rattle.std.proofs.Common.{◌≡◌, ◌≢◌, ◌∙◌, ◌+◌, ◌-◌, ◌^◌, ◌<◌, ◌≤◌, ◌==◌, ℕ, zero, suc, ℤ, Bool, true, false, List, ◌∷◌, length, take, get_or, Option, None, Some, Result, refl, sym, ap, subst, replicate, inl, inr, arith}
 use Rattle.std.specs.Prelude.{◌&&◌, ◌||◌, not, is_some, nat_le, slice_index_or, if◌then◌else◌, IfOk}
+use Rattle.std.specs.List.{list_any}
 use Rattle.std.proofs.Math.Path.{fun_ext}
 use Rattle.std.proofs.lemmas.Bool.{cases_Bool, both_ways, eqb-true, eq-eqb, ne_eqb, and_left, and_parts, and_from, or_from}
 use Rattle.std.proofs.lemmas.Bool.Decides.{nat_tests}
+use Rattle.std.proofs.lemmas.List.Folds.{list_any_more}
 use Rattle.rtk_message.specs.declared.any_fault.AnyFault.{AnyFault}
 use Rattle.rtk_message.specs.declared.any_message.AnyMessage.{AnyMessage as Message}
 use Rattle.rtk_message.specs.declared.any_message.AnyMessage.TheVariants as any
@@ -218,6 +220,21 @@ module _ (test : SatelliteTest) (channels : List (Option ℤ)) (m : Msm) (old no
       let none = none-left (holds_in_msm test channels slot) m slot row (before + 1) (64 - before) rest (let last = is.1 in omega arith) in
       or-turned (holds_in_msm test channels slot) m slot (has_slot now slot) (has_slot old slot) (any_satellite (holds_in_msm test channels slot) m slot 0 (satellites_of m.header))
       (sym (or-false (holds_in_msm test channels slot) m slot (has_slot now slot) (any_satellite (holds_in_msm test channels slot) m slot row (set_bits_from (before + 1) (64 - before) rest)) none) ∙ h slot is)
+
+-- ---- the satellites of a 1012
+
+or-around : (a b c : Bool) → (a || (b || c)) ≡ ((b || a) || c)
+or-around true true c = refl
+or-around true false c = refl
+or-around false true c = refl
+or-around false false c = refl
+
+-- one more satellite
+pub one-more : (test : GlonassSatellite → Bool) (ss : List GlonassSatellite) (i : ℕ) (d : GlonassSatellite) (has now new : Bool) → i < length ss
+    → now ≡ (list_any test (take i ss) || has) → new ≡ (test (get_or ss i d) || now) → new ≡ (list_any test (take (i + 1) ss) || has)
+one-more test ss i d has now new lt before puts =
+    puts ∙ ap (λ (b : Bool). test (get_or ss i d) || b) before ∙ or-around (test (get_or ss i d)) (list_any test (take i ss)) has
+    ∙ ap (λ (b : Bool). b || has) (sym (list_any_more test ss i d lt))
 
 -- ---- messages
 

@@ -127,9 +127,7 @@ fn has_slot_number(slot: u8) -> bool
 fn agrees_in_1012(channel: Channel, field: u8) -> bool
     ensures { result ≡ agrees_in_1012 channel field }
 {
-    21 <= field && field <= 29
-        || field == 31
-        || i16::from(field) == i16::from(channel.number()) + 7
+    21 <= field && field <= 29 || field == 31 || i16::from(field) == i16::from(channel.number()) + 7
 }
 
 // Returns whether the slot of a satellite in a 1012 has a channel, and its field tells another one.
@@ -156,11 +154,7 @@ fn put_satellite_1012(remarks: &mut Remarks, channels: &Channels, satellite: &Gl
 }
 
 // Puts satellites of a 1012 into the sets that they belong to.
-fn put_satellites_1012(
-    remarks: &mut Remarks,
-    channels: &Channels,
-    satellites: &[GlonassSatellite],
-)
+fn put_satellites_1012(remarks: &mut Remarks, channels: &Channels, satellites: &[GlonassSatellite])
     ensures { PutsSatellites1012 channels.now satellites.now remarks.old remarks.new }
 {
     for satellite in satellites {

@@ -269,6 +269,13 @@ pub(crate) fn put_channels_in(
     let setup = &plan.setup;
     let kind = setup.kinds().glonass;
     let own = &plan.own_channels;
-    put_channels_if(lines, surveys, setup.station(), kind, own, setup.head().glonass())?;
+    put_channels_if(
+        lines,
+        surveys,
+        setup.station(),
+        kind,
+        own,
+        setup.head().glonass(),
+    )?;
     Ok(())
 }

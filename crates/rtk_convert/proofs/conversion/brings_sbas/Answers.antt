@@ -1,8 +1,7 @@
 use Rattle.std.proofs.Common.{◌∙◌, Bool, sym, ap}
 use Rattle.std.specs.Prelude.{◌&&◌}
-use Rattle.rtk_message.specs.declared.any_message.AnyMessage.{AnyMessage as Message}
 use Rattle.rtk_collect.specs.Arrival.{message_of}
-use Rattle.rtk_convert.specs.Report.{brings_sbas, holds_sbas}
+use Rattle.rtk_convert.specs.Report.{holds_sbas}
 use Rattle.rtk_convert.proofs.BringsLemmas.{both-true, wide-none}
 use Rattle.rtk_convert.proofs.conversion.brings_sbas.Goals as goal
 

@@ -2,7 +2,7 @@ use Rattle.std.proofs.Common.{ap, ◌∙◌}
 use Rattle.rtk_convert.specs.declared.systems.Systems.{Systems}
 use Rattle.rtk_convert.specs.Systems.{has_system}
 use Rattle.rtk_convert.specs.Steps.OfferLines.{class_named}
-use Rattle.rtk_convert.proofs.BringsLemmas.{sbas-none, sbas-put, sbas-stays}
+use Rattle.rtk_convert.proofs.BringsLemmas.{sbas-none, sbas-put}
 use Rattle.rtk_convert.proofs.conversion.put_sbas.Goals as goal
 
 pub returns-then-not-sbas : goal.returns-then-not-sbas

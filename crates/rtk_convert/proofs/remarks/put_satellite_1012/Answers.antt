@@ -1,4 +1,4 @@
-use Rattle.std.proofs.Common.{ap, refl, sym, subst, ◌≡◌, ◌∙◌, ◌==◌, Bool, true}
+use Rattle.std.proofs.Common.{ap, refl, sym, ◌∙◌, ◌==◌, Bool}
 use Rattle.std.specs.Prelude.{◌&&◌, ◌||◌}
 use Rattle.rtk_obs.specs.GlonassCells.{glonass_channel}
 use Rattle.rtk_convert.specs.Slots.{has_slot, is_without_channel, is_of_other_channel, holds_in_1012}

@@ -1,5 +1,4 @@
-use Rattle.std.proofs.Common.{◌≡◌, ℕ, take}
-use Rattle.rtk_convert.specs.Slots.{is_of_other_channel, is_without_channel}
+use Rattle.std.proofs.Common.{take}
 use Rattle.rtk_convert.specs.Steps.Remarks.{PutsSatellites1012}
 use Rattle.rtk_convert.proofs.remarks.put_satellites_1012.Given as goal
 

@@ -31,9 +31,9 @@ returns-clause-handles g c =
     let systems = λ (system : System). c.put_sbas.ensures system
     ∙ ap (λ (b : Bool). sbas_by b class system || has_system c.put_system.new.systems system) c.brings_sbas-sbas.ensures
     ∙ ap (λ (b : Bool). sbas_by (brings_sbas setup (message_of a)) class system || b) (
-      c.put_system.ensures system
-      ∙ ap (λ (n : ℕ). brings_by n c.epoch-epoch.result class system || has_system old system) c.number-number.ensures
-      ∙ ap (λ (e : Option ℕ). brings_by (number_of (message_of a)) e class system || has_system old system) c.epoch-epoch.ensures.value) in
+    c.put_system.ensures system
+    ∙ ap (λ (n : ℕ). brings_by n c.epoch-epoch.result class system || has_system old system) c.number-number.ensures
+    ∙ ap (λ (e : Option ℕ). brings_by (number_of (message_of a)) e class system || has_system old system) c.epoch-epoch.ensures.value) in
     message-ok c.self.view_is (message-adds c.in_ok-class.class (sym (ap is_some c.epoch-epoch.ensures.value) ∙ c.epoch-epoch.ensures.has_epoch) c.in_ok-class.ensures.adds.ok c.count_message.ensures systems refl refl)
 
 pub returns-in_err-class-clause-handles : goal.returns-in_err-class-clause-handles

@@ -1,8 +1,0 @@
-use Rattle.std.proofs.Common.{◌++◌, ℕ, ap, ◌∙◌, append_assoc, codes, decimal}
-use Rattle.rtk_plan.proofs.leap_lines.put_to.Goals as goal
-
-pub returns : goal.returns
-returns c =
-    c.in_ok-put_named.ensures
-    ∙ ap (λ (n : ℕ). (c.args.lines.now.items ++ codes " to ") ++ decimal n) c.from.ensures
-    ∙ append_assoc c.args.lines.now.items (codes " to ") (decimal c.args.greatest)
