@@ -10,15 +10,23 @@ from __future__ import annotations
 
 import sys
 from collections import Counter
-from itertools import combinations, groupby
+from functools import lru_cache
+from itertools import combinations
 from math import dist
 from pathlib import Path
 from typing import NamedTuple
 
+import stages
+from channels import orbit_of
+from choosing import Chosen, Sent, Wanted, choose
 from equipment import equipment_of
-from messages import CODES, Refusal, cells_of, frames_of, read_message
+from messages import Cell, Refusal, cells_of, frames_of
+from mixed_cells import Channels, all_cells
 from model import civil, moment
-from wire import MSMS, WEEK_MS, BitReader, Fields, Message, table
+from msm import letter_of, read_frame
+from systems import GPS
+from valued import has_value, name_of_code, names_in
+from wire import WEEK_MS, BitReader, Fields, Message, table
 
 DAY_MS = 86_400_000
 HALF_WEEK_MS = WEEK_MS // 2
@@ -103,21 +111,24 @@ class Capture(NamedTuple):
     places: list[int]  # the byte at which the frame of each begins
     frames: int
     equipped: set[int]  # the stations of which messages tell an antenna
+    orbits: list[tuple[int, int]]  # the slots and the channels of 1020
 
     @classmethod
+    @lru_cache(64)
     def of(cls, text: bytes) -> Capture:
         read: list[Message | Fields] = []
         places: list[int] = []
         frames = frames_of(text)
         equipped = {it[0] for frame in frames for it in [equipment_of(frame.payload)] if it}
+        orbits = [it for frame in frames for it in [orbit_of(frame.payload)] if it]
         for frame in frames:
-            message = read_message(frame.payload, MSMS)
+            message = read_frame(frame.payload)
             date = date_of(frame.payload)
             if isinstance(message, Refusal) and date is None:
                 continue
             read.append(date if isinstance(message, Refusal) else message)
             places.append(frame.place)
-        return cls(read, places, len(frames), equipped)
+        return cls(read, places, len(frames), equipped, orbits)
 
     def messages(self) -> list[Message]:
         return [it for it in self.read if isinstance(it, Message)]
@@ -128,6 +139,11 @@ class Capture(NamedTuple):
 
     def of_station(self, station: int) -> list[Message]:
         return [it for it in self.messages() if it.header["station"] == station]
+
+    def sent(self, station: int) -> Sent:
+        """What it has of the station."""
+        own = [it for it in self.read if not isinstance(it, Message) and it["number"] == 1013 and it["station"] == station]
+        return Sent(self.of_station(station), self.orbits, [it["leap_seconds"] for it in own])
 
     def is_of_station(self, station: int) -> bool:
         """Whether a message of it came, be it one with observations, with a position, with a date, or with an antenna."""
@@ -149,21 +165,12 @@ def fields_of(entry: Message | Fields) -> Fields:
 
 
 def has_observation(message: Message) -> bool:
-    """A range, a phase or a strength."""
-    return "tow" in message.header and bool(codes_in(message))
+    """A range, a phase or a strength of a system that tells dates."""
+    return (letter_of(message) or "-") in stages.DATING and bool(names_in(message))
 
 
 def is_observation_of(station: int, message: Message | Fields) -> bool:
     return isinstance(message, Message) and message.header["station"] == station and has_observation(message)
-
-
-def codes_in(message: Message) -> set[str]:
-    """The codes that have a value."""
-    if "tow" not in message.header:
-        return set()
-    return {
-        code for _, code, cell in cells_of(message) if (cell.range, cell.phase, cell.strength) != (None, None, None)
-    }
 
 
 class Told(NamedTuple):
@@ -263,8 +270,7 @@ class Found(NamedTuple):
     """What a conversion of captures is told."""
 
     station: int
-    msm: int  # its number
-    codes: list[str]
+    chosen: Chosen
     near: int
     by: Fields | None  # the message that told the date
     links: list[list[int]]  # the captures of each, by their places
@@ -284,19 +290,6 @@ def station_of(captures: list[Capture], named: int | None) -> int:
     if named is None and len(stations) > 1:
         raise Stopped("several stations", *sorted(stations))
     return stations.pop() if named is None else named
-
-
-def epochs_with_value(messages: list[Message], number: int) -> int:
-    """How many epochs of an MSM have a value, where its time changes."""
-    return len(list(groupby(it.header["tow"] for it in messages if it.header["number"] == number and codes_in(it))))
-
-
-def msm_of(links: list[list[Message]]) -> int:
-    """The MSM with most epochs with a value on one of the links, of two alike the greater; 1074 if there is none."""
-    epochs = {number: max(epochs_with_value(link, number) for link in links) for number in MSMS}
-    if not any(epochs.values()):
-        return 1074
-    return max(MSMS, key=lambda number: (epochs[number], number))
 
 
 def first_told(now: int, captures: list[Capture], station: int) -> dict[int, Told]:
@@ -341,31 +334,43 @@ def stray_of(epochs: list[list[int]], places: list[int]) -> tuple[int, list[int]
     return last, [at for at, of in zip(places, epochs) if last in of]
 
 
-def few_phases(taken: list[Message], codes: list[str]) -> list[str]:
+def cells_in(message: Message, channels: Channels) -> list[tuple[str, str, Cell]]:
+    """The satellites and the names of codes of a message of the systems whose phases are counted, with their cells."""
+    letter = letter_of(message) or "-"
+    if letter not in stages.PHASES:
+        return []
+    if letter == GPS.letter:
+        return [(f"G{satellite:02}", code, cell) for satellite, code, cell in cells_of(message)]
+    return [(satellite, name_of_code(letter, code), cell) for satellite, code, cell in all_cells(message, channels)]
+
+
+def few_phases(messages: list[Message], chosen: Chosen) -> list[str]:
     """The codes that have fewer than half of the phases that their satellites have in the code that has most. Of a 1004 and an
     MSM of one epoch the phases of a code are counted once."""
-    cells = [(it.header["number"], satellite, code, cell) for it in taken if "tow" in it.header for satellite, code, cell in cells_of(it)]
-    shown = {(satellite, code) for _, satellite, code, cell in cells if (cell.range, cell.phase, cell.strength) != (None, None, None)}
-    by_number = Counter((number, satellite, code) for number, satellite, code, cell in cells if cell.phase is not None)
-    phases: dict[tuple[int, str], int] = {}
+    channels = chosen.slots.channels if chosen.slots else {}
+    taken = [it for it in messages if it.header["number"] in chosen.numbers]
+    cells = [(it.header["number"], satellite, name, cell) for it in taken for satellite, name, cell in cells_in(it, channels)]
+    shown = {(satellite, name) for _, satellite, name, cell in cells if has_value(cell)}
+    by_number = Counter((number, satellite, name) for number, satellite, name, cell in cells if cell.phase is not None)
+    phases: dict[tuple[str, str], int] = {}
     for (_, *of), count in by_number.items():
         phases[(*of,)] = max(phases.get((*of,), 0), count)
 
-    def count(code: str, other: str) -> int:
-        return sum(n for (satellite, it), n in phases.items() if it == other and (satellite, code) in shown)
+    def count(name: str, other: str) -> int:
+        return sum(n for (satellite, it), n in phases.items() if it == other and (satellite, name) in shown)
 
-    return [code for code in codes if 2 * count(code, code) < max(count(code, other) for other in CODES)]
+    others = {name for _, name in phases}
+    return [name for name in chosen.names if 2 * count(name, name) < max((count(name, other) for other in others), default=0)]
 
 
-def find(texts: list[bytes], now: int, station: int | None = None, near: int | None = None, as_given: bool = False,
-         skip_empty: bool = False) -> Found:
-    """What is found in these captures; `near` is the moment that is named, and `as_given` that each capture is a link."""
-    everything = [Capture.of(text) for text in texts]
+def find(texts: list[bytes], now: int, wanted: Wanted = Wanted()) -> Found:
+    """What is found in these captures by what is asked for."""
+    everything, near = [Capture.of(text) for text in texts], wanted.near
     if not any(it.frames for it in everything):
         raise Stopped("no frame")
-    number = station_of(everything, station)
+    number = station_of(everything, wanted.station)
     skipped = [at for at, it in enumerate(everything) if not it.is_of_station(number)]
-    if skipped and not skip_empty:
+    if skipped and not wanted.skip_empty:
         raise Stopped("nothing of the station", *skipped)
     captures = [it for at, it in enumerate(everything) if at not in skipped]
     times = [capture.times(number) for capture in captures]
@@ -385,20 +390,21 @@ def find(texts: list[bytes], now: int, station: int | None = None, near: int | N
     if not FIRST_NEAR <= near <= LAST_NEAR:
         raise Stopped("outside the dates")
     by = min(dating, default=None, key=lambda it: it.first)
-    links = links_of(epochs, as_given)
+    links = links_of(epochs, wanted.as_given)
     if len(links) > MOST_LINKS:
         raise Stopped("too many links", len(links))
     points = [point for capture in captures for point in capture.points(number)]
-    if not as_given and any(dist(a, b) > METRES_100 for a, b in combinations(points, 2)):
+    if not wanted.as_given and any(dist(a, b) > METRES_100 for a, b in combinations(points, 2)):
         raise Stopped("positions differ")
     places = [at for at in range(len(texts)) if at not in skipped]
-    msm = msm_of([[it for at in link for it in captures[at].of_station(number)] for link in links])
+    every = [it for of in epochs for it in of]
+    chosen = choose([it.sent(number) for it in captures], links, (min(every), max(every)), near, wanted)
+    if not chosen.names:
+        raise Stopped("no code")
     messages = [it for capture in captures for it in capture.of_station(number)]
-    taken = [it for it in messages if it.header["number"] in (1004, msm)]
-    codes = [it for it in CODES if it in set().union(*map(codes_in, taken))]
     return Found(
-        number, msm, codes, near, None if by is None else by.fields, [[places[at] for at in link] for link in links], epochs,
-        [places[at] for at, of in enumerate(epochs) if not of], skipped, few_phases(taken, codes), stray_of(epochs, places),
+        number, chosen, near, None if by is None else by.fields, [[places[at] for at in link] for link in links], epochs,
+        [places[at] for at, of in enumerate(epochs) if not of], skipped, few_phases(messages, chosen), stray_of(epochs, places),
     )
 
 
@@ -431,7 +437,8 @@ def main() -> None:
         about = [civil(it) if stopped.cause == "dates differ" and n else it for n, it in enumerate(stopped.about)]
         sys.exit(f"{stopped.cause}: {' '.join(map(str, about))}")
     by = found.by["number"] if found.by else "-"
-    print(f"station {found.station} msm {found.msm} codes {','.join(found.codes)} near {civil(found.near):%Y-%m-%dT%H:%M:%S}")
+    chosen = found.chosen
+    print(f"station {found.station} msm {chosen.msm} codes {','.join(chosen.names)} near {civil(found.near):%Y-%m-%dT%H:%M:%S}")
     print(f"by {by} links {found.links} from {civil(min(map(min, filter(None, found.epochs))))}")
 
 

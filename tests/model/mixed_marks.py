@@ -7,13 +7,14 @@ from __future__ import annotations
 
 from typing import Callable, Iterator
 
+from auto_lines import epochs_of
 from clocks import DAY_MS, LEAP_ROWS, UNKNOWN_DAY, glonass_parts, leap_seconds_at
 from messages import Refusal, set_bits
 from mixed_cells import NO_CHANNEL, normal_channels
-from mixed_model import LEGACY, Taking, letter_of, observations
+from mixed_model import Taking, observations
 from model import Judged
-from msm import BitReader, type_of
-from properties import HOLDS, NOT_MET, Answer, Case, Property, epochs_of
+from msm import LEGACY, BitReader, letter_of, type_of
+from properties import HOLDS, NOT_MET, Answer, Case, Property
 from systems import BY_LETTER, LETTERS, TYPES
 from wire import WEEK_MS, Message
 

@@ -14,11 +14,10 @@ from messages import Cell, Refusal, cells_of
 from mixed_cells import CONTRADICTED, NO_CHANNEL, Channels, MixedCell, all_cells, normal_channels
 from mixed_files import MixedSetup, listed, records_of, text_of
 from model import Conversion, Judged, Kept, Setup, dated, found_frames, report_of
-from msm import read_any, type_of
-from systems import BY_LETTER, GLONASS, GPS, LETTERS, System, number_of
+from msm import LEGACY, letter_of, read_any, system_of
+from systems import BY_LETTER, GLONASS, GPS, LETTERS, number_of
 from wire import Message
 
-LEGACY = 1004
 DEFAULT_KIND = "4"
 
 
@@ -116,18 +115,6 @@ class Taking:
 
     def name_of(self, satellite: str) -> str:
         return satellite
-
-
-def system_of(message: Message) -> System | None:
-    """The system of observations; nothing of a message of the station."""
-    if "tow" not in message.header:
-        return None
-    return GPS if message.header["number"] == LEGACY else type_of(message)[0]
-
-
-def letter_of(message: Message) -> str | None:
-    system = system_of(message)
-    return None if system is None else system.letter
 
 
 def observations(judged: Iterable[Judged], kinds: tuple[str, ...]) -> list[Message]:

@@ -4,8 +4,8 @@ from __future__ import annotations
 
 from clocks import is_clock
 from messages import Refusal, read_message
-from systems import TYPES, System
-from wire import HEADERS, MSM_CELL, MSM_SATELLITE, BitReader, BitWriter, Fields, Message, ones, table
+from systems import GPS, TYPES, System
+from wire import HEADERS, MSM_CELL, MSM_SATELLITE, MSMS, BitReader, BitWriter, Fields, Message, ones, table
 
 # The fields of an MSM are those of GPS, whatever the system; they depend on the kind.
 HEADER = HEADERS[1074]
@@ -19,9 +19,26 @@ SATELLITE_1012 = table(
 )
 
 
+LEGACY = 1004
+# The MSM of other systems than GPS.
+BESIDE_GPS = frozenset(number for number, (system, _) in TYPES.items() if system is not GPS)
+
+
 def type_of(message: Message) -> tuple[System, int]:
     """The system and the kind of an MSM."""
     return TYPES[message.header["number"]]
+
+
+def system_of(message: Message) -> System | None:
+    """The system of observations; nothing of a message of the station."""
+    if "tow" not in message.header:
+        return None
+    return GPS if message.header["number"] == LEGACY else type_of(message)[0]
+
+
+def letter_of(message: Message) -> str | None:
+    system = system_of(message)
+    return None if system is None else system.letter
 
 
 def payload_of_msm(message: Message) -> bytes:
@@ -44,6 +61,12 @@ def read_any(payload: bytes, numbers: frozenset[int], takes_unknown_day: bool = 
     if number in TYPES and number in numbers:
         return _read_msm(payload, number, takes_unknown_day)
     return read_message(payload, ())
+
+
+def read_frame(payload: bytes) -> Message | Refusal:
+    """The message that a payload begins with: of GPS or a station, or an MSM of another system."""
+    read = read_message(payload, MSMS)
+    return read_any(payload, BESIDE_GPS) if isinstance(read, Refusal) and read.fault == "M2" else read
 
 
 def _read_msm(payload: bytes, number: int, takes_unknown_day: bool) -> Message | Refusal:

@@ -12,13 +12,10 @@ from chains import clock_lines, week_lines
 from equipment import Told, equipment_lines, equipment_of
 from finding import date_of
 from messages import CODES, Refusal, cells_of, frames_of, read_message, set_bits
-from mixed_cells import all_cells
-from msm import read_any, type_of
-from systems import GLONASS, GPS, INDEX, SYSTEMS, TYPES
+from msm import BESIDE_GPS, read_frame, type_of
+from valued import NAMES, has_value, names_in, shown_in
+from systems import GLONASS, INDEX
 from wire import MSMS, Fields, Message, paired
-
-# The MSM of other systems than GPS.
-BESIDE_GPS = frozenset(number for number, (system, _) in TYPES.items() if system is not GPS)
 
 UNTAKEN = (1001, 1002, 1003, 1071, 1072, 1073)
 NO_DATE = "GPS-TIME-WITHIN-HALF-A-WEEK"
@@ -51,12 +48,6 @@ def summary_of(text: bytes, name: str = "file") -> str:
     if not any(line.startswith(" codes ") and line != " codes -" for line in lines):
         lines.append("nothing taken")
     return "".join(f"{line}\n" for line in lines)
-
-
-def read_frame(payload: bytes) -> Message | Refusal:
-    """The message that a payload begins with: of GPS or a station, or an MSM of another system."""
-    read = read_message(payload, MSMS)
-    return read_any(payload, BESIDE_GPS) if isinstance(read, Refusal) and read.fault == "M2" else read
 
 
 def is_of_gps(read: Message | Refusal) -> bool:
@@ -109,11 +100,9 @@ def station_lines(name: str, station: int, messages: list[Message], dated: list[
     others = [it for it in messages if not is_of_gps(it)]
     times = [it.header["tow"] for it in observations]
     shown = [entry for it in observations for entry in entries_of(it)]
-    of_others = {(satellite, code) for it in others for satellite, code in signals_of(it)}
-    found = {f"G{it:02}" for _, _, it, _ in shown} | {satellite for satellite, _ in of_others}
+    found = {satellite for it in messages for satellite, _ in shown_in(it)}
     codes = codes_of(shown, (1004, *MSMS))
-    letters_and_codes = {(satellite[0], code) for satellite, code in of_others}
-    all_codes = [*codes, *(f"{it.letter}{code}" for it in SYSTEMS for code in it.codes if (it.letter, code) in letters_and_codes)]
+    names = {name for it in messages for name in names_in(it)}
     by_number = {number: [it for it in dated if it["number"] == number] for number in (1013, 1029)}
     first = (by_number[1013] + by_number[1029])[:1]
     lines = [
@@ -123,7 +112,7 @@ def station_lines(name: str, station: int, messages: list[Message], dated: list[
         *(f" date {civil_of(its[0])} {number} {len(its)}" for number, its in by_number.items() if its),
         *equipment_lines(told),
         f" satellites {' '.join(sorted(found, key=INDEX.__getitem__)) or '-'}",
-        f" codes {','.join(all_codes) or '-'}",
+        f" codes {','.join(it for it in NAMES if it in names) or '-'}",
         *epoch_lines(others),
         *channel_lines(others),
         *clock_lines(messages),
@@ -132,18 +121,9 @@ def station_lines(name: str, station: int, messages: list[Message], dated: list[
     return lines + next_lines(name, near, station, shown) if codes else lines
 
 
-def signals_of(message: Message) -> list[tuple[str, str]]:
-    """The satellites and codes with a value, of an MSM of another system than GPS. GLONASS has no phases, since no channel is given."""
-    return [
-        (satellite, code)
-        for satellite, code, cell in all_cells(message, {})
-        if (cell.range, cell.phase, cell.strength) != (None, None, None)
-    ]
-
-
 def epoch_lines(others: list[Message]) -> list[str]:
     """How many runs of messages of one clock there are, of those of each number that have a value."""
-    valued = [(it.header["number"], it.header["tow"]) for it in others if signals_of(it)]
+    valued = [(it.header["number"], it.header["tow"]) for it in others if shown_in(it)]
     clocks = {number: [clock for its, clock in valued if its == number] for number in sorted(BESIDE_GPS)}
     return [f" epochs {number} {len(list(groupby(its)))}" for number, its in clocks.items() if its]
 
@@ -169,7 +149,7 @@ def entries_of(message: Message) -> list[Shown]:
     return [
         (number, tow, satellite, code)
         for satellite, code, cell in cells_of(message)
-        if (cell.range, cell.phase, cell.strength) != (None, None, None)
+        if has_value(cell)
     ]
 
 

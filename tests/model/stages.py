@@ -1,0 +1,17 @@
+"""How much of the plan of all systems the program has. Each switch is turned with the step of the program that it belongs to, and goes
+once all are turned."""
+
+# The systems whose observations tell the station, the dates and the spans of captures; in the end they are GEJSI.
+DATING = "G"
+# The systems whose phases are counted for the lines of codes with few phases.
+PHASES = "G"
+# GLONASS is compared by the leap seconds of the table that hold at each message, and not at the first epoch alone.
+OWN_LEAP_SECONDS = False
+# Leap seconds of GLONASS that are wrong everywhere by the same whole seconds are set right.
+SETS_LEAP_SECONDS = False
+# A system that no chain compares has a line.
+TELLS_UNCHECKED = False
+# More than two slots with one channel have a line, and slots with several channels.
+TELLS_CHANNELS = False
+# The words of `auto` beside those that it has for GPS.
+WORDS = ("--msm", "--codes")
