@@ -13,11 +13,12 @@ from captures import LAST_MADE
 from choosing import Wanted
 from finding import FIRST_DAY, Found, Stopped
 from messages import Refusal, frames_of, read_message
+from mixed_cells import has_sbas
 from mixed_model import Options, channels_text
 from model import Conversion, civil, moment
-from msm import LEGACY, letter_of
+from msm import letter_of
 from summaries import UNTAKEN, look_of, sh_quoted
-from systems import GLONASS, GPS, LETTERS, number_of
+from systems import GLONASS, GPS, number_of
 from wire import MSMS, WEEK_MS, Fields, Message
 
 # By their bytes, as link1, link10, .., link2: another order than that of their numbers.
@@ -271,10 +272,6 @@ def left_out_lines(found: Found, texts: list[bytes]) -> list[str]:
     sbas = sum(has_sbas(it) for it in own)
     lines += [f" not in the file: SBAS of 1004, {sbas} messages"] * (sbas > 0)
     return lines + [f" not in the file: {system_text(it)} {it}, {others[it]} messages" for it in numbers if it not in of_gps]
-
-
-def has_sbas(message: Message) -> bool:
-    return message.header["number"] == LEGACY and any(40 <= row["satellite"] <= 58 for row in message.satellites)
 
 
 def slot_lines(found: Found) -> list[str]:

@@ -13,5 +13,7 @@ SETS_LEAP_SECONDS = False
 TELLS_UNCHECKED = False
 # More than two slots with one channel have a line, and slots with several channels.
 TELLS_CHANNELS = False
+# `convert` takes 1012.
+CONVERTS_1012 = False
 # The words of `auto` beside those that it has for GPS.
 WORDS = ("--msm", "--codes")

@@ -11,7 +11,7 @@ from itertools import groupby
 from chains import clock_lines, week_lines
 from equipment import Told, equipment_lines, equipment_of
 from finding import date_of
-from messages import CODES, Refusal, cells_of, frames_of, read_message, set_bits
+from messages import CODES, Refusal, cells_of, frames_of, set_bits
 from msm import BESIDE_GPS, read_frame, type_of
 from valued import NAMES, has_value, names_in, shown_in
 from systems import GLONASS, INDEX
