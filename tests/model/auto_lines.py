@@ -53,6 +53,9 @@ class Asked(NamedTuple):
         flags = ["--links-as-given"] * it.as_given + ["--skip-empty"] * it.skip_empty
         return [f"{name}={value}" for name, value in values.items() if value is not None] + flags
 
+    def captures(self, texts: list[bytes]) -> list[finding.Capture]:
+        return [finding.Capture.of(text, self.wanted.dating) for text in texts]
+
     def options(self, found: Found) -> Options:
         """Those of the conversion."""
         chosen = found.chosen
@@ -83,17 +86,17 @@ STOPPED = {
 def refusal_pattern(stopped: Stopped, asked: Asked, texts: list[bytes]) -> str:
     """How standard error begins if nothing can be converted."""
     station = asked.wanted.station
-    listed = stations_text(stopped.about, texts) if "station" in STOPPED[stopped.cause] else ""
+    captures = asked.captures(texts)
+    listed = stations_text(stopped.about, captures) if "station" in STOPPED[stopped.cause] else ""
     if stopped.cause in ("two dates", "no date"):
-        told = two_dates_text(asked.now, texts, station, *stopped.about) if stopped.about else to_come_text(asked.now, texts)
+        told = two_dates_text(asked.now, captures, station, *stopped.about) if stopped.about else to_come_text(asked.now, captures)
         listed = re.escape(told)
     return f"rtcm2rinex: {STOPPED[stopped.cause]}\n".replace("STATION", str(station)) + listed
 
 
-def stations_text(stations: tuple[object, ...], texts: list[bytes]) -> str:
+def stations_text(stations: tuple[object, ...], captures: list[finding.Capture]) -> str:
     """A line for each of these stations and each capture with observations of it, with how many epochs its messages have."""
-    captures = [finding.Capture.of(text) for text in texts]
-    times = {(it, at): [of.header["tow"] for of in capture.of_station(it) if (letter_of(of) or "-") in stages.DATING]
+    times = {(it, at): [of.header["tow"] for of in capture.of_station(it) if (letter_of(of) or "-") in capture.dating]
              for it in stations for at, capture in enumerate(captures, 1) if it in capture.observing()}
     return "".join(f" station {it} in {name_of(at - 1)}: {len(list(groupby(of)))} epochs\n" for (it, at), of in times.items())
 
@@ -104,9 +107,8 @@ def date_text(fields: Fields, moment: int, name: str) -> str:
     return f" {shown_time(moment)} by {fields['number']}{station} in {name}"
 
 
-def two_dates_text(now: int, texts: list[bytes], station: int | None, at: int, byte: int) -> str:
+def two_dates_text(now: int, captures: list[finding.Capture], station: int | None, at: int, byte: int) -> str:
     """The dates of the captures that tell several, and the commands that part the one at this place at a byte."""
-    captures = [finding.Capture.of(text) for text in texts]
     number = finding.station_of(captures, station)
     told = [distinct(finding.counting(finding.tellings(now, it, number), number)) for it in captures]
     lines = [date_text(it.fields, it.first, name_of(place)) for place, of in enumerate(told) for it in of if len(of) > 1]
@@ -117,9 +119,9 @@ def two_dates_text(now: int, texts: list[bytes], station: int | None, at: int, b
     return "".join(f"{line}\n" for line in lines)
 
 
-def to_come_text(now: int, texts: list[bytes]) -> str:
+def to_come_text(now: int, captures: list[finding.Capture]) -> str:
     """The first date of each capture that is passed over since it is to come."""
-    dates = [(at, finding.first_to_come(now, finding.Capture.of(text))) for at, text in enumerate(texts)]
+    dates = [(at, finding.first_to_come(now, capture)) for at, capture in enumerate(captures)]
     moments = [(at, it, finding.DAY_MS * (it["day"] - FIRST_DAY) + 1000 * it["second"]) for at, it in dates if it is not None]
     return "".join(f"{date_text(it, moment, name_of(at))}: it is after the time of making\n" for at, it, moment in moments)
 
@@ -148,10 +150,10 @@ def auto_text(found: Found, asked: Asked, due: Conversion, texts: list[bytes]) -
     lines += [f" few-phases {code}: its satellites have more than twice as many in another code" for code in found.few]
     lines += found.chosen.clocks
     lines += [f" unchecked {letter}" for letter in found.chosen.unchecked]
+    lines += slot_lines(found)
     lines += late_lines(found, asked, due)
     lines += capture_lines(found, texts)
     lines += left_out_lines(found, texts)
-    lines += slot_lines(found)
     lines += ["rtcm2rinex: no record came; the file is a header alone"] * (due.epochs == 0)
     return "".join(f"{line}\n" for line in lines)
 
@@ -171,8 +173,8 @@ def command_lines(found: Found, said: Options) -> list[str]:
     """The command, which first joins captures where several make a link."""
     marker = said.marker.lstrip("-")
     chosen = {
-        "--codes": ",".join(said.names), "--msm": said.msm, "--channels": None if said.channels is None else channels_text(said.channels),
-        "--leap-seconds": said.leap, "--window": said.window,
+        "--codes": ",".join(said.names), "--msm": said.msm, "--window": said.window,
+        "--channels": None if said.channels is None else channels_text(said.channels), "--leap-seconds": said.leap,
     }  # fmt: skip
     words = (f"rtcm2rinex convert --station {said.station} --near {shown_time(said.near)} --made {shown_time(said.made)}"
              f" --marker {'-' * (len(said.marker) - len(marker))}{sh_quoted(marker)} "
@@ -210,7 +212,7 @@ def kept_places(found: Found, texts: list[bytes]) -> list[int]:
 def date_lines(found: Found, asked: Asked, texts: list[bytes]) -> list[str]:
     """The captures that tell no date, and the dates that a capture tells and does not have."""
     kept, station = kept_places(found, texts), found.station
-    tellings = {at: finding.tellings(asked.now, finding.Capture.of(texts[at]), station) for at in kept}
+    tellings = {at: finding.tellings(asked.now, capture, station) for at, capture in enumerate(asked.captures(texts)) if at in kept}
     told = {at: distinct(finding.counting(it, station)) for at, it in tellings.items()}
     passed = {at: distinct(finding.passed_over(it, station)) for at, it in tellings.items()}
     lines = []

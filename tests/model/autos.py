@@ -71,7 +71,7 @@ def auto_as_modelled(case: Case) -> Answer:
     asked = some_asked(case, texts)
     if asked.wanted.station is None:
         # what is kept of a capture is of one station: of that of its first message, before any has an observation
-        texts.sort(key=lambda it: not finding.Capture.of(it).observing())
+        texts.sort(key=lambda it: not finding.Capture.of(it, asked.wanted.dating).observing())
     names = [name_of(at) for at in range(len(texts))]
     for name, text in zip(names, texts):
         case.program.write(name, text)

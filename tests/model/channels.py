@@ -70,14 +70,14 @@ def alike_of(told: dict[int, Optional[int]]) -> dict[int, list[int]]:
     return {channel: its for channel, its in slots.items() if len(its) > MOST_ALIKE}
 
 
-def slots_of(shown: Iterable[int], by_rows: Told, by_orbits: Told, given: dict[int, int]) -> Slots:
+def slots_of(shown: Iterable[int], by_rows: Told, by_orbits: Told, given: dict[int, int], doubts: bool) -> Slots:
     """What is found of the slots that have a cell: a given channel, else that of most entries of observations, else that of most 1020.
-    Of slots that are alike by observations a 1020 goes before these."""
+    Of slots that are alike by observations a 1020 goes before these, if such are doubted."""
     shown = sorted(set(shown))
     nothing: Counter[int] = Counter()
     own = {slot: most_told(by_rows.get(slot, nothing)) for slot in shown if slot not in given}
     alike = alike_of(own)
-    doubted = {slot for its in alike.values() for slot in its}
+    doubted = {slot for its in alike.values() for slot in its if doubts}
     channels = dict(given)
     for slot, channel in own.items():
         of_orbit = most_told(by_orbits.get(slot, nothing))

@@ -44,6 +44,12 @@ class Wanted(NamedTuple):
             asked = set(LETTERS if self.systems is None else self.systems)
         return "".join(it for it in LETTERS if it in asked)
 
+    @property
+    def dating(self) -> str:
+        """The systems whose observations tell the station, dates and spans: those that are asked for, or else all that can."""
+        asked = LETTERS if self.systems is None else self.systems
+        return "".join(it for it in stages.DATING if it in asked) or stages.DATING
+
 
 class Sent(NamedTuple):
     """What a capture has of the station: its messages in their order, and what the 1020 of any station and its own 1013 tell."""
@@ -162,7 +168,7 @@ def choose(captures: list[Sent], links: list[list[int]], span: tuple[int, int], 
     wrong = [it for it in wanted.letters if wanted.names is None and is_wrong(offsets[it])]
     letters = [it for it in wanted.letters if it not in wrong]
     kinds = {it: wanted.msm or kind_of(of_links, it) or DEFAULT_KIND for it in letters}
-    names = wanted.names or tuple(names_shown(messages, numbers_of(kinds)))
+    names = tuple(sorted(wanted.names or names_shown(messages, numbers_of(kinds)), key=lambda it: LETTERS.index(letter_of_name(it))))
     kinds = {it: kind for it, kind in kinds.items() if it in map(letter_of_name, names)}
     lines = [line for it in wanted.letters if it != GPS.letter for line in offset_lines(it, offsets[it])]
     unchecked = [it for it in kinds if not offsets[it] and it != first_timing(messages)] if stages.TELLS_UNCHECKED else []
@@ -174,4 +180,5 @@ def slots_chosen(captures: list[Sent], chosen: Chosen, wanted: Wanted) -> Slots:
     """The channels of GLONASS."""
     messages = [it for capture in captures for it in capture.messages]
     orbits = told_by_orbits(it for capture in captures for it in capture.orbits)
-    return slots_of(slots_shown(messages, chosen.numbers, chosen.names), told_by(messages), orbits, wanted.channels or {})
+    shown = slots_shown(messages, chosen.numbers, chosen.names)
+    return slots_of(shown, told_by(messages), orbits, wanted.channels or {}, stages.TELLS_CHANNELS)

@@ -112,10 +112,11 @@ class Capture(NamedTuple):
     frames: int
     equipped: set[int]  # the stations of which messages tell an antenna
     orbits: list[tuple[int, int]]  # the slots and the channels of 1020
+    dating: str  # the systems whose observations tell the station, dates and spans
 
     @classmethod
     @lru_cache(64)
-    def of(cls, text: bytes) -> Capture:
+    def of(cls, text: bytes, dating: str) -> Capture:
         read: list[Message | Fields] = []
         places: list[int] = []
         frames = frames_of(text)
@@ -128,14 +129,21 @@ class Capture(NamedTuple):
                 continue
             read.append(date if isinstance(message, Refusal) else message)
             places.append(frame.place)
-        return cls(read, places, len(frames), equipped, orbits)
+        return cls(read, places, len(frames), equipped, orbits, dating)
 
     def messages(self) -> list[Message]:
         return [it for it in self.read if isinstance(it, Message)]
 
     def observing(self) -> list[int]:
         """The stations with observations, in the order in which they come."""
-        return [it.header["station"] for it in self.messages() if has_observation(it)]
+        return [it.header["station"] for it in self.messages() if self.has_observation(it)]
+
+    def has_observation(self, message: Message) -> bool:
+        """A range, a phase or a strength of a system that tells dates."""
+        return (letter_of(message) or "-") in self.dating and bool(names_in(message))
+
+    def observes(self, station: int, entry: Message | Fields) -> bool:
+        return isinstance(entry, Message) and entry.header["station"] == station and self.has_observation(entry)
 
     def of_station(self, station: int) -> list[Message]:
         return [it for it in self.messages() if it.header["station"] == station]
@@ -157,20 +165,11 @@ class Capture(NamedTuple):
 
     def times(self, station: int) -> list[int]:
         """The times of week of the station's messages that have an observation."""
-        return [it.header["tow"] for it in self.messages() if is_observation_of(station, it)]
+        return [it.header["tow"] for it in self.messages() if self.observes(station, it)]
 
 
 def fields_of(entry: Message | Fields) -> Fields:
     return entry.header if isinstance(entry, Message) else entry
-
-
-def has_observation(message: Message) -> bool:
-    """A range, a phase or a strength of a system that tells dates."""
-    return (letter_of(message) or "-") in stages.DATING and bool(names_in(message))
-
-
-def is_observation_of(station: int, message: Message | Fields) -> bool:
-    return isinstance(message, Message) and message.header["station"] == station and has_observation(message)
 
 
 class Told(NamedTuple):
@@ -189,7 +188,7 @@ def tellings(now: int, capture: Capture, station: int) -> list[Told]:
     times = capture.times(station)
     told, epochs, waited = [], 0, 0
     for place, entry in enumerate(capture.read):
-        epochs += is_observation_of(station, entry)
+        epochs += capture.observes(station, entry)
         if isinstance(entry, Message) or not times:
             continue
         waited += epochs == 0
@@ -228,7 +227,7 @@ def second_begins(capture: Capture, told: list[Told], station: int) -> int | Non
     None without a second date, and if it came before all epochs."""
     own = [it for it in told if it.fields.get("station") == station]
     others = [it for it in own if it.first != own[0].first]
-    epochs = [at for at, it in enumerate(capture.read) if is_observation_of(station, it)]
+    epochs = [at for at, it in enumerate(capture.read) if capture.observes(station, it)]
     if not others or epochs[0] > others[0].at:
         return None
     second = others[0].at
@@ -365,7 +364,7 @@ def few_phases(messages: list[Message], chosen: Chosen) -> list[str]:
 
 def find(texts: list[bytes], now: int, wanted: Wanted = Wanted()) -> Found:
     """What is found in these captures by what is asked for."""
-    everything, near = [Capture.of(text) for text in texts], wanted.near
+    everything, near = [Capture.of(text, wanted.dating) for text in texts], wanted.near
     if not any(it.frames for it in everything):
         raise Stopped("no frame")
     number = station_of(everything, wanted.station)

@@ -93,10 +93,11 @@ class Taking:
         return self.read_before[payload]
 
     def _read(self, payload: bytes) -> Message | Refusal:
-        """A 1004 is of GPS: if no code of GPS is listed, it is another message, whatever is wrong with it."""
+        """A 1004 is of GPS, and may have satellites of SBAS: if no code of these is listed, it is another message, whatever is wrong
+        with it."""
         message = read_any(payload, self.numbers, self.with_1012)
         number = message.number if isinstance(message, Refusal) else message.header["number"]
-        return Refusal("M2", LEGACY) if number == LEGACY and GPS.letter not in self.letters else message
+        return Refusal("M2", LEGACY) if number == LEGACY and not {GPS.letter, SBAS.letter} & set(self.letters) else message
 
     def time_of(self, message: Message) -> int | None:
         """The moment of observations, which is told by the clock of their system."""

@@ -16,4 +16,4 @@ TELLS_CHANNELS = False
 # `convert` takes 1012.
 CONVERTS_1012 = False
 # The words of `auto` beside those that it has for GPS.
-WORDS = ("--msm", "--codes")
+WORDS = ("--msm", "--codes", "--systems", "--channels", "--leap-seconds")
