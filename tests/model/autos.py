@@ -10,7 +10,7 @@ import stages
 from auto_lines import Asked, auto_text, name_of, refusal_pattern
 from captures import LAST_MADE
 from choosing import Wanted
-from finding import Stopped, find
+from finding import Found, Stopped, find
 from mixed_captures import names_of, some_letters
 from mixed_model import Options, convert_mixed
 from model import Setup
@@ -77,17 +77,18 @@ def auto_as_modelled(case: Case) -> Answer:
         case.program.write(name, text)
     # the order of the captures makes no difference, since their names count
     given = names if asked.wanted.as_given else case.rng.sample(names, len(names))
-    return judged(case.program.run(["auto", *asked.words(), *given]), asked, texts)
-
-
-def judged(run: Ended, asked: Asked, texts: list[bytes]) -> Answer:
-    """How a run on these captures is not as it is due."""
+    run = case.program.run(["auto", *asked.words(), *given])
     try:
-        found = find(texts, asked.now, asked.wanted)
+        case.found = find(texts, asked.now, asked.wanted)
     except Stopped as stopped:
         line = refusal_pattern(stopped, asked, texts)
         is_said = re.match(line.encode(), run.err)
         return ends_with(run, 3, b"", None) or (HOLDS if is_said else f"{run.err!r} and not {line!r}")
+    return judged(run, case.found, asked, texts)
+
+
+def judged(run: Ended, found: Found, asked: Asked, texts: list[bytes]) -> Answer:
+    """How a run that makes a file of these captures is not as it is due."""
     due = convert_mixed(asked.options(found), [b"".join(texts[at] for at in link) for link in found.links])
     text = auto_text(found, asked, due, texts).encode()
     if len(found.links) > 1:

@@ -56,9 +56,11 @@ def most_told(counted: Counter[int]) -> int | None:
 
 
 class Slots(NamedTuple):
-    """The channels of slots, and what is told of them: the slots without one, those with several, and those that are alike."""
+    """The channels of slots, and what is told of them: the slots whose channel a 1020 tells, those without one, those with several,
+    and those that are alike."""
 
     channels: dict[int, int]
+    by_orbits: list[int]
     without: list[int]
     several: dict[int, list[int]]
     alike: dict[int, list[int]]
@@ -78,11 +80,13 @@ def slots_of(shown: Iterable[int], by_rows: Told, by_orbits: Told, given: dict[i
     own = {slot: most_told(by_rows.get(slot, nothing)) for slot in shown if slot not in given}
     alike = alike_of(own)
     doubted = {slot for its in alike.values() for slot in its if doubts}
-    channels = dict(given)
+    channels, from_orbits = dict(given), []
     for slot, channel in own.items():
         of_orbit = most_told(by_orbits.get(slot, nothing))
-        found = of_orbit if channel is None or (slot in doubted and of_orbit is not None) else channel
+        is_by_orbit = of_orbit is not None and (channel is None or slot in doubted)
+        found = of_orbit if is_by_orbit else channel
+        from_orbits += [slot] * is_by_orbit
         if found is not None:
             channels[slot] = found
     several = {slot: sorted(by_rows[slot]) for slot in own if len(by_rows.get(slot, nothing)) > 1}
-    return Slots(channels, [slot for slot in shown if slot not in channels], several, alike)
+    return Slots(channels, from_orbits, [slot for slot in shown if slot not in channels], several, alike)

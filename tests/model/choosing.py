@@ -61,13 +61,15 @@ class Sent(NamedTuple):
 
 class Chosen(NamedTuple):
     """What is converted, and what is told of it: the names of codes, the kind of each of their systems, the slots of GLONASS if a
-    code of it is listed, the leap seconds that are given, the lines of clocks, and the systems that no chain compares."""
+    code of it is listed, the leap seconds that are given, the lines of clocks, the systems that a wrong clock leaves out, and those that
+    no chain compares."""
 
     names: tuple[str, ...]
     kinds: dict[str, int]
     slots: Optional[Slots]
     leap: Optional[int]
     clocks: list[str]
+    wrong: str
     unchecked: str
 
     @property
@@ -165,14 +167,14 @@ def choose(captures: list[Sent], links: list[list[int]], span: tuple[int, int], 
     if stages.SETS_LEAP_SECONDS and leap is None and is_wrong(offsets[GLONASS.letter]):
         leap = right_leap_seconds(captures, *span, date)
         offsets = total_offsets(captures, date._replace(leap=leap))
-    wrong = [it for it in wanted.letters if wanted.names is None and is_wrong(offsets[it])]
+    wrong = "".join(it for it in wanted.letters if wanted.names is None and is_wrong(offsets[it]))
     letters = [it for it in wanted.letters if it not in wrong]
     kinds = {it: wanted.msm or kind_of(of_links, it) or DEFAULT_KIND for it in letters}
     names = tuple(sorted(wanted.names or names_shown(messages, numbers_of(kinds)), key=lambda it: LETTERS.index(letter_of_name(it))))
     kinds = {it: kind for it, kind in kinds.items() if it in map(letter_of_name, names)}
     lines = [line for it in wanted.letters if it != GPS.letter for line in offset_lines(it, offsets[it])]
     unchecked = [it for it in kinds if not offsets[it] and it != first_timing(messages)] if stages.TELLS_UNCHECKED else []
-    chosen = Chosen(names, kinds, None, leap if GLONASS.letter in kinds else None, lines, "".join(unchecked))
+    chosen = Chosen(names, kinds, None, leap if GLONASS.letter in kinds else None, lines, wrong, "".join(unchecked))
     return chosen._replace(slots=slots_chosen(captures, chosen, wanted)) if GLONASS.letter in kinds else chosen
 
 

@@ -22,7 +22,7 @@ import qualities
 from captures import Capture
 from checker import fault
 from damages import damaged_file
-from finding import EPHEMERIS, FIRST_DAY, SYSTEM_PARAMETERS, TEXT
+from finding import EPHEMERIS, FIRST_DAY, SYSTEM_PARAMETERS, TEXT, Found
 from messages import Placed, frames_of, show_line
 from model import COUNTS, KINDS, Conversion, Judged, Setup, convert, report_of
 from parts import Part, part_of, records_of
@@ -48,6 +48,7 @@ class Case:
     program: Program
     base: Ended
     rng: Random
+    found: Found | None = None  # what `auto` found, if it made a file
 
     def convert(self, links: list[bytes], on_stdin: int | None = None) -> Ended:
         return self.program.convert(self.capture.setup, links, on_stdin)
