@@ -6,7 +6,7 @@ from collections import Counter
 from typing import Iterable, NamedTuple, Optional
 
 from messages import set_bits
-from msm import letter_of
+from msm import LEGACY_GLONASS, letter_of
 from systems import GLONASS
 from wire import BitReader, Message, paired
 
@@ -20,8 +20,12 @@ Told = dict[int, "Counter[int]"]  # by slots, how often each channel is told
 
 def told_of_rows(message: Message) -> list[tuple[int, int]]:
     """The slots of 1 to 27 of a message of GLONASS, each with the channel that its entry tells, as often as one does."""
-    rows = paired(set_bits(message.header["satellite_mask"], 64), message.satellites)
-    return [(slot, row["extended"] - 7) for slot, row in rows if GLONASS.name(slot) and row.get("extended", TELLS_NONE) < TELLS_NONE]
+    if message.header["number"] == LEGACY_GLONASS:
+        told = [(row["slot"], row["channel"]) for row in message.satellites]
+    else:
+        rows = paired(set_bits(message.header["satellite_mask"], 64), message.satellites)
+        told = [(slot, row.get("extended", TELLS_NONE)) for slot, row in rows]
+    return [(slot, field - 7) for slot, field in told if GLONASS.name(slot) and field < TELLS_NONE]
 
 
 def told_by(messages: Iterable[Message]) -> Told:

@@ -20,12 +20,10 @@ import stages
 from channels import orbit_of
 from choosing import Chosen, Sent, Wanted, choose
 from equipment import equipment_of
-from messages import Cell, Refusal, cells_of, frames_of
-from mixed_cells import Channels, all_cells
+from messages import Refusal, frames_of
 from model import civil, moment
 from msm import letter_of, read_frame
-from systems import GPS
-from valued import has_value, name_of_code, names_in
+from valued import cells_in, has_value, name_of_code, names_in
 from wire import WEEK_MS, BitReader, Fields, Message, table
 
 DAY_MS = 86_400_000
@@ -333,22 +331,17 @@ def stray_of(epochs: list[list[int]], places: list[int]) -> tuple[int, list[int]
     return last, [at for at, of in zip(places, epochs) if last in of]
 
 
-def cells_in(message: Message, channels: Channels) -> list[tuple[str, str, Cell]]:
-    """The satellites and the names of codes of a message of the systems whose phases are counted, with their cells."""
-    letter = letter_of(message) or "-"
-    if letter not in stages.PHASES:
-        return []
-    if letter == GPS.letter:
-        return [(f"G{satellite:02}", code, cell) for satellite, code, cell in cells_of(message)]
-    return [(satellite, name_of_code(letter, code), cell) for satellite, code, cell in all_cells(message, channels)]
-
-
 def few_phases(messages: list[Message], chosen: Chosen) -> list[str]:
     """The codes that have fewer than half of the phases that their satellites have in the code that has most. Of a 1004 and an
     MSM of one epoch the phases of a code are counted once."""
     channels = chosen.slots.channels if chosen.slots else {}
     taken = [it for it in messages if it.header["number"] in chosen.numbers]
-    cells = [(it.header["number"], satellite, name, cell) for it in taken for satellite, name, cell in cells_in(it, channels)]
+    cells = [
+        (it.header["number"], satellite, name_of_code(satellite[0], code), cell)
+        for it in taken
+        for satellite, code, cell in cells_in(it, channels)
+        if satellite[0] in stages.PHASES
+    ]
     shown = {(satellite, name) for _, satellite, name, cell in cells if has_value(cell)}
     by_number = Counter((number, satellite, name) for number, satellite, name, cell in cells if cell.phase is not None)
     phases: dict[tuple[str, str], int] = {}

@@ -2,6 +2,7 @@
 
 from __future__ import annotations
 
+import stages
 from clocks import DAY_MS, UNKNOWN_DAY, glonass_clock, is_clock
 from messages import Refusal, read_message
 from systems import GLONASS, GPS, TYPES, System
@@ -68,7 +69,11 @@ def read_any(payload: bytes, numbers: frozenset[int], takes_unknown_day: bool = 
 def read_frame(payload: bytes) -> Message | Refusal:
     """The message that a payload begins with: of GPS or a station, or an MSM of another system."""
     read = read_message(payload, MSMS)
-    return read_any(payload, BESIDE_GPS) if isinstance(read, Refusal) and read.fault == "M2" else read
+    if not isinstance(read, Refusal) or read.fault != "M2":
+        return read
+    if stages.FINDS_1012:
+        return read_any(payload, BESIDE_GPS | {LEGACY_GLONASS}, True)
+    return read_any(payload, BESIDE_GPS)
 
 
 def _read_msm(payload: bytes, number: int, takes_unknown_day: bool) -> Message | Refusal:

@@ -13,7 +13,10 @@ SETS_LEAP_SECONDS = False
 TELLS_UNCHECKED = False
 # More than two slots with one channel have a line, and slots with several channels.
 TELLS_CHANNELS = False
-# `convert` takes 1012.
+# `convert` takes 1012, and satellites of SBAS of a 1004.
 CONVERTS_1012 = False
+# `summary` and `auto` find 1012, MSM of GLONASS that do not know the day, and satellites of SBAS of a 1004.
+FINDS_1012 = False
+FINDS_SBAS = False
 # The words of `auto` beside those that it has for GPS.
 WORDS = ("--msm", "--codes", "--systems", "--channels", "--leap-seconds")

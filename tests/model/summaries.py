@@ -9,13 +9,14 @@ from datetime import datetime, timedelta
 from itertools import groupby
 
 from chains import clock_lines, week_lines
+from channels import told_by
 from equipment import Told, equipment_lines, equipment_of
 from finding import date_of
-from messages import CODES, Refusal, cells_of, frames_of, set_bits
-from msm import BESIDE_GPS, read_frame, type_of
+from messages import CODES, Refusal, cells_of, frames_of
+from msm import BESIDE_GPS, LEGACY_GLONASS, letter_of, read_frame
 from valued import NAMES, has_value, names_in, shown_in
-from systems import GLONASS, INDEX
-from wire import MSMS, Fields, Message, paired
+from systems import GPS, INDEX
+from wire import MSMS, Fields, Message
 
 UNTAKEN = (1001, 1002, 1003, 1071, 1072, 1073)
 NO_DATE = "GPS-TIME-WITHIN-HALF-A-WEEK"
@@ -48,11 +49,6 @@ def summary_of(text: bytes, name: str = "file") -> str:
     if not any(line.startswith(" codes ") and line != " codes -" for line in lines):
         lines.append("nothing taken")
     return "".join(f"{line}\n" for line in lines)
-
-
-def is_of_gps(read: Message | Refusal) -> bool:
-    """A message that is no MSM of another system."""
-    return not isinstance(read, Refusal) and read.header["number"] not in BESIDE_GPS
 
 
 def look_of(text: bytes) -> str:
@@ -96,8 +92,8 @@ def unread_lines(faults: Counter[Refusal]) -> list[str]:
 
 def station_lines(name: str, station: int, messages: list[Message], dated: list[Fields], told: list[Told]) -> list[str]:
     counts = Counter(it.header["number"] for it in messages)
-    observations = [it for it in messages if is_of_gps(it) and "tow" in it.header]
-    others = [it for it in messages if not is_of_gps(it)]
+    observations = [it for it in messages if letter_of(it) == GPS.letter]
+    others = [it for it in messages if letter_of(it) not in (None, GPS.letter)]
     times = [it.header["tow"] for it in observations]
     shown = [entry for it in observations for entry in entries_of(it)]
     found = {satellite for it in messages for satellite, _ in shown_in(it)}
@@ -124,20 +120,14 @@ def station_lines(name: str, station: int, messages: list[Message], dated: list[
 def epoch_lines(others: list[Message]) -> list[str]:
     """How many runs of messages of one clock there are, of those of each number that have a value."""
     valued = [(it.header["number"], it.header["tow"]) for it in others if shown_in(it)]
-    clocks = {number: [clock for its, clock in valued if its == number] for number in sorted(BESIDE_GPS)}
+    clocks = {number: [clock for its, clock in valued if its == number] for number in sorted({LEGACY_GLONASS, *BESIDE_GPS})}
     return [f" epochs {number} {len(list(groupby(its)))}" for number, its in clocks.items() if its]
 
 
 def channel_lines(others: list[Message]) -> list[str]:
     """The channels that messages of GLONASS tell, of each slot from 1 to 27."""
-    told = {
-        (slot, row["extended"] - 7)
-        for it in others
-        if type_of(it)[0] is GLONASS
-        for slot, row in paired(set_bits(it.header["satellite_mask"], 64), it.satellites)
-        if slot <= 27 and row.get("extended", 15) < 14
-    }
-    return [f" channels {','.join(f'{slot}:{channel}' for slot, channel in sorted(told))}"] if told else []
+    told = [f"{slot}:{channel}" for slot, its in sorted(told_by(others).items()) for channel in sorted(its)]
+    return [f" channels {','.join(told)}"] if told else []
 
 
 Shown = tuple[int, int, int, str]  # number of a message, time, satellite and code

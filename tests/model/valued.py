@@ -4,9 +4,10 @@ from __future__ import annotations
 
 from functools import lru_cache
 
+import stages
 from messages import Cell, cells_of
-from mixed_cells import all_cells
-from msm import system_of
+from mixed_cells import MixedCell, all_cells, cells_of_1004, cells_of_1012
+from msm import LEGACY, LEGACY_GLONASS, system_of
 from systems import GPS, SYSTEMS
 from wire import Message
 
@@ -15,15 +16,22 @@ def has_value(cell: Cell) -> bool:
     return (cell.range, cell.phase, cell.strength) != (None, None, None)
 
 
-@lru_cache(10_000)
-def shown_in(message: Message) -> list[tuple[str, str]]:
-    """The satellites and codes with a value, of observations. GLONASS has no phases here, since no channel is given."""
-    system = system_of(message)
+def cells_in(message: Message, channels: dict[int, int]) -> list[MixedCell]:
+    """The cells of observations, none of a message of the station."""
+    system, number = system_of(message), message.header["number"]
     if system is None:
         return []
+    if number == LEGACY and stages.FINDS_SBAS:
+        return cells_of_1004(message, True)
     if system is GPS:
-        return [(f"G{satellite:02}", code) for satellite, code, cell in cells_of(message) if has_value(cell)]
-    return [(satellite, code) for satellite, code, cell in all_cells(message, {}) if has_value(cell)]
+        return [(f"G{satellite:02}", code, cell) for satellite, code, cell in cells_of(message)]
+    return cells_of_1012(message, channels) if number == LEGACY_GLONASS else all_cells(message, channels)
+
+
+@lru_cache(10_000)
+def shown_in(message: Message) -> list[tuple[str, str]]:
+    """The satellites and codes with a value. GLONASS has no phases here, since no channel is given."""
+    return [(satellite, code) for satellite, code, cell in cells_in(message, {}) if has_value(cell)]
 
 
 def name_of_code(letter: str, code: str) -> str:
