@@ -10,7 +10,8 @@ from typing import Iterable, NamedTuple
 import finding
 import stages
 from captures import LAST_MADE
-from choosing import Wanted
+from choosing import NOT_TOLD, Wanted
+from clocks import leap_seconds_at
 from finding import FIRST_DAY, Found, Stopped
 from messages import Refusal, frames_of, read_message
 from mixed_cells import has_sbas
@@ -147,9 +148,10 @@ def auto_text(found: Found, asked: Asked, due: Conversion, texts: list[bytes]) -
     conflicts = sum(" conflict " in line for line in due.report.splitlines()[:-9])
     lines += [f" conflict {conflicts}: later copies differ from the first, which the file has"] * (conflicts > 0)
     lines += date_lines(found, asked, texts)
-    lines += [f" few-phases {code}: its satellites have more than twice as many in another code" for code in found.few]
     lines += found.chosen.clocks
     lines += [f" unchecked {letter}" for letter in found.chosen.unchecked]
+    lines += leap_lines(found, asked, texts) if stages.SETS_LEAP_SECONDS else []
+    lines += [f" few-phases {code}: its satellites have more than twice as many in another code" for code in found.few]
     lines += slot_lines(found)
     lines += late_lines(found, asked, due)
     lines += capture_lines(found, texts)
@@ -222,6 +224,18 @@ def date_lines(found: Found, asked: Asked, texts: list[bytes]) -> list[str]:
     return lines + [f" other-date{date_text(it.fields, it.first, name_of(at))}" for at, it in others]
 
 
+def leap_lines(found: Found, asked: Asked, texts: list[bytes]) -> list[str]:
+    """The captures in which a 1013 of the station tells other leap seconds than those by which GLONASS is compared."""
+    chosen, lines = found.chosen, []
+    due = leap_seconds_at(found.near) if chosen.leap is None else chosen.leap
+    for at, capture in enumerate(asked.captures(texts)):
+        told = [it for it in capture.sent(found.station).leap_seconds if it != NOT_TOLD]
+        if GLONASS.letter in chosen.kinds and at not in found.skipped and {*told} - {due}:
+            range_of = f"{min(told)}" if min(told) == max(told) else f"{min(told)} to {max(told)}"
+            lines.append(f" other-leap-seconds {range_of} by 1013 in {name_of(at)}")
+    return lines
+
+
 def late_lines(found: Found, asked: Asked, due: Conversion) -> list[str]:
     """An epoch far from all others, and how many messages are late, also of those on its link."""
     moment, strays = found.stray or (0, [])
@@ -278,10 +292,12 @@ def left_out_lines(found: Found, texts: list[bytes]) -> list[str]:
 
 def slot_lines(found: Found) -> list[str]:
     """What is told of slots of GLONASS."""
-    slots = found.chosen.slots
+    slots, lines = found.chosen.slots, []
     if slots is None:
         return []
-    lines = [f" channels-alike {channel} {slot_names(its)}" for channel, its in sorted(slots.alike.items())] if stages.TELLS_CHANNELS else []
+    if stages.TELLS_CHANNELS:
+        lines += [f" channels-alike {channel} {slot_names(its)}" for channel, its in sorted(slots.alike.items())]
+        lines += [f" several-channels R{slot:02} {' '.join(map(str, its))}" for slot, its in sorted(slots.several.items())]
     header = "as a header's GLONASS SLOT / FRQ # of the same days has them"
     return lines + [f" no-channel {slot_names(slots.without)}: give --channels, {header}"] * bool(slots.without)
 

@@ -92,5 +92,5 @@ def slots_of(shown: Iterable[int], by_rows: Told, by_orbits: Told, given: dict[i
         from_orbits += [slot] * is_by_orbit
         if found is not None:
             channels[slot] = found
-    several = {slot: sorted(by_rows[slot]) for slot in own if len(by_rows.get(slot, nothing)) > 1}
+    several = {slot: sorted(by_rows[slot]) for slot in shown if len(by_rows.get(slot, nothing)) > 1}
     return Slots(channels, from_orbits, [slot for slot in shown if slot not in channels], several, alike)
