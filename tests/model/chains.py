@@ -6,6 +6,7 @@ from __future__ import annotations
 from collections import Counter
 from typing import Iterable, NamedTuple, Optional
 
+import stages
 from clocks import glonass_moment, leap_seconds_at, moment_of
 from model import dated
 from msm import letter_of
@@ -108,10 +109,25 @@ def offset_lines(letter: str, counted: Counter[int]) -> list[str]:
     return [f" clock {letter} {sign}{ms // 1000}.{ms % 1000:03} {counted[told]} of {sum(counted.values())}"]
 
 
-def clock_lines(messages: list[Message]) -> list[str]:
-    """The lines of a summary."""
-    offsets = offsets_of(messages)
-    return [line for letter in WITH_LINE for line in offset_lines(letter, offsets[letter])]
+def first_timing(messages: Iterable[Message]) -> str | None:
+    """The first of the systems with which others are compared that is sent."""
+    letters = {letter_of(it) for it in messages}
+    return next((it for it in TIMING if it in letters), None)
+
+
+def unchecked(messages: list[Message], letters: Iterable[str], offsets: Offsets) -> list[str]:
+    """The systems of these that no chain compares, but for the first one that others are compared with."""
+    return [letter for letter in letters if not offsets[letter] and letter != first_timing(messages)]
+
+
+def clock_lines(messages: list[Message], letters: Iterable[str], near: int | None) -> list[str]:
+    """The lines of a summary, of these systems, which have values; the station's first date is this moment."""
+    if not stages.SUMMARIZES_GLONASS:
+        offsets = offsets_of(messages)
+        return [line for letter in WITH_LINE for line in offset_lines(letter, offsets[letter])]
+    offsets = offsets_of(messages, None if near is None else Date(near, own=False))
+    lines = [line for letter in f"R{WITH_LINE}" for line in offset_lines(letter, offsets[letter])]
+    return lines + [f" unchecked {letter}" for letter in unchecked(messages, letters, offsets)]
 
 
 def week_lines(payloads: list[bytes]) -> list[str]:

@@ -7,7 +7,7 @@ from itertools import groupby
 from typing import Iterable, NamedTuple, Optional
 
 import stages
-from chains import TIMING, Date, Offsets, is_wrong, offset_lines, offsets_of, signed, told_offset
+from chains import Date, Offsets, is_wrong, offset_lines, offsets_of, signed, told_offset, unchecked
 from channels import Slots, slots_of, told_by, told_by_orbits
 from clocks import LEAP_ROWS, leap_seconds_at
 from msm import LEGACY, letter_of
@@ -151,12 +151,6 @@ def slots_shown(messages: Iterable[Message], numbers: set[int], names: Iterable[
     return [int(satellite[1:]) for it in taken for satellite, code in shown_in(it) if code in codes]
 
 
-def first_timing(messages: Iterable[Message]) -> str | None:
-    """The first of the systems with which others are compared that is sent."""
-    letters = {letter_of(it) for it in messages}
-    return next((it for it in TIMING if it in letters), None)
-
-
 def choose(captures: list[Sent], links: list[list[int]], span: tuple[int, int], near: int, wanted: Wanted) -> Chosen:
     """What is converted of these captures, whose places the links have; the first and the last epoch are these."""
     messages = [it for capture in captures for it in capture.messages]
@@ -173,8 +167,8 @@ def choose(captures: list[Sent], links: list[list[int]], span: tuple[int, int], 
     names = tuple(sorted(wanted.names or names_shown(messages, numbers_of(kinds)), key=lambda it: LETTERS.index(letter_of_name(it))))
     kinds = {it: kind for it, kind in kinds.items() if it in map(letter_of_name, names)}
     lines = [line for it in wanted.letters if it != GPS.letter for line in offset_lines(it, offsets[it])]
-    unchecked = [it for it in kinds if not offsets[it] and it != first_timing(messages)] if stages.TELLS_UNCHECKED else []
-    chosen = Chosen(names, kinds, None, leap if GLONASS.letter in kinds else None, lines, wrong, "".join(unchecked))
+    alone = unchecked(messages, kinds, offsets) if stages.TELLS_UNCHECKED else []
+    chosen = Chosen(names, kinds, None, leap if GLONASS.letter in kinds else None, lines, wrong, "".join(alone))
     return chosen._replace(slots=slots_chosen(captures, chosen, wanted)) if GLONASS.letter in kinds else chosen
 
 

@@ -9,6 +9,9 @@ PHASES = "G"
 OWN_LEAP_SECONDS = False
 # Leap seconds of GLONASS that are wrong everywhere by the same whole seconds are set right.
 SETS_LEAP_SECONDS = False
+# `summary` has a line of the clock of GLONASS, by the leap seconds at the first date of the station, and one of each system that no
+# chain compares.
+SUMMARIZES_GLONASS = False
 # A system that no chain compares has a line.
 TELLS_UNCHECKED = False
 # More than two slots with one channel have a line, and slots with several channels.

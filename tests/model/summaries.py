@@ -11,11 +11,11 @@ from itertools import groupby
 from chains import clock_lines, week_lines
 from channels import told_by
 from equipment import Told, equipment_lines, equipment_of
-from finding import date_of
+from finding import FIRST_DAY, date_of
 from messages import CODES, Refusal, cells_of, frames_of
 from msm import BESIDE_GPS, LEGACY_GLONASS, letter_of, read_frame
-from valued import NAMES, has_value, names_in, shown_in
-from systems import GPS, INDEX
+from valued import NAMES, has_value, letter_of_name, names_in, shown_in
+from systems import GPS, INDEX, LETTERS
 from wire import MSMS, Fields, Message
 
 UNTAKEN = (1001, 1002, 1003, 1071, 1072, 1073)
@@ -75,6 +75,11 @@ def civil_of(date: Fields) -> str | None:
     return moment.isoformat() if is_date else None
 
 
+def moment_of_date(date: Fields) -> int:
+    """The same as a moment, in ms."""
+    return 86_400_000 * (date["day"] - FIRST_DAY) + 1000 * date["second"]
+
+
 def sh_quoted(name: str) -> str:
     return ("./" if name.startswith("-") else "") + shlex.quote(name).replace("'\"'\"'", r"'\''")
 
@@ -111,7 +116,7 @@ def station_lines(name: str, station: int, messages: list[Message], dated: list[
         f" codes {','.join(it for it in NAMES if it in names) or '-'}",
         *epoch_lines(others),
         *channel_lines(others),
-        *clock_lines(messages),
+        *clock_lines(messages, [it for it in LETTERS if it in map(letter_of_name, names)], moment_of_date(first[0]) if first else None),
     ]
     near = civil_of(first[0]) if first else NO_DATE
     return lines + next_lines(name, near, station, shown) if codes else lines
