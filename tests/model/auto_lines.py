@@ -4,6 +4,7 @@ from __future__ import annotations
 
 import re
 from collections import Counter
+from dataclasses import replace
 from itertools import groupby
 from typing import Iterable, NamedTuple
 
@@ -17,9 +18,9 @@ from messages import Refusal, frames_of, read_message
 from mixed_cells import has_sbas
 from mixed_model import Options, channels_text
 from model import Conversion, civil, moment
-from msm import letter_of
+from msm import LEGACY_GLONASS, letter_of
 from summaries import UNTAKEN, look_of, sh_quoted
-from systems import GLONASS, GPS, number_of
+from systems import GLONASS, GPS, SBAS, number_of
 from wire import MSMS, WEEK_MS, Fields, Message
 
 # By their bytes, as link1, link10, .., link2: another order than that of their numbers.
@@ -62,7 +63,8 @@ class Asked(NamedTuple):
         chosen = found.chosen
         channels = None if chosen.slots is None else dict(sorted(chosen.slots.channels.items()))
         msm = None if chosen.msm == "4" else chosen.msm
-        return Options(found.station, found.near, self.now, self.marker, tuple(chosen.names), self.window, msm, channels, chosen.leap)
+        plain = Options(found.station, found.near, self.now, self.marker, tuple(chosen.names), self.window, msm, channels, chosen.leap)
+        return replace(plain, with_1012=chosen.with_1012)
 
 
 # ---------------------------------------------------------------- why there is no file
@@ -180,7 +182,7 @@ def command_lines(found: Found, said: Options) -> list[str]:
     }  # fmt: skip
     words = (f"rtcm2rinex convert --station {said.station} --near {shown_time(said.near)} --made {shown_time(said.made)}"
              f" --marker {'-' * (len(said.marker) - len(marker))}{sh_quoted(marker)} "
-             + " ".join(f"{name} {value}" for name, value in chosen.items() if value is not None))
+             + " ".join(f"{name} {value}" for name, value in chosen.items() if value is not None) + " --with-1012" * said.with_1012)
     cats = ["cat " + " ".join(map(name_of, link)) for link in found.links]
     if len(cats) == 1 < len(found.links[0]):
         return [f"{cats[0]} | {words} stdin"]
@@ -285,9 +287,15 @@ def left_out_lines(found: Found, texts: list[bytes]) -> list[str]:
     msm = number_of(GPS, chosen.kinds[GPS.letter]) if GPS.letter in chosen.kinds else None
     doppler = sum(it.header["number"] == msm for it in own)
     lines += [f" not in the file: Doppler of {msm}, {doppler} messages"] * (msm in (1075, 1077) and doppler > 0)
-    sbas = sum(has_sbas(it) for it in own)
+    sbas = 0 if stages.FINDS_SBAS and SBAS.letter in chosen.kinds else sum(has_sbas(it) for it in own)
     lines += [f" not in the file: SBAS of 1004, {sbas} messages"] * (sbas > 0)
-    return lines + [f" not in the file: {system_text(it)} {it}, {others[it]} messages" for it in numbers if it not in of_gps]
+    is_long = stages.TAKES_1012 and GLONASS.letter in chosen.kinds  # else its 1012 would be taken
+    return lines + [
+        f" untaken GLONASS {it} {others[it]}: more than a day" if it == LEGACY_GLONASS and is_long
+        else f" not in the file: {system_text(it)} {it}, {others[it]} messages"
+        for it in numbers
+        if it not in of_gps
+    ]  # fmt: skip
 
 
 def slot_lines(found: Found) -> list[str]:

@@ -10,8 +10,8 @@ import stages
 from chains import Date, Offsets, is_wrong, offset_lines, offsets_of, signed, told_offset, unchecked
 from channels import Slots, slots_of, told_by, told_by_orbits
 from clocks import LEAP_ROWS, leap_seconds_at
-from msm import LEGACY, letter_of
-from systems import BY_LETTER, GLONASS, GPS, KINDS, LETTERS, number_of
+from msm import LEGACY, LEGACY_GLONASS, letter_of
+from systems import BY_LETTER, GLONASS, GPS, KINDS, LETTERS, SBAS, number_of
 from valued import NAMES, letter_of_name, names_in, shown_in
 from wire import Message
 
@@ -61,8 +61,8 @@ class Sent(NamedTuple):
 
 class Chosen(NamedTuple):
     """What is converted, and what is told of it: the names of codes, the kind of each of their systems, the slots of GLONASS if a
-    code of it is listed, the leap seconds that are given, the lines of clocks, the systems that a wrong clock leaves out, and those that
-    no chain compares."""
+    code of it is listed, the leap seconds that are given, the lines of clocks, the systems that a wrong clock leaves out, those that no
+    chain compares, and whether 1012 are converted."""
 
     names: tuple[str, ...]
     kinds: dict[str, int]
@@ -71,6 +71,7 @@ class Chosen(NamedTuple):
     clocks: list[str]
     wrong: str
     unchecked: str
+    with_1012: bool
 
     @property
     def letters(self) -> str:
@@ -86,13 +87,14 @@ class Chosen(NamedTuple):
 
     @property
     def numbers(self) -> set[int]:
-        return numbers_of(self.kinds)
+        return numbers_of(self.kinds, self.with_1012)
 
 
-def numbers_of(kinds: dict[str, int]) -> set[int]:
+def numbers_of(kinds: dict[str, int], with_1012: bool) -> set[int]:
     """The numbers of the observations that are taken with these kinds."""
-    legacy = {LEGACY} if GPS.letter in kinds else set()
-    return legacy | {number_of(BY_LETTER[it], kind) for it, kind in kinds.items()}
+    of_legacy = GPS.letter in kinds or (stages.FINDS_SBAS and SBAS.letter in kinds)
+    legacy = [LEGACY] * of_legacy + [LEGACY_GLONASS] * (with_1012 and GLONASS.letter in kinds)
+    return {*legacy, *(number_of(BY_LETTER[it], kind) for it, kind in kinds.items())}
 
 
 # ---------------------------------------------------------------- kinds and codes
@@ -151,8 +153,15 @@ def slots_shown(messages: Iterable[Message], numbers: set[int], names: Iterable[
     return [int(satellite[1:]) for it in taken for satellite, code in shown_in(it) if code in codes]
 
 
-def choose(captures: list[Sent], links: list[list[int]], span: tuple[int, int], near: int, wanted: Wanted) -> Chosen:
-    """What is converted of these captures, whose places the links have; the first and the last epoch are these."""
+def names_chosen(messages: list[Message], numbers: set[int], letters: Iterable[str], wanted: Wanted) -> tuple[str, ...]:
+    """The codes that are named, or else those of these systems that have a value, in the order of a file."""
+    shown = (it for it in names_shown(messages, numbers) if letter_of_name(it) in letters)
+    return tuple(sorted(wanted.names or shown, key=lambda it: LETTERS.index(letter_of_name(it))))
+
+
+def choose(captures: list[Sent], links: list[list[int]], span: tuple[int, int], near: int, with_1012: bool, wanted: Wanted) -> Chosen:
+    """What is converted of these captures, whose places the links have, and which allow that 1012 are converted or not; the first and
+    the last epoch are these."""
     messages = [it for capture in captures for it in capture.messages]
     of_links = [[it for at in link for it in captures[at].messages] for link in links]
     date = Date(near, wanted.leap, stages.OWN_LEAP_SECONDS)
@@ -164,12 +173,19 @@ def choose(captures: list[Sent], links: list[list[int]], span: tuple[int, int], 
     wrong = "".join(it for it in wanted.letters if wanted.names is None and is_wrong(offsets[it]))
     letters = [it for it in wanted.letters if it not in wrong]
     kinds = {it: wanted.msm or kind_of(of_links, it) or DEFAULT_KIND for it in letters}
-    names = tuple(sorted(wanted.names or names_shown(messages, numbers_of(kinds)), key=lambda it: LETTERS.index(letter_of_name(it))))
+    names = names_chosen(messages, numbers_of(kinds, with_1012), letters, wanted)
     kinds = {it: kind for it, kind in kinds.items() if it in map(letter_of_name, names)}
     lines = [line for it in wanted.letters if it != GPS.letter for line in offset_lines(it, offsets[it])]
     alone = unchecked(messages, kinds, offsets) if stages.TELLS_UNCHECKED else []
-    chosen = Chosen(names, kinds, None, leap if GLONASS.letter in kinds else None, lines, wrong, "".join(alone))
-    return chosen._replace(slots=slots_chosen(captures, chosen, wanted)) if GLONASS.letter in kinds else chosen
+    chosen = Chosen(names, kinds, None, leap if GLONASS.letter in kinds else None, lines, wrong, "".join(alone), False)
+    if GLONASS.letter not in kinds:
+        return chosen
+    chosen = chosen._replace(with_1012=with_1012 and any(has_value_of_1012(it) for it in messages))
+    return chosen._replace(slots=slots_chosen(captures, chosen, wanted))
+
+
+def has_value_of_1012(message: Message) -> bool:
+    return message.header["number"] == LEGACY_GLONASS and bool(names_in(message))
 
 
 def slots_chosen(captures: list[Sent], chosen: Chosen, wanted: Wanted) -> Slots:

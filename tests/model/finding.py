@@ -18,11 +18,13 @@ from typing import NamedTuple
 
 import stages
 from channels import orbit_of
-from choosing import Chosen, Sent, Wanted, choose
+from choosing import Chosen, Sent, Wanted, choose, has_value_of_1012
+from clocks import moment_of, near_of_span
 from equipment import equipment_of
 from messages import Refusal, frames_of
 from model import civil, moment
 from msm import letter_of, read_frame
+from systems import GLONASS
 from valued import cells_in, has_value, name_of_code, names_in
 from wire import WEEK_MS, BitReader, Fields, Message, table
 
@@ -390,14 +392,28 @@ def find(texts: list[bytes], now: int, wanted: Wanted = Wanted()) -> Found:
         raise Stopped("positions differ")
     places = [at for at in range(len(texts)) if at not in skipped]
     every = [it for of in epochs for it in of]
-    chosen = choose([it.sent(number) for it in captures], links, (min(every), max(every)), near, wanted)
+    wider = every + [it for capture, of in zip(captures, epochs) for it in moments_of_1012(capture, number, of, wanted.leap)]
+    middle = near_of_span(min(wider), max(wider)) if stages.TAKES_1012 else None
+    chosen = choose([it.sent(number) for it in captures], links, (min(every), max(every)), near, middle is not None, wanted)
     if not chosen.names:
         raise Stopped("no code")
+    if chosen.with_1012 and middle is not None:
+        near = middle
     messages = [it for capture in captures for it in capture.of_station(number)]
     return Found(
         number, chosen, near, None if by is None else by.fields, [[places[at] for at in link] for link in links], epochs,
         [places[at] for at, of in enumerate(epochs) if not of], skipped, few_phases(messages, chosen), stray_of(epochs, places),
     )
+
+
+def moments_of_1012(capture: Capture, station: int, epochs: list[int], leap: int | None) -> list[int]:
+    """The moments of the station's 1012 with a value: each within half a day of the epoch before it, or else of the first one."""
+    moments, seen = [], 0
+    for it in capture.of_station(station) if epochs else []:
+        if has_value_of_1012(it):
+            moments.append(moment_of(GLONASS, it.header["tow"], epochs[max(seen - 1, 0)], leap))
+        seen += capture.observes(station, it)
+    return moments
 
 
 def links_of(epochs: list[list[int]], as_given: bool = False) -> list[list[int]]:

@@ -21,5 +21,7 @@ CONVERTS_1012 = False
 # `summary` and `auto` find 1012, MSM of GLONASS that do not know the day, and satellites of SBAS of a 1004.
 FINDS_1012 = False
 FINDS_SBAS = False
+# `auto` converts 1012 where the epochs allow a reference.
+TAKES_1012 = False
 # The words of `auto` beside those that it has for GPS.
 WORDS = ("--msm", "--codes", "--systems", "--channels", "--leap-seconds")

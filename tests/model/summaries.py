@@ -14,8 +14,8 @@ from equipment import Told, equipment_lines, equipment_of
 from finding import FIRST_DAY, date_of
 from messages import CODES, Refusal, cells_of, frames_of
 from msm import BESIDE_GPS, LEGACY_GLONASS, letter_of, read_frame
-from valued import NAMES, has_value, letter_of_name, names_in, shown_in
 from systems import GPS, INDEX, LETTERS
+from valued import NAMES, has_value, letter_of_name, names_in, shown_in
 from wire import MSMS, Fields, Message
 
 UNTAKEN = (1001, 1002, 1003, 1071, 1072, 1073)
