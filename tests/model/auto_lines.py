@@ -18,7 +18,7 @@ from messages import Refusal, frames_of, read_message
 from mixed_cells import has_sbas
 from mixed_model import Options, channels_text
 from model import Conversion, civil, moment
-from msm import LEGACY_GLONASS, letter_of
+from msm import LEGACY, LEGACY_GLONASS, letter_of
 from summaries import UNTAKEN, look_of, sh_quoted
 from systems import GLONASS, GPS, SBAS, number_of
 from wire import MSMS, WEEK_MS, Fields, Message
@@ -280,9 +280,10 @@ def left_out_lines(found: Found, texts: list[bytes]) -> list[str]:
     read = [read_message(it.payload, MSMS) for text in texts for it in frames_of(text)]
     own = [it for it in read if isinstance(it, Message) and it.header["station"] == found.station]
     others = Counter(it.number for it in read if isinstance(it, Refusal) and it.fault == "M2")
-    others.update(it.header["number"] for it in own if it.header["number"] in MSMS)
-    numbers = sorted(it for it in set(others) - chosen.numbers if it in MSMS or it in UNTAKEN or 1009 <= it <= 1012 or 1081 <= it <= 1137)
-    of_gps = [it for it in numbers if it in MSMS]
+    gps = {LEGACY, *MSMS} if stages.TELLS_1004 else {*MSMS}
+    others.update(it.header["number"] for it in own if it.header["number"] in gps)
+    numbers = sorted(it for it in set(others) - chosen.numbers if it in gps or it in UNTAKEN or 1009 <= it <= 1012 or 1081 <= it <= 1137)
+    of_gps = [it for it in numbers if it in gps]
     lines = [f" not in the file: GPS {it}, {others[it]} messages" for it in of_gps]
     msm = number_of(GPS, chosen.kinds[GPS.letter]) if GPS.letter in chosen.kinds else None
     doppler = sum(it.header["number"] == msm for it in own)

@@ -23,5 +23,7 @@ FINDS_1012 = False
 FINDS_SBAS = False
 # `auto` converts 1012 where the epochs allow a reference.
 TAKES_1012 = False
+# 1004 that are not converted have a line.
+TELLS_1004 = False
 # The words of `auto` beside those that it has for GPS.
 WORDS = ("--msm", "--codes", "--systems", "--channels", "--leap-seconds")
