@@ -170,12 +170,13 @@ def choose(captures: list[Sent], links: list[list[int]], span: tuple[int, int], 
     if stages.SETS_LEAP_SECONDS and leap is None and is_wrong(offsets[GLONASS.letter]):
         leap = right_leap_seconds(captures, *span, date)
         offsets = total_offsets(captures, date._replace(leap=leap))
-    wrong = "".join(it for it in wanted.letters if wanted.names is None and is_wrong(offsets[it]))
+    compared = [it for it in wanted.letters if it != GPS.letter]
+    wrong = "".join(it for it in compared if wanted.names is None and is_wrong(offsets[it]))
     letters = [it for it in wanted.letters if it not in wrong]
     kinds = {it: wanted.msm or kind_of(of_links, it) or DEFAULT_KIND for it in letters}
     names = names_chosen(messages, numbers_of(kinds, with_1012), letters, wanted)
     kinds = {it: kind for it, kind in kinds.items() if it in map(letter_of_name, names)}
-    lines = [line for it in wanted.letters if it != GPS.letter for line in offset_lines(it, offsets[it])]
+    lines = [line for it in compared for line in offset_lines(it, offsets[it])]
     alone = unchecked(messages, kinds, offsets) if stages.TELLS_UNCHECKED else []
     chosen = Chosen(names, kinds, None, leap if GLONASS.letter in kinds else None, lines, wrong, "".join(alone), False)
     if GLONASS.letter not in kinds:
