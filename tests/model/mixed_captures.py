@@ -178,7 +178,7 @@ def channels(rng: Random, turn: int, letters: str) -> Capture:
 
 
 # How far a clock is ahead: GPS time in place of BeiDou's, leap seconds, a day, parts of a second.
-AHEAD = (*[14_000] * 3, -14_000, 1000, 1000, -1000, 18_000, DAY_MS, DAY_MS, -DAY_MS, 3 * DAY_MS, 1, 1, 1, 1, -1, -1, 499, 500)
+AHEAD = (*[14_000] * 3, -14_000, 1000, 1000, -1000, 18_000, *[DAY_MS] * 3, -DAY_MS, 3 * DAY_MS, *[1] * 5, -1, -1, 499, 500)
 
 
 def clocks(rng: Random, turn: int, letters: str) -> Capture:
@@ -205,7 +205,7 @@ TURNS = (
 def turns(rng: Random, turn: int, letters: str) -> Capture:
     """Over the end of a day, a week or a leap second, or half a week from the reference."""
     first, leap = LEAP_ROWS[turn % len(LEAP_ROWS)]
-    middle = rng.choice((rng.choice(TURNS), first, first - 1000 * leap))
+    middle = rng.choice((rng.choice(TURNS), first, first, first - 1000 * leap))
     off = rng.choice((0, 0, 1000, -1000, DAY_MS // 2, -DAY_MS, 200_000_000, -200_000_000, WEEK_MS // 2, WEEK_MS // 2 + 1000, -WEEK_MS // 2))
     near = max(NEARS[0], (middle + off) // 1000 * 1000)
     is_calm = rng.random() < 0.6

@@ -302,7 +302,11 @@ def an_msm_without_a_day_is_taken(case: Case) -> bool:
     return any(glonass_parts(it.header["tow"])[0] == UNKNOWN_DAY for it in msms_taken(case, "R"))
 
 
-@of_1012
+def of_sbas(function: Mark) -> Mark:
+    return mark(function) if stages.CONVERTS_SBAS else function
+
+
+@of_sbas
 def sbas_of_a_1004_is_shown(case: Case) -> bool:
     shown = {it for it in satellites_shown(case) if it[0] == "S"}
     return any(set(map(sbas_of_1004, it.satellites)) & {(name, "1C") for name in shown} for it in taken(case) if has_sbas(it))

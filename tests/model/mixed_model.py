@@ -9,6 +9,7 @@ from __future__ import annotations
 from dataclasses import dataclass
 from typing import Iterable, Mapping, Optional
 
+import stages
 from clocks import moment_of
 from messages import Cell, Refusal
 from mixed_cells import Channels, MixedCell, all_cells, cells_of_1004, cells_of_1012, has_sbas, marked_slots
@@ -82,6 +83,7 @@ class Taking:
         self.file = MixedSetup(options.near, options.made, options.marker, options.codes, channels, options.leap, options.station)
         self.letters = self.file.letters
         self.with_1012 = options.with_1012
+        self.with_sbas = stages.CONVERTS_SBAS and SBAS.letter in self.letters
         numbers = [number_of(BY_LETTER[it], options.kinds[it]) for it in self.letters]
         self.numbers = frozenset(numbers + [LEGACY_GLONASS] * options.with_1012)
         self.read_before: dict[bytes, Message | Refusal] = {}  # links tell the same
@@ -97,7 +99,8 @@ class Taking:
         with it."""
         message = read_any(payload, self.numbers, self.with_1012)
         number = message.number if isinstance(message, Refusal) else message.header["number"]
-        return Refusal("M2", LEGACY) if number == LEGACY and not {GPS.letter, SBAS.letter} & set(self.letters) else message
+        takes = GPS.letter in self.letters or self.with_sbas
+        return message if number != LEGACY or takes else Refusal("M2", LEGACY)
 
     def time_of(self, message: Message) -> int | None:
         """The moment of observations, which is told by the clock of their system."""
@@ -115,7 +118,7 @@ class Taking:
 
     def _cells_of(self, message: Message) -> list[MixedCell]:
         if message.header["number"] == LEGACY:
-            return cells_of_1004(message, SBAS.letter in self.letters)
+            return cells_of_1004(message, self.with_sbas)
         if message.header["number"] == LEGACY_GLONASS:
             return cells_of_1012(message, self.file.channels)
         return all_cells(message, self.file.channels)
@@ -150,7 +153,7 @@ def lines_of_systems(taking: Taking, judged: list[Judged]) -> list[str]:
     """What the report says of systems before its counts; nothing if GPS alone is listed."""
     lines = channel_lines(taking, judged) if GLONASS.letter in taking.letters else []
     taken = observations(judged, ("taken",))
-    heard = {letter_of(message) for message in taken} | {SBAS.letter for message in taken if has_sbas(message)}
+    heard = {letter_of(message) for message in taken} | {SBAS.letter for message in taken if taking.with_sbas and has_sbas(message)}
     silent = [letter for letter in taking.letters if letter not in heard]
     if taking.letters != GPS.letter and silent:
         lines.append(" ".join(["no-message", *silent]))

@@ -106,7 +106,8 @@ class MixedSender(Sender):
     def legacy_glonass(self, voice: Voice, time: int, **values: int) -> bytes:
         """A 1012 of satellites of a voice; a slot may stand in it twice, and its first entry counts."""
         slots = self.some(voice.bits, 0, MOST_ENTRIES)
-        slots += [self.rng.choice(slots)] * (0 < len(slots) < MOST_ENTRIES and self.rng.random() < 0.1)
+        if 0 < len(slots) < MOST_ENTRIES and self.rng.random() < 0.1:
+            slots.append(self.rng.choice(slots))
         if self.rng.random() < 0.2:
             self.rng.shuffle(slots)
         told = self.told_entries.setdefault(time, {})

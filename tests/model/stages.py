@@ -16,8 +16,9 @@ SUMMARIZES_GLONASS = False
 TELLS_UNCHECKED = False
 # More than two slots with one channel have a line, and slots with several channels.
 TELLS_CHANNELS = False
-# `convert` takes 1012, and satellites of SBAS of a 1004.
+# `convert` takes 1012, and satellites of SBAS of a 1004 where a code of SBAS is listed.
 CONVERTS_1012 = False
+CONVERTS_SBAS = False
 # `summary` and `auto` find 1012, MSM of GLONASS that do not know the day, and satellites of SBAS of a 1004.
 FINDS_1012 = False
 FINDS_SBAS = False
