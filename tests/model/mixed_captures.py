@@ -297,7 +297,8 @@ STEPS_OF_1012 = (1000, 1000, 1000, 30_000, 900_000, 2 * 3_600_000)
 def before_msm(rng: Random, turn: int, letters: str) -> Capture:
     """1004, also of SBAS, with 1012, mostly without MSM: within half a day of the reference, and beyond. A lone 1012 may be first."""
     chosen = some_letters(rng, letters, "G", "R", *rng.choice(((), ("S",))))
-    making = Making(rng, chosen, some_near(rng), rng.choice((CALM_WINDOW, CALM_WINDOW, 4)), rng.random() < 0.6, rng.choice((pick_any, pick_near_lock(1000))))
+    window, is_calm = rng.choice((CALM_WINDOW, CALM_WINDOW, 4)), rng.random() < 0.6
+    making = Making(rng, chosen, some_near(rng), window, is_calm, rng.choice((pick_any, pick_near_lock(1000))))
     making.take(with_1012=stages.CONVERTS_1012 and "R" in chosen and rng.random() < 0.9)
     making.sender.satellites += rng.sample(range(40, 59), 2) * rng.choice((0, 1, 2)) + rng.sample(range(1, 33), 4)
     making.sender.most = rng.choice((3, 8, 31))
@@ -310,7 +311,8 @@ def before_msm(rng: Random, turn: int, letters: str) -> Capture:
         making.sender.voices = [it._replace(kinds=()) for it in making.sender.voices if it.system.letter in "GR"]
     step = rng.choice(STEPS_OF_1012)
     count = rng.choice((rng.randint(2, 8), 14))
-    first = making.options.near + rng.choice((0, 1, -step * count // 2 // 1000 * 1000, DAY_MS // 2 - 1000, DAY_MS // 2, -DAY_MS // 2, -DAY_MS // 2 - 1000))
+    half = DAY_MS // 2
+    first = making.options.near + rng.choice((0, 1, -step * count // 2 // 1000 * 1000, half - 1000, half, -half, -half - 1000))
     frames = making.frames(in_order(rng, first, step, count), 0.1)
     return making.capture(dealt(rng, frames, rng.choice((1, 1, 2, 3))))
 

@@ -123,8 +123,11 @@ class MixedSender(Sender):
         said = self.faith[row["channel"] % 16]
         true = self.channels.get(slot, 0) + 7
         none, wrong = (31, *range(21, 30)), (*range(14, 21), 30)
-        other = {TRUE: true, OTHER: (true + 1 + slot) % 14, NO_CHANNEL: none[row["l1_cnr"] % len(none)], CONTRADICTED: wrong[row["l1_cnr"] % len(wrong)]}
-        return row | {"slot": slot, "channel": other[said]}
+        by_chance = row["l1_cnr"]
+        channels = {
+            TRUE: true, OTHER: (true + 1 + slot) % 14, NO_CHANNEL: none[by_chance % len(none)], CONTRADICTED: wrong[by_chance % len(wrong)]
+        }  # fmt: skip
+        return row | {"slot": slot, "channel": channels[said]}
 
     def row(self, entries: tuple[Field, ...]) -> Fields:
         row = super().row(entries)
