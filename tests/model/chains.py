@@ -116,8 +116,9 @@ def first_timing(messages: Iterable[Message]) -> str | None:
 
 
 def unchecked(messages: list[Message], letters: Iterable[str], offsets: Offsets) -> list[str]:
-    """The systems of these that no chain compares, but for the first one that others are compared with."""
-    return [letter for letter in letters if not offsets[letter] and letter != first_timing(messages)]
+    """The systems of these with messages that no chain compares, but for the first one that others are compared with."""
+    sent = {letter_of(it) for it in messages}
+    return [letter for letter in letters if letter in sent and not offsets[letter] and letter != first_timing(messages)]
 
 
 def clock_lines(messages: list[Message], letters: Iterable[str], near: int | None) -> list[str]:
