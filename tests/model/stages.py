@@ -19,7 +19,7 @@ TELLS_UNCHECKED = True
 # More than two slots with one channel have a line, and slots with several channels.
 TELLS_CHANNELS = True
 # `convert` takes 1012, and satellites of SBAS of a 1004 where a code of SBAS is listed.
-CONVERTS_1012 = False
+CONVERTS_1012 = True
 CONVERTS_SBAS = True
 # `summary` and `auto` find 1012, MSM of GLONASS that do not know the day, and satellites of SBAS of a 1004.
 FINDS_1012 = True
