@@ -79,6 +79,7 @@ class Making:
             msm=msm or some_kinds(rng),
             channels=some_channels(rng, true) if "R" in letters else None,
             leap=rng.choice((None, None, None, *some_leaps(rng, near))) if "R" in letters else None,
+            with_1012=stages.CONVERTS_1012 and "R" in letters and rng.random() < 0.3,
         )
         voices = [self.voice(system) for system in SYSTEMS if self.is_sent(system.letter, letters)]
         rng.shuffle(voices)

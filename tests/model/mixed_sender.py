@@ -158,7 +158,7 @@ class MixedSender(Sender):
             if voice.system is GPS and self.rng.random() < self.legacies[LEGACY]:
                 payloads.append(self.legacy(time))
             if voice.system is GLONASS and self.rng.random() < self.legacies[LEGACY_GLONASS]:
-                payloads.append(self.legacy_glonass(voice, time))
+                payloads += [self.legacy_glonass(voice, time) for _ in range(self.rng.choice((1, 1, 1, 2)))]
         payloads += [self.again(it) for it in payloads if self.rng.random() < 0.1]
         return [with_more(it, at < len(payloads)) for at, it in enumerate(payloads, 1)] if self.is_chained else payloads
 
