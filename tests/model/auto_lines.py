@@ -288,7 +288,7 @@ def left_out_lines(found: Found, texts: list[bytes]) -> list[str]:
     msm = number_of(GPS, chosen.kinds[GPS.letter]) if GPS.letter in chosen.kinds else None
     doppler = sum(it.header["number"] == msm for it in own)
     lines += [f" not in the file: Doppler of {msm}, {doppler} messages"] * (msm in (1075, 1077) and doppler > 0)
-    sbas = 0 if stages.FINDS_SBAS and SBAS.letter in chosen.kinds else sum(has_sbas(it) for it in own)
+    sbas = 0 if stages.CONVERTS_SBAS and SBAS.letter in chosen.kinds else sum(has_sbas(it) for it in own)
     lines += [f" not in the file: SBAS of 1004, {sbas} messages"] * (sbas > 0)
     is_long = stages.TAKES_1012 and GLONASS.letter in chosen.kinds  # else its 1012 would be taken
     return lines + [

@@ -92,7 +92,7 @@ class Chosen(NamedTuple):
 
 def numbers_of(kinds: dict[str, int], with_1012: bool) -> set[int]:
     """The numbers of the observations that are taken with these kinds."""
-    of_legacy = GPS.letter in kinds or (stages.FINDS_SBAS and SBAS.letter in kinds)
+    of_legacy = GPS.letter in kinds or (stages.CONVERTS_SBAS and SBAS.letter in kinds)
     legacy = [LEGACY] * of_legacy + [LEGACY_GLONASS] * (with_1012 and GLONASS.letter in kinds)
     return {*legacy, *(number_of(BY_LETTER[it], kind) for it, kind in kinds.items())}
 
@@ -138,7 +138,7 @@ def right_leap_seconds(captures: list[Sent], first: int, last: int, date: Date) 
     ahead = told.pop() if len(told) == 1 else None
     if ahead is None or ahead % 1000 or any(first <= row <= last for row, _ in LEAP_ROWS):
         return None
-    leap = leap_seconds_at(first) - signed(ahead) // 1000
+    leap = leap_seconds_at(date.near) - signed(ahead) // 1000
     others = {it for capture in captures for it in capture.leap_seconds} - {leap, NOT_TOLD}
     return leap if 0 <= leap <= MOST_LEAP_SECONDS and not others else None
 
