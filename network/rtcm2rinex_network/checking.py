@@ -13,6 +13,7 @@ from .making import check_every
 from .program import Program, find_program
 from .settings import Settings, read_settings
 from .sources import faults_of_sources
+from .systems import NO_CHANNELS
 from .table import Row, find_row, read_table, rows_with_faults
 
 
@@ -76,7 +77,7 @@ def faults_of_rows(settings: Settings) -> Iterator[Tuple[Row, str]]:
     known: Dict[Tuple[str, ...], str] = {}
     for row, fault in rows_with_faults(settings.stations):
         if not fault and program:
-            options = tuple(row.codes_and_channels)
+            options = tuple(row.as_told(NO_CHANNELS, "").codes_and_channels)
             if options not in known:
                 known[options] = program.fault_of_codes(options)
             fault = known[options] or fault_of_label(program, settings, row)

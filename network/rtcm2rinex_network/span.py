@@ -24,6 +24,7 @@ from .places import adopt, compact_forms, dated, form_of, has_list, is_compact
 from .placing import NOTES, UNREAD, failures, give_to_owner, locked, make_folder, note_end, put, sync, work_folder, write_whole
 from .program import Program, find_program
 from .settings import Settings
+from .summaries import Told, told_of
 from .table import find_row
 from .times import LENGTHS, span_of
 
@@ -245,12 +246,12 @@ class Run:
         job = self.job
         if not has_own(job, self.found.captures):
             raise Again("; ".join(self.faults))
-        name = str(job.name)
-        by = MadeBy(job.row.station, job.msm, job.row.code_names, job.fields())
+        name, told = str(job.name), self.told()
+        by = MadeBy(job.row.station, job.msm, told.row.code_names, job.fields(), "".join(told.left_out))
         olds = [(self.old_files(it), self.lists.lists[it]) for it in self.lists.names]
         for old, _ in olds:
             self.judge(guard_words(old, by), done, False)
-        convert(job, self.found.captures, self.lists, work, is_made, done)
+        convert(job, told, self.found.captures, self.lists, work, is_made, done)
         label_files(job, work, done)
         for old, _ in olds:
             self.judge(guard_compact(old, done.made), done, False)
@@ -260,8 +261,14 @@ class Run:
             self.judge(faults_of(job.program, old, new), done)
         self.now.made = done.made
         self.now.report = sum_of(work / f"{name}.report")
-        self.now.used = job.used([file.split("_")[4] for file in list(done.made)[1:]])
+        self.now.used = job.used(told.row, [file.split("_")[4] for file in list(done.made)[1:]])
         self.put_in_place(work)
+
+    def told(self) -> Told:
+        """The row as captures tell it. A channel of the list stays, so that a later run makes the same file."""
+        job, hours = self.job, self.job.span.own_hours
+        own, beside = ([it.path for it in self.found.captures if (it.hour in hours) == is_own] for is_own in (True, False))
+        return told_of(job.program, job.row, own, beside, {} if job.settings.is_forced else self.before.channels())
 
     def old_files(self, name: Name) -> Old:
         """What is known of the files of before under a name."""

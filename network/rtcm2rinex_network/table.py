@@ -4,15 +4,15 @@ from __future__ import annotations
 
 import os
 import re
-from dataclasses import dataclass
+from dataclasses import dataclass, replace
 from pathlib import Path
 from typing import Dict, Iterator, List, Optional, Tuple
 
 from .ends import Refused
 from .names import Name
 from .settings import Settings
-from .systems import (DEFAULT_KIND, KINDS, NO_KINDS, by_slots, fault_of_channels, fault_of_codes, kinds_of, type_of_data,
-    words_of_kinds)
+from .systems import (AUTO, DEFAULT_KIND, GLONASS, GPS, KINDS, NO_KINDS, by_slots, fault_of_channels, fault_of_codes, kinds_of,
+    system_of, systems_of, type_of_data, words_of_kinds)
 from .times import Span, ms_of, text_of, time_of
 
 COLUMNS = "station marker name9 interval codes window directory"
@@ -40,8 +40,8 @@ class Dates:
 class Row:
     """A row of the table of stations, with the number of its line.
 
-    `text` has its seven columns as the list of a file keeps them. `glonass` has its words channels= and leap_seconds=. `fault` says what is
-    wrong with the row, and is empty if nothing is.
+    `text` has its seven columns as the list of a file keeps them. `glonass` has its words channels=, which is auto by default if a code is
+    of GLONASS, and leap_seconds=. `fault` says what is wrong with the row, and is empty if nothing is.
     """
 
     number: int
@@ -76,6 +76,29 @@ class Row:
     def code_names(self) -> Tuple[str, ...]:
         """Its codes, one by one."""
         return tuple(self.codes.split(","))
+
+    @property
+    def systems(self) -> str:
+        """The systems of its codes."""
+        return systems_of(self.code_names)
+
+    @property
+    def has_auto_channels(self) -> bool:
+        """Whether captures tell its channels of GLONASS."""
+        return self.glonass.get("channels") == AUTO
+
+    @property
+    def asks_captures(self) -> bool:
+        """Whether captures tell how it is converted. The clock of GPS times the others, so codes of GPS alone ask nothing."""
+        return self.systems != GPS
+
+    def as_told(self, channels: str, left_out: str) -> Row:
+        """The row as it is converted: without the systems that are left out, and with these channels in place of auto."""
+        codes = ",".join(it for it in self.code_names if system_of(it) not in left_out)
+        glonass = {name: channels if it == AUTO else it for name, it in self.glonass.items()}
+        if GLONASS in left_out:
+            glonass.pop("channels", None)
+        return replace(self, codes=codes, glonass=glonass)
 
     def name(self, span: Span) -> Name:
         """The name of the file of a span."""
@@ -121,9 +144,10 @@ def read_row(number: int, line: str, beside: Path) -> Row:
     dates, fault = read_dates(words)
     station, marker, name9, interval, codes, window = columns[:6]
     fault = fault_of(columns[:6], directory) or (f"{twice}= is there twice" if twice else "") or fault or fault_of_words(words, codes)
-    glonass = {name: words[name] for name in ("channels", "leap_seconds") if name in words}
-    if "channels" in glonass and not fault:
-        glonass["channels"] = by_slots(glonass["channels"])
+    glonass = {}
+    if not fault and GLONASS in systems_of(codes.split(",")):
+        glonass["channels"] = by_slots(words.get("channels", AUTO))
+    glonass.update({name: words[name] for name in ("leap_seconds",) if name in words})
     return Row(number, " ".join([*columns[:6], directory]), station, marker, name9, interval, codes, window, beside / directory,
         words.get("msm"), glonass, dates, fault)
 
