@@ -11,7 +11,7 @@ from pathlib import Path
 from typing import Dict, Iterator, List, Optional, Sequence
 
 from .after import call_after, note_after
-from .before import Before
+from .before import Before, list_of
 from .captures import Capture, Sum, Unread, find_captures, has_grown, is_old, look_at, sum_of
 from .ends import Again, Ended, NoCaptures, Refused, Stopped, Usage, say
 from .guards import (MadeBy, New, Old, captures_that_differ, faults_of, guard_captures, guard_compact, guard_words, may_be_fewer,
@@ -20,7 +20,7 @@ from .labels import checked_options, find_label, labels_beside
 from .lists import Record
 from .making import Conversion, Job, check_every, convert, label_files
 from .names import Name
-from .places import adopt, compact_forms, dated, form_of, has_list, is_compact
+from .places import adopt, compact_forms, dated, form_of, has_list, is_compact, names_before
 from .placing import NOTES, UNREAD, failures, give_to_owner, locked, make_folder, note_end, put, sync, work_folder, write_whole
 from .program import Program, find_program
 from .settings import Settings
@@ -55,17 +55,18 @@ def convert_span(settings: Settings, words: Sequence[str]) -> str:
     """Makes the file of a span, and answers what became of it: `done NAME` or `unchanged NAME`."""
     job = job_of(settings, *words)
     captures = find_captures(job.row.directory, job.span)
-    record = job.path.with_name(f"{job.name}.captures")
+    record = list_of(job.folder, job.name)
     if not is_listed(job) and not has_own(job, captures):
         raise NoCaptures(f"no captures for {job.name}")
     for path in (record, job.path, job.path.with_name(f"{job.name}.report")):
         if path.exists() and not path.is_file():
             raise Refused(f"{path} is no regular file, and is not replaced")
     make_folder(job.folder)
-    with locked(record), noted(job):
+    with locked(record, *(list_of(job.folder, it) for it in names_before(job.folder, job.name))) as held, noted(job):
         if not os.access(job.folder, os.W_OK):
             raise Refused(f"can't write to {job.folder}: no permission")
-        run = Run(job, record, Before(job.folder, job.name, adopt(job.row.directory / "rinex", job.folder, job.name)))
+        held += adopt(job.row.directory / "rinex", job.folder, job.name)
+        run = Run(job, record, Before(job.folder, job.name, held))
         told = run.made()
         run.note_unread()
         call_after(settings, [job.folder / name for name in run.now.made or run.before.made])
