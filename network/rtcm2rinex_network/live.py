@@ -173,7 +173,7 @@ class Live(threading.Thread):
     def captures_before(self, begin: int) -> List[Path]:
         """The captures of the hour before, of this link first."""
         name = Path(capture_name(self.job.link, begin - HOUR)).name
-        folders = [self.job.folder, *sorted(self.job.row.directory.glob("link*"))]
+        folders = dict.fromkeys([self.job.folder, *sorted(self.job.row.directory.glob("link*"))])
         return [path for folder in folders for path in (folder / name, folder / f"{name}.gz") if path.is_file()]
 
     def remove_old(self, span: Span) -> None:
