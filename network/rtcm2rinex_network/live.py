@@ -106,9 +106,9 @@ class Live(threading.Thread):
         write_whole(report, told.report)
         wait = str(self.job.settings.number("WAIT", 60))
         known = [str(HERE / "position-first"), self.job.row.station, wait, *map(str, self.captures_before(span.begin))]
-        with open(live, "ab") as file, open(report, "ab") as told:
+        with open(live, "ab") as file, open(report, "ab") as faults:
             first = subprocess.Popen(known, stdin=subprocess.PIPE, stdout=subprocess.PIPE, bufsize=0, restore_signals=False)
-            last = subprocess.Popen([self.job.program, *self.job.words(span, told.row)], stdin=first.stdout, stdout=file, stderr=told,
+            last = subprocess.Popen([self.job.program, *self.job.words(span, told.row)], stdin=first.stdout, stdout=file, stderr=faults,
                 restore_signals=False)
         assert first.stdin and first.stdout
         first.stdout.close()
