@@ -10,7 +10,7 @@ later is the same. Then come these lines:
     deleted CAPTURE                     a capture that `delete-captures` deleted since
     seen FILE SIZE INODE TIME TIME      what `stat` said of a capture or file before its sum was taken
 
-Behind the columns of the row stand msm KINDS if it isn't 4, channels LIST, leap_seconds N, and label OPTIONS. If the row has the channels
+Behind the columns of the row stand msm KINDS if it isn't 4, channels LIST, leap_seconds N, with-1012 yes, and label OPTIONS. If the row has the channels
 auto, the line `used` has those that captures told. It lacks the codes of systems that were left out. The list of an older version may lack
 values, sums of files and the line `used`, and may have a line `every`.
 """
@@ -29,7 +29,7 @@ SUM = r"(\d+) ([0-9a-f]{64})"
 MADE = re.compile(r"made ([A-Z0-9_]+\.rnx) (\d+) (\d+)(?: (\d+) ([0-9a-f]{64}|-))?", re.ASCII)
 CAPTURE = r"link\d+/\d{11}\.rtcm"
 ROW = re.compile(r"row (\S+) (\S+) (\S+) (\S+) (\S+) (\S+) (.*?)"
-    rf"(?: msm ([4-7](?:,[{LETTERS}][4-7])*))?(?: channels ([0-9:,-]+|none|auto))?(?: leap_seconds (\d+))?(?: label (.*))?", re.ASCII)
+    rf"(?: msm ([4-7](?:,[{LETTERS}][4-7])*))?(?: channels ([0-9:,-]+|none|auto))?(?: leap_seconds (\d+))?(?: with-1012 yes)?(?: label (.*))?", re.ASCII)
 
 
 @dataclass(frozen=True)

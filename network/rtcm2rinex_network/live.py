@@ -61,7 +61,7 @@ class LiveJob:
     def words(self, span: Span, row: Row) -> List[str]:
         """The words of `convert` by a row as captures tell it. A number of epochs by which it is behind the stream stands for the window of
         the row."""
-        return ["convert", *row.options(row.msm(self.settings)), "--near", span.start, "--made", text_of(time.time()),
+        return ["convert", *row.options(row.msm(self.settings)), "--near", row.near(span), "--made", text_of(time.time()),
             "--window", self.settings.word("WINDOW", "4"), "stdin"]
 
 
@@ -216,6 +216,7 @@ def job_of(settings: Settings, word: str) -> LiveJob:
     length = settings.word("SPAN", "01H")
     row = find_row(settings.stations, match[1], time.time() + settings.leap_seconds)
     row.msm(settings)
+    row.refuse_long(length)
     settings.number("WAIT", 60)
     settings.word("WINDOW", "4")
     return LiveJob(settings, row, int(match[2] or 1), length, find_program(settings))

@@ -151,7 +151,7 @@ def convert(job: Job, told: Told, captures: Sequence[Capture], before: Before, w
     row = told.row
     links = join_links(captures, work)
     made = time_of_making(job, captures, is_made)
-    words = ["convert", *row.options(row.msm(job.settings)), "--near", job.span.start, "--made", made, "--window", row.window,
+    words = ["convert", *row.options(row.msm(job.settings)), "--near", row.near(job.span), "--made", made, "--window", row.window,
         *map(str, links)]
     done.report = job.program.write(work / "whole", words) + told.report
     for link in links:

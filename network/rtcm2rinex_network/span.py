@@ -39,6 +39,7 @@ def job_of(settings: Settings, word: str, start: str, length: str) -> Job:
     row = find_row(settings.stations, word, span.begin if span else time.time())
     if span is None:
         raise Refused(f"START is no begin of a span of {length}")
+    row.refuse_long(length)
     check_every(settings)
     msm = row.msm(settings)
     program = Program(find_program(settings))

@@ -19,8 +19,8 @@ from .table import Row
 
 CHANNELS = " channels "
 CLOCK = re.compile(r" clock ([A-Z]) ([+-])(\d+)\.(\d{3}) (\d+) of (\d+)", re.ASCII)
-EPOCHS = re.compile(r" epochs (1\d\d)[4-7] (\d+)", re.ASCII)
-SYSTEMS = {"108": GLONASS, "109": "E", "110": "S", "111": "J", "112": "C", "113": "I"}  # by the first digits of the numbers of MSM
+EPOCHS = re.compile(r" epochs (1\d\d)\d (\d+)", re.ASCII)
+SYSTEMS = {"101": GLONASS, "108": GLONASS, "109": "E", "110": "S", "111": "J", "112": "C", "113": "I"}  # by the first digits of numbers
 RIGHT = 0  # ms that a clock is off if it is right
 WRONG_MS = 500  # from which on a clock makes the messages of others late
 
