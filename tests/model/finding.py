@@ -387,9 +387,6 @@ def find(texts: list[bytes], now: int, wanted: Wanted = Wanted()) -> Found:
     links = links_of(epochs, wanted.as_given)
     if len(links) > MOST_LINKS:
         raise Stopped("too many links", len(links))
-    points = [point for capture in captures for point in capture.points(number)]
-    if not wanted.as_given and any(dist(a, b) > METRES_100 for a, b in combinations(points, 2)):
-        raise Stopped("positions differ")
     places = [at for at in range(len(texts)) if at not in skipped]
     every = [it for of in epochs for it in of]
     wider = every + [it for capture, of in zip(captures, epochs) for it in moments_of_1012(capture, number, of, wanted.leap)]
@@ -397,6 +394,9 @@ def find(texts: list[bytes], now: int, wanted: Wanted = Wanted()) -> Found:
     chosen = choose([it.sent(number) for it in captures], links, (min(every), max(every)), near, middle is not None, wanted)
     if not chosen.names:
         raise Stopped("no code")
+    points = [point for capture in captures for point in capture.points(number)]
+    if not wanted.as_given and any(dist(a, b) > METRES_100 for a, b in combinations(points, 2)):
+        raise Stopped("positions differ")
     if chosen.with_1012 and middle is not None:
         near = middle
     messages = [it for capture in captures for it in capture.of_station(number)]
