@@ -357,6 +357,16 @@ def few_phases(messages: list[Message], chosen: Chosen) -> list[str]:
     return [name for name in chosen.names if 2 * count(name, name) < max((count(name, other) for other in others), default=0)]
 
 
+def stop_if_apart(near: int, links: list[list[int]], points: list[tuple[int, ...]]) -> None:
+    """Nothing is converted if the first epoch is out of range, if there are too many links, and if positions are far apart."""
+    if not FIRST_NEAR <= near <= LAST_NEAR:
+        raise Stopped("outside the dates")
+    if len(links) > MOST_LINKS:
+        raise Stopped("too many links", len(links))
+    if any(dist(a, b) > METRES_100 for a, b in combinations(points, 2)):
+        raise Stopped("positions differ")
+
+
 def find(texts: list[bytes], now: int, wanted: Wanted = Wanted()) -> Found:
     """What is found in these captures by what is asked for."""
     everything, near = [Capture.of(text, wanted.dating) for text in texts], wanted.near
@@ -389,13 +399,7 @@ def find(texts: list[bytes], now: int, wanted: Wanted = Wanted()) -> Found:
     chosen = choose([it.sent(number) for it in captures], links, (min(every), max(every)), near, middle is not None, wanted)
     if not chosen.names:
         raise Stopped("no code")
-    if not FIRST_NEAR <= near <= LAST_NEAR:
-        raise Stopped("outside the dates")
-    if len(links) > MOST_LINKS:
-        raise Stopped("too many links", len(links))
-    points = [point for capture in captures for point in capture.points(number)]
-    if not wanted.as_given and any(dist(a, b) > METRES_100 for a, b in combinations(points, 2)):
-        raise Stopped("positions differ")
+    stop_if_apart(near, links, [] if wanted.as_given else [point for capture in captures for point in capture.points(number)])
     if chosen.with_1012 and middle is not None:
         near = middle
     places = [at for at in range(len(texts)) if at not in skipped]
