@@ -400,8 +400,7 @@ def find(texts: list[bytes], now: int, wanted: Wanted = Wanted()) -> Found:
     if not chosen.names:
         raise Stopped("no code")
     stop_if_apart(near, links, [] if wanted.as_given else [point for capture in captures for point in capture.points(number)])
-    if chosen.with_1012 and middle is not None:
-        near = middle
+    near = middle if chosen.with_1012 and middle is not None else near
     places = [at for at in range(len(texts)) if at not in skipped]
     messages = [it for capture in captures for it in capture.of_station(number)]
     return Found(
