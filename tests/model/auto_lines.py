@@ -282,7 +282,8 @@ def left_out_lines(found: Found, texts: list[bytes]) -> list[str]:
     others = Counter(it.number for it in read if isinstance(it, Refusal) and it.fault == "M2")
     gps = {LEGACY, *MSMS} if stages.TELLS_1004 else {*MSMS}
     others.update(it.header["number"] for it in own if it.header["number"] in gps)
-    numbers = sorted(it for it in set(others) - chosen.numbers if it in gps or it in UNTAKEN or 1009 <= it <= 1012 or 1081 <= it <= 1137)
+    told = {*gps, *UNTAKEN, *range(1009, 1013), *(it for it in range(1081, 1138) if 1 <= it % 10 <= 7)}
+    numbers = sorted((set(others) & told) - chosen.numbers, key=lambda it: (system_text(it) != "GPS", it))
     of_gps = [it for it in numbers if it in gps]
     lines = [f" not in the file: GPS {it}, {others[it]} messages" for it in of_gps]
     msm = number_of(GPS, chosen.kinds[GPS.letter]) if GPS.letter in chosen.kinds else None

@@ -41,7 +41,7 @@ class Wanted(NamedTuple):
         if self.names is not None:
             asked = {letter_of_name(it) for it in self.names}
         else:
-            asked = set(LETTERS if self.systems is None else self.systems)
+            asked = set(stages.TAKEN if self.systems is None else self.systems)
         return "".join(it for it in LETTERS if it in asked)
 
     @property

@@ -357,6 +357,16 @@ def few_phases(messages: list[Message], chosen: Chosen) -> list[str]:
     return [name for name in chosen.names if 2 * count(name, name) < max((count(name, other) for other in others), default=0)]
 
 
+def stop_if_apart(near: int, links: list[list[int]], points: list[tuple[int, ...]]) -> None:
+    """Nothing is converted if the first epoch is out of range, if there are too many links, and if positions are far apart."""
+    if not FIRST_NEAR <= near <= LAST_NEAR:
+        raise Stopped("outside the dates")
+    if len(links) > MOST_LINKS:
+        raise Stopped("too many links", len(links))
+    if any(dist(a, b) > METRES_100 for a, b in combinations(points, 2)):
+        raise Stopped("positions differ")
+
+
 def find(texts: list[bytes], now: int, wanted: Wanted = Wanted()) -> Found:
     """What is found in these captures by what is asked for."""
     everything, near = [Capture.of(text, wanted.dating) for text in texts], wanted.near
@@ -381,24 +391,17 @@ def find(texts: list[bytes], now: int, wanted: Wanted = Wanted()) -> Found:
     near = min(first for first in firsts if first is not None) // 1000 * 1000
     if any(not -HALF_WEEK_MS <= it - near < HALF_WEEK_MS for of in epochs for it in of):
         raise Stopped("give them in parts")
-    if not FIRST_NEAR <= near <= LAST_NEAR:
-        raise Stopped("outside the dates")
     by = min(dating, default=None, key=lambda it: it.first)
     links = links_of(epochs, wanted.as_given)
-    if len(links) > MOST_LINKS:
-        raise Stopped("too many links", len(links))
-    points = [point for capture in captures for point in capture.points(number)]
-    if not wanted.as_given and any(dist(a, b) > METRES_100 for a, b in combinations(points, 2)):
-        raise Stopped("positions differ")
-    places = [at for at in range(len(texts)) if at not in skipped]
     every = [it for of in epochs for it in of]
     wider = every + [it for capture, of in zip(captures, epochs) for it in moments_of_1012(capture, number, of, wanted.leap)]
     middle = near_of_span(min(wider), max(wider)) if stages.TAKES_1012 else None
     chosen = choose([it.sent(number) for it in captures], links, (min(every), max(every)), near, middle is not None, wanted)
     if not chosen.names:
         raise Stopped("no code")
-    if chosen.with_1012 and middle is not None:
-        near = middle
+    stop_if_apart(near, links, [] if wanted.as_given else [point for capture in captures for point in capture.points(number)])
+    near = middle if chosen.with_1012 and middle is not None else near
+    places = [at for at in range(len(texts)) if at not in skipped]
     messages = [it for capture in captures for it in capture.of_station(number)]
     return Found(
         number, chosen, near, None if by is None else by.fields, [[places[at] for at in link] for link in links], epochs,

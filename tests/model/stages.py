@@ -1,6 +1,8 @@
 """How much of the plan of all systems the program has. Each switch is turned with the step of the program that it belongs to, and goes
 once all are turned."""
 
+# The systems that `auto` converts where its words name none.
+TAKEN = "GRECJSI"
 # The systems whose observations tell the station, the dates and the spans of captures; without others G alone does.
 DATING = "GEJSI"
 # The systems whose epochs are counted where the stations are listed.
