@@ -173,6 +173,7 @@ def source_of(found: Found, asked: Asked, epochs: list[int]) -> str:
     return str(found.by["number"]) + (f" of station {found.by['station']}" if found.by["station"] != found.station else "")
 
 
+# pins: all_slots, said_channel, said_channels, leap_option, systems_in_order, kinds_or, kind_digit, first_and_exceptions, msm_option_text
 def command_lines(found: Found, said: Options) -> list[str]:
     """The command, which first joins captures where several make a link."""
     marker = said.marker.lstrip("-")
@@ -226,6 +227,7 @@ def date_lines(found: Found, asked: Asked, texts: list[bytes]) -> list[str]:
     return lines + [f" other-date{date_text(it.fields, it.first, name_of(at))}" for at, it in others]
 
 
+# pins: to_text, greatest_text, leap_words_of
 def leap_lines(found: Found, asked: Asked, texts: list[bytes]) -> list[str]:
     """The captures in which a 1013 of the station tells other leap seconds than those by which GLONASS is compared."""
     chosen, lines = found.chosen, []
@@ -274,6 +276,7 @@ def system_text(number: int) -> str:
     return SYSTEMS.get(number // 10, "GLONASS") if number > 1080 or 1009 <= number <= 1012 else "GPS"
 
 
+# pins: msm_line_of, doppler_line_of, obs_1004_line, is_gps_system
 def left_out_lines(found: Found, texts: list[bytes]) -> list[str]:
     """How many messages are not converted, or without a part: of GPS those of the station, of other systems those of all stations."""
     chosen = found.chosen
@@ -300,6 +303,7 @@ def left_out_lines(found: Found, texts: list[bytes]) -> list[str]:
     ]  # fmt: skip
 
 
+# pins: constellation_slots, are_too_many, satellite_of_slot, alike_name, alike_words, told_channel, several_words
 def slot_lines(found: Found) -> list[str]:
     """What is told of slots of GLONASS."""
     slots, lines = found.chosen.slots, []

@@ -121,6 +121,7 @@ def names_shown(messages: Iterable[Message], numbers: set[int]) -> list[str]:
 # ---------------------------------------------------------------- clocks
 
 
+# pins: compared_systems, kinds_in_order, times_chains, timing_before
 def total_offsets(captures: list[Sent], date: Date) -> Offsets:
     """How often each clock is ahead by each offset, in all captures."""
     totals: Offsets = {letter: Counter() for letter in LETTERS}
@@ -153,6 +154,7 @@ def slots_shown(messages: Iterable[Message], numbers: set[int], names: Iterable[
     return [int(satellite[1:]) for it in taken for satellite, code in shown_in(it) if code in codes]
 
 
+# pins: flag_of, in_both, flags_listed, dating_among
 def names_chosen(messages: list[Message], numbers: set[int], letters: Iterable[str], wanted: Wanted) -> tuple[str, ...]:
     """The codes that are named, or else those of these systems that have a value, in the order of a file."""
     shown = (it for it in names_shown(messages, numbers) if letter_of_name(it) in letters)
@@ -189,6 +191,7 @@ def has_value_of_1012(message: Message) -> bool:
     return message.header["number"] == LEGACY_GLONASS and bool(names_in(message))
 
 
+# pins: is_slot_in, IsToldChannel, channel_fields
 def slots_chosen(captures: list[Sent], chosen: Chosen, wanted: Wanted) -> Slots:
     """The channels of GLONASS."""
     messages = [it for capture in captures for it in capture.messages]

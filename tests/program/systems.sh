@@ -351,7 +351,7 @@ taken='7 0 0 0 7 0 0 0 1'
 finds seven_systems seven.rnx "$seven_options chained.rtcm" "$taken" "$doppler" chained.rtcm
 # Words go before what messages tell.
 finds codes_in_another_order seven.rnx "$seven_options chained.rtcm" "$taken" "$doppler" --codes I5A,S5I,J1X,C1P,E8X,R2P,5X chained.rtcm
-# pins: leap_words
+# pins: leap_option
 finds given_leap_seconds seven.rnx "$seven_options --leap-seconds 18 chained.rtcm" "$taken" "$doppler" --leap-seconds 18 chained.rtcm
 convert 5X,R2P --msm 7 --channels 10:-7 chained.rtcm; cp out other.rnx
 finds given_channels other.rnx '5X,R2P --msm 7 --window 64 --channels 10:-7 chained.rtcm' '7 5 0 0 2 0 0 0 1' \
@@ -406,6 +406,7 @@ done
 report 66 2 0 0 41 23 0 0 10 >want; grep -E '^(frames|other|refused|foreign|taken|repeat|conflict|late|epochs) ' err >told
 same counts_of_the_example_of_systems told want
 run auto -o systems.rnx --made $made "$examples/systems_link1.rtcm" "$examples/systems_link2.rtcm"
+# pins: marked_count
 echo 'wrote systems.rnx: 10 epochs, G 3 R 2 E 2 C 2 satellites' >want; tail -n 1 err >told; same satellites_of_the_example told want
 run auto --systems GR --codes 1C seven.rtcm
 expect auto_systems_and_codes 2 '' "$(error "the argument '--systems <LETTERS>' cannot be used with '--codes <LIST>'" 'auto --systems <LETTERS> <CAPTURE>...')"
