@@ -13,19 +13,20 @@ from typing import BinaryIO, Iterable, List
 from .lists import joined, read_list
 from .names import Name, read_name
 from .places import forms_of, names_before
-from .placing import UNREAD, is_at, lock, remove_left, sync
+from .placing import UNREAD, is_at, lock_if_there, remove_left, sync
 
 BESIDE = (".after", ".report", UNREAD)  # of a file, but for its list and the notes of runs that failed, which a run that succeeds removes
 
 
 class Before:
-    """The lists of a file. That of its own name is locked already, and so are those that are held open; the others are locked as long as
-    this is there."""
+    """The lists of a file. That of its own name is locked already, and so are those that are held open; others, which came late, are locked
+    as long as this is there."""
 
     def __init__(self, folder: Path, name: Name, held: List[BinaryIO]) -> None:
         self.folder, self.name = folder, name
         paths = [list_of(folder, it) for it in names_before(folder, name)]
-        self.held = [*held, *(lock(path) for path in paths if not any(is_at(file, path) for file in held))]
+        late = [path for path in paths if not any(is_at(file, path) for file in held)]
+        self.held = [*held, *(file for path in late for file in lock_if_there(path))]
         self.others = names_before(folder, name)  # now, since a lock may have come late
         self.lists = {it: read_list(list_of(folder, it)) for it in self.names}
         self.record = joined(self.lists[name], [self.lists[it] for it in self.others])

@@ -17,7 +17,7 @@ from .names import read_name
 from .places import form_of, is_compact
 from .program import Program
 from .rinex import Header, codes_with_values, count_epochs, count_values, counts_of_systems, read_header
-from .systems import kinds_of, systems_of
+from .systems import kinds_of, system_of, systems_of
 
 MOST_METRES = 1.0  # of a position that comes from the same antenna
 MOST_CONFLICTS = 0.01  # of the messages that were taken
@@ -28,13 +28,14 @@ OF_WHOLE_FILE = re.compile(r"lost slip .*", re.ASCII)  # also a line of `compare
 
 @dataclass(frozen=True)
 class MadeBy:
-    """What a file was made by: the number of the station, the MSM, the codes, and the marker and the fields of the label. A None is
-    not known."""
+    """What a file was made by: the number of the station, the MSM, the codes, the marker and the fields of the label, and the systems that
+    were left out because of their clocks. A None is not known."""
 
     station: Optional[str]
     msm: Optional[str]
     codes: Tuple[str, ...]
     fields: Dict[str, str]
+    left_out: str = ""
 
     @property
     def kinds(self) -> Dict[str, str]:
@@ -135,7 +136,9 @@ def guard_words(old: Old, new: MadeBy) -> Iterator[str]:
         there = codes_with_values(path)
         dropped = [code for code in dropped if code in there]
     if dropped:
-        yield f"{name} has the codes {','.join(dropped)}, and the row has them no more"
+        is_told = all(system_of(code) in new.left_out for code in dropped)
+        why = "captures tell that the clocks of these systems are wrong" if is_told else "the row has them no more"
+        yield f"{name} has the codes {','.join(dropped)}, and {why}"
     for field, text in sorted(by.fields.items()):
         if not is_same_field(text, new.fields.get(field, "")):
             filled = repr(new.fields[field]) if field in new.fields else "nothing"

@@ -10,8 +10,9 @@ later is the same. Then come these lines:
     deleted CAPTURE                     a capture that `delete-captures` deleted since
     seen FILE SIZE INODE TIME TIME      what `stat` said of a capture or file before its sum was taken
 
-Behind the columns of the row stand msm KINDS if it isn't 4, channels LIST, leap_seconds N, and label OPTIONS. The list of an older version
-may lack values, sums of files and the line `used`, and may have a line `every`.
+Behind the columns of the row stand msm KINDS if it isn't 4, channels LIST, leap_seconds N, with-1012 yes, and label OPTIONS. If the row has the channels
+auto, the line `used` has those that captures told. It lacks the codes of systems that were left out. The list of an older version may lack
+values, sums of files and the line `used`, and may have a line `every`.
 """
 
 from __future__ import annotations
@@ -22,13 +23,13 @@ from pathlib import Path
 from typing import Dict, List, Mapping, Optional, Sequence, Set, Tuple
 
 from .captures import Sum
-from .systems import DEFAULT_KIND, LETTERS
+from .systems import AUTO, DEFAULT_KIND, LETTERS, channels_of
 
 SUM = r"(\d+) ([0-9a-f]{64})"
 MADE = re.compile(r"made ([A-Z0-9_]+\.rnx) (\d+) (\d+)(?: (\d+) ([0-9a-f]{64}|-))?", re.ASCII)
 CAPTURE = r"link\d+/\d{11}\.rtcm"
 ROW = re.compile(r"row (\S+) (\S+) (\S+) (\S+) (\S+) (\S+) (.*?)"
-    rf"(?: msm ([4-7](?:,[{LETTERS}][4-7])*))?(?: channels ([0-9:,-]+|none))?(?: leap_seconds (\d+))?(?: label (.*))?", re.ASCII)
+    rf"(?: msm ([4-7](?:,[{LETTERS}][4-7])*))?(?: channels ([0-9:,-]+|none|auto))?(?: leap_seconds (\d+))?(?: with-1012 yes)?(?: label (.*))?", re.ASCII)
 
 
 @dataclass(frozen=True)
@@ -57,8 +58,8 @@ class Made:
 
 @dataclass(frozen=True)
 class Used:
-    """What a row of a list says: the number of the station, the marker, the codes, the MSM, the channels of GLONASS, and the options of the
-    label."""
+    """What a row of a list says: the number of the station, the marker, the codes that were converted, the MSM, the word for the channels of
+    GLONASS, and the options of the label."""
 
     station: str
     marker: str
@@ -95,12 +96,24 @@ class Record:
         seen = [f"seen {name} {it}" for name, it in sorted(self.seen.items())]
         return "".join(f"{line}\n" for line in [*self.source(), *self.result(), *(f"deleted {it}" for it in sorted(self.deleted)), *seen])
 
+    @property
+    def told(self) -> Dict[str, str]:
+        """What the conversion was told, by the words of the line `used`."""
+        words = self.used.split(" ")
+        return dict(zip(words[::2], words[1::2]))
+
     def row(self) -> Optional[Used]:
         """What its row says, if it has one."""
         for line in self.head:
             if match := ROW.fullmatch(line):
-                return Used(match[1], match[2], tuple(match[5].split(",")), match[8] or DEFAULT_KIND, match[9], match[11] or "")
+                codes = self.told.get("codes", match[5])
+                return Used(match[1], match[2], tuple(codes.split(",")), match[8] or DEFAULT_KIND, match[9], match[11] or "")
         return None
+
+    def channels(self) -> Dict[int, int]:
+        """The channels of slots that captures told, if its row left them to captures."""
+        row, words = self.row(), self.told.get("channels", "")
+        return channels_of(words) if row and row.channels == AUTO else {}
 
 
 def row_line(text: str, msm: str, glonass: Mapping[str, str], label: str) -> str:

@@ -19,11 +19,13 @@ from .keeping import PIECE, Keeper, gps_hour, keep_input, write_all
 from .names import LINK, capture_name, read_name
 from .places import folder_with, form_of
 from .placing import write_whole
-from .program import find_program
+from .program import Program, find_program
 from .rinex import read_header
 from .settings import HERE, HOUR, Settings, read_settings
 from .sources import faults_of_sources, find_source
 from .streams import take_for_ever
+from .summaries import Told, told_of
+from .systems import NO_CHANNELS
 from .table import Row, find_row, read_table
 from .times import LENGTHS, Span, text_of
 
@@ -56,9 +58,10 @@ class LiveJob:
         """The live file of a span."""
         return self.out / (f"{self.row.name(span)}" + (f".link{self.link}" if self.link > 1 else "") + ".live")
 
-    def words(self, span: Span) -> List[str]:
-        """The words of `convert`. A number of epochs by which it is behind the stream stands for the window of the row."""
-        return ["convert", *self.row.options(self.row.msm(self.settings)), "--near", span.start, "--made", text_of(time.time()),
+    def words(self, span: Span, row: Row) -> List[str]:
+        """The words of `convert` by a row as captures tell it. A number of epochs by which it is behind the stream stands for the window of
+        the row."""
+        return ["convert", *row.options(row.msm(self.settings)), "--near", row.near(span), "--made", text_of(time.time()),
             "--window", self.settings.word("WINDOW", "4"), "stdin"]
 
 
@@ -99,11 +102,13 @@ class Live(threading.Thread):
         self.remove_old(span)
         write_whole(live, "")
         write_whole(report, "")
+        told = self.told(span)
+        write_whole(report, told.report)
         wait = str(self.job.settings.number("WAIT", 60))
         known = [str(HERE / "position-first"), self.job.row.station, wait, *map(str, self.captures_before(span.begin))]
-        with open(live, "ab") as file, open(report, "ab") as told:
+        with open(live, "ab") as file, open(report, "ab") as faults:
             first = subprocess.Popen(known, stdin=subprocess.PIPE, stdout=subprocess.PIPE, bufsize=0, restore_signals=False)
-            last = subprocess.Popen([self.job.program, *self.job.words(span)], stdin=first.stdout, stdout=file, stderr=told,
+            last = subprocess.Popen([self.job.program, *self.job.words(span, told.row)], stdin=first.stdout, stdout=file, stderr=faults,
                 restore_signals=False)
         assert first.stdin and first.stdout
         first.stdout.close()
@@ -148,10 +153,27 @@ class Live(threading.Thread):
             else:
                 yield unpacked(path.with_name(f"{path.name}.gz"))
 
+    def told(self, span: Span) -> Told:
+        """The row as captures of the span and of the hour before tell it. Where only the stream can tell channels, this waits until it
+        does, but not longer than for the position."""
+        job, before = self.job, self.captures_before(span.begin)
+        program, last = Program(job.program), float("inf")
+        while True:
+            names = [capture_name(job.link, hour) + form for hour in span.own_hours for form in ("", ".gz")]
+            captures = [path for it in names if (path := job.row.directory / it).is_file()]
+            told = told_of(program, job.row, captures, before, {})
+            is_over = time.monotonic() >= last or self.span_of_now() != span
+            if before or is_over or not job.row.has_auto_channels or told.row.glonass.get("channels") != NO_CHANNELS:
+                return told
+            if captures:
+                last = min(last, time.monotonic() + job.settings.number("WAIT", 60))
+            self.came.wait(1)
+            self.came.clear()
+
     def captures_before(self, begin: int) -> List[Path]:
         """The captures of the hour before, of this link first."""
         name = Path(capture_name(self.job.link, begin - HOUR)).name
-        folders = [self.job.folder, *sorted(self.job.row.directory.glob("link*"))]
+        folders = dict.fromkeys([self.job.folder, *sorted(self.job.row.directory.glob("link*"))])
         return [path for folder in folders for path in (folder / name, folder / f"{name}.gz") if path.is_file()]
 
     def remove_old(self, span: Span) -> None:
@@ -194,6 +216,7 @@ def job_of(settings: Settings, word: str) -> LiveJob:
     length = settings.word("SPAN", "01H")
     row = find_row(settings.stations, match[1], time.time() + settings.leap_seconds)
     row.msm(settings)
+    row.refuse_long(length)
     settings.number("WAIT", 60)
     settings.word("WINDOW", "4")
     return LiveJob(settings, row, int(match[2] or 1), length, find_program(settings))

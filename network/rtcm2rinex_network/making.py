@@ -18,6 +18,7 @@ from .places import folder_of, form_of, has_list, plain_name
 from .program import Program
 from .rinex import count_values, most_frequent_step, read_header
 from .settings import DAY, Settings
+from .summaries import Told
 from .table import Row
 from .times import Span, interval_of, ms_of, text_of
 
@@ -63,9 +64,10 @@ class Job:
         """The lines of the list before the captures. If the row, the MSM or the label changes, the file is made anew."""
         return [self.version, row_line(self.row.text, self.msm, self.row.glonass, self.label)]
 
-    def used(self, thins: Sequence[str]) -> str:
-        """What the conversion is told, as the list notes it, with the intervals of the thinned files."""
-        told = {"msm": self.msm, "window": self.row.window, "codes": self.row.codes, **self.row.glonass, "every": ",".join(thins) or "-"}
+    def used(self, row: Row, thins: Sequence[str]) -> str:
+        """What the conversion was told by its row, as the list notes it, with the intervals of the thinned files."""
+        msm = row.msm(self.settings)
+        told = {"msm": msm, "window": row.window, "codes": row.codes, **row.glonass, "every": ",".join(thins) or "-"}
         return " ".join(f"{name} {it}" for name, it in told.items())
 
     def fields(self) -> Dict[str, str]:
@@ -144,13 +146,14 @@ def time_of_making(job: Job, captures: Sequence[Capture], is_made: bool) -> str:
     return made
 
 
-def convert(job: Job, captures: Sequence[Capture], before: Before, work: Path, is_made: bool, done: Conversion) -> None:
-    """Converts the captures, and cuts the file and its thinned files out of what comes."""
-    row = job.row
+def convert(job: Job, told: Told, captures: Sequence[Capture], before: Before, work: Path, is_made: bool, done: Conversion) -> None:
+    """Converts the captures by the row as they tell it, and cuts the file and its thinned files out of what comes."""
+    row = told.row
     links = join_links(captures, work)
     made = time_of_making(job, captures, is_made)
-    words = ["convert", *row.options(job.msm), "--near", job.span.start, "--made", made, "--window", row.window, *map(str, links)]
-    done.report = job.program.write(work / "whole", words)
+    words = ["convert", *row.options(row.msm(job.settings)), "--near", row.near(job.span), "--made", made, "--window", row.window,
+        *map(str, links)]
+    done.report = job.program.write(work / "whole", words) + told.report
     for link in links:
         link.unlink()
     name = str(job.name)

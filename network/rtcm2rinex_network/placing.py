@@ -15,9 +15,9 @@ import shutil
 import stat
 import tempfile
 import time
-from contextlib import contextmanager
+from contextlib import ExitStack, contextmanager
 from pathlib import Path
-from typing import IO, Any, BinaryIO, Iterator, Optional, Tuple
+from typing import IO, Any, BinaryIO, Iterator, List, Optional, Tuple
 
 from .ends import Again, Ended, Refused, blamed
 
@@ -111,13 +111,15 @@ def make_folder(folder: Path) -> None:
     give_to_owner(folder, folder.parent)
 
 
-def lock(path: Path) -> BinaryIO:
+def lock(path: Path, makes: bool = True) -> BinaryIO:
     """Opens and locks a list, which is there after it. Another run may put a new list in its place meanwhile, and then that one is
-    locked."""
+    locked. If it is not to be made, a list that is gone raises a FileNotFoundError."""
     while True:
         try:
-            file = open(path, "ab")
+            file: BinaryIO = open(path, "ab") if makes else open(path, "r+b")
         except OSError as fault:
+            if not makes and isinstance(fault, FileNotFoundError):
+                raise
             place = path if path.exists() else path.parent
             raise blamed(str(place), f"can't write {path}: {fault.strerror}") from None
         wait_for(file, path)
@@ -126,11 +128,21 @@ def lock(path: Path) -> BinaryIO:
         file.close()
 
 
+def lock_if_there(path: Path) -> List[BinaryIO]:
+    """The same of a list that another run may remove meanwhile; nothing if it is gone."""
+    try:
+        return [lock(path, False)]
+    except FileNotFoundError:
+        return []
+
+
 @contextmanager
-def locked(path: Path) -> Iterator[BinaryIO]:
-    """Holds the lock of a list."""
-    with lock(path) as file:
-        yield file
+def locked(own: Path, *others: Path) -> Iterator[List[BinaryIO]]:
+    """Holds the locks of a list, which is made if it is not there, and of others. All runs take them in the order of their names, so that no
+    two wait for each other."""
+    with ExitStack() as stack:
+        files = (it for path in sorted({own, *others}) for it in ([lock(path)] if path == own else lock_if_there(path)))
+        yield [stack.enter_context(it) for it in files]
 
 
 def wait_for(file: BinaryIO, path: Path) -> None:

@@ -55,19 +55,19 @@ class Program:
     def __init__(self, path: str) -> None:
         self.path = path
 
-    def ran(self, words: Sequence[str], output: Optional[Path] = None) -> Ran:
-        """Runs the program with these words. `output` is a new file for its standard output. What it tells comes by a pipe, because
-        the reason of a full disk could not be written to the same disk."""
+    def ran(self, words: Sequence[str], output: Optional[Path] = None, given: Optional[bytes] = None) -> Ran:
+        """Runs the program with these words. `output` is a new file for its standard output, and `given` is its standard input, if it has one.
+        What it tells comes by a pipe, because the reason of a full disk could not be written to the same disk."""
         if output is None:
-            return self.started(words, subprocess.PIPE)
+            return self.started(words, subprocess.PIPE, given)
         with open(output, "wb") as file:
-            return self.started(words, file.fileno())
+            return self.started(words, file.fileno(), given)
 
-    def started(self, words: Sequence[str], out: int) -> Ran:
+    def started(self, words: Sequence[str], out: int, given: Optional[bytes]) -> Ran:
         """Runs the program, whose standard output goes there."""
         try:
-            ran = subprocess.run([self.path, *words], stdin=subprocess.DEVNULL, stdout=out, stderr=subprocess.PIPE,
-                restore_signals=False, check=False)
+            ran = subprocess.run([self.path, *words], stdin=subprocess.DEVNULL if given is None else None, input=given, stdout=out,
+                stderr=subprocess.PIPE, restore_signals=False, check=False)
         except OSError as fault:
             return Ran(STARTS_NOT, "", f"{self.path}: {fault.strerror}")
         status = ran.returncode if ran.returncode >= 0 else 128 - ran.returncode

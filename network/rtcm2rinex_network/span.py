@@ -11,7 +11,7 @@ from pathlib import Path
 from typing import Dict, Iterator, List, Optional, Sequence
 
 from .after import call_after, note_after
-from .before import Before
+from .before import Before, list_of
 from .captures import Capture, Sum, Unread, find_captures, has_grown, is_old, look_at, sum_of
 from .ends import Again, Ended, NoCaptures, Refused, Stopped, Usage, say
 from .guards import (MadeBy, New, Old, captures_that_differ, faults_of, guard_captures, guard_compact, guard_words, may_be_fewer,
@@ -20,10 +20,11 @@ from .labels import checked_options, find_label, labels_beside
 from .lists import Record
 from .making import Conversion, Job, check_every, convert, label_files
 from .names import Name
-from .places import adopt, compact_forms, dated, form_of, has_list, is_compact
+from .places import adopt, compact_forms, dated, form_of, has_list, is_compact, names_before
 from .placing import NOTES, UNREAD, failures, give_to_owner, locked, make_folder, note_end, put, sync, work_folder, write_whole
 from .program import Program, find_program
 from .settings import Settings
+from .summaries import Told, told_of
 from .table import find_row
 from .times import LENGTHS, span_of
 
@@ -38,6 +39,7 @@ def job_of(settings: Settings, word: str, start: str, length: str) -> Job:
     row = find_row(settings.stations, word, span.begin if span else time.time())
     if span is None:
         raise Refused(f"START is no begin of a span of {length}")
+    row.refuse_long(length)
     check_every(settings)
     msm = row.msm(settings)
     program = Program(find_program(settings))
@@ -54,17 +56,18 @@ def convert_span(settings: Settings, words: Sequence[str]) -> str:
     """Makes the file of a span, and answers what became of it: `done NAME` or `unchanged NAME`."""
     job = job_of(settings, *words)
     captures = find_captures(job.row.directory, job.span)
-    record = job.path.with_name(f"{job.name}.captures")
+    record = list_of(job.folder, job.name)
     if not is_listed(job) and not has_own(job, captures):
         raise NoCaptures(f"no captures for {job.name}")
     for path in (record, job.path, job.path.with_name(f"{job.name}.report")):
         if path.exists() and not path.is_file():
             raise Refused(f"{path} is no regular file, and is not replaced")
     make_folder(job.folder)
-    with locked(record), noted(job):
+    with locked(record, *(list_of(job.folder, it) for it in names_before(job.folder, job.name))) as held, noted(job):
         if not os.access(job.folder, os.W_OK):
             raise Refused(f"can't write to {job.folder}: no permission")
-        run = Run(job, record, Before(job.folder, job.name, adopt(job.row.directory / "rinex", job.folder, job.name)))
+        held += adopt(job.row.directory / "rinex", job.folder, job.name)
+        run = Run(job, record, Before(job.folder, job.name, held))
         told = run.made()
         run.note_unread()
         call_after(settings, [job.folder / name for name in run.now.made or run.before.made])
@@ -245,12 +248,12 @@ class Run:
         job = self.job
         if not has_own(job, self.found.captures):
             raise Again("; ".join(self.faults))
-        name = str(job.name)
-        by = MadeBy(job.row.station, job.msm, job.row.code_names, job.fields())
+        name, told = str(job.name), self.told()
+        by = MadeBy(job.row.station, job.msm, told.row.code_names, job.fields(), "".join(told.left_out))
         olds = [(self.old_files(it), self.lists.lists[it]) for it in self.lists.names]
         for old, _ in olds:
             self.judge(guard_words(old, by), done, False)
-        convert(job, self.found.captures, self.lists, work, is_made, done)
+        convert(job, told, self.found.captures, self.lists, work, is_made, done)
         label_files(job, work, done)
         for old, _ in olds:
             self.judge(guard_compact(old, done.made), done, False)
@@ -260,8 +263,14 @@ class Run:
             self.judge(faults_of(job.program, old, new), done)
         self.now.made = done.made
         self.now.report = sum_of(work / f"{name}.report")
-        self.now.used = job.used([file.split("_")[4] for file in list(done.made)[1:]])
+        self.now.used = job.used(told.row, [file.split("_")[4] for file in list(done.made)[1:]])
         self.put_in_place(work)
+
+    def told(self) -> Told:
+        """The row as captures tell it. A channel of the list stays, so that a later run makes the same file."""
+        job, hours = self.job, self.job.span.own_hours
+        own, beside = ([it.path for it in self.found.captures if (it.hour in hours) == is_own] for is_own in (True, False))
+        return told_of(job.program, job.row, own, beside, {} if job.settings.is_forced else self.before.channels())
 
     def old_files(self, name: Name) -> Old:
         """What is known of the files of before under a name."""

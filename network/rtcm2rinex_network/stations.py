@@ -25,7 +25,8 @@ UNUSED = 10 * DAY  # a length whose newest file is so much older than that of an
 OFTEN = 2  # runs of a file that failed, after which it is an alarm
 CAPTURE = re.compile(r"(?m)^(?:unread )?(link\d+/\d{11}\.rtcm)\b", re.ASCII)
 COUNTED = ("late", "conflict", "refused", "foreign")
-NAMED = ("other-channel", "no-channel", "no-message")  # lines of a report that name slots of GLONASS or systems
+CLOCK = "clock"  # a line of a report for each system whose clock is wrong
+NAMED = ("other-channel", "no-channel", "no-message", CLOCK)  # lines of a report that name slots of GLONASS or systems
 KINDS = ("capture", "file", "missing", "epochs", "unread", *COUNTED, "repeat", *NAMED, "position", "not-made", "table")
 
 
@@ -204,7 +205,7 @@ class Station:
         if it.links > 1 and 4 * repeats < repeats + taken:
             yield "repeat", f"{it.name}: repeat {repeats} and taken {taken}, of {it.links} links"
         for word, names in it.named.items():
-            yield word, f"{it.name}: {word} {' '.join(names)}"
+            yield word, f"{it.name}: {word} {(', ' if word == CLOCK else ' ').join(names)}"
         if not it.has_position:
             yield "position", f"{it.name}: no position"
 
@@ -305,10 +306,12 @@ def list_if_made(folder: Path, name: Name) -> Optional[Listed]:
 
 
 def named_by(lines: List[List[str]], record: Record) -> Dict[str, Tuple[str, ...]]:
-    """The slots or systems that lines of a report name. A row whose word is channels=none wants no channels."""
+    """The slots or systems that lines of a report name, and the lines of clocks. A row whose word is channels=none wants no channels."""
     row = record.row()
-    wanted = [it for it in NAMED if not (it == "no-channel" and row and row.channels == NO_CHANNELS)]
-    return {words[0]: tuple(words[1:]) for words in lines if words and words[0] in wanted and words[1:] != ["-"]}
+    wanted = [it for it in NAMED if it != CLOCK and not (it == "no-channel" and row and row.channels == NO_CHANNELS)]
+    found = {words[0]: tuple(words[1:]) for words in lines if words and words[0] in wanted and words[1:] != ["-"]}
+    clocks = tuple(" ".join(words[1:]) for words in lines if words and words[0] == CLOCK)
+    return {**found, **({CLOCK: clocks} if clocks else {})}
 
 
 def captures_in(folder: Path) -> List[str]:

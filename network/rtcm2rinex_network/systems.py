@@ -15,7 +15,8 @@ DEFAULT_KIND = "4"  # of MSM, if no word says another one
 KINDS = rf"[4-7](?:,([{LETTERS}])[4-7](?!.*,\1))*"  # one for all systems, and an exception for a system at most
 NO_KINDS = "not like 7 or 7,E4,C4, with kinds from 4 to 7 and each system once"
 SLOT = r"([1-9]|1[0-9]|2[0-7]):(?:-[1-7]|[0-6])"
-NO_CHANNELS = "none"
+WITH_1012 = "with-1012"  # the word of a row that takes GLONASS of 1012 too
+NO_CHANNELS, AUTO = "none", "auto"  # in place of channels: there are none, or captures tell them
 
 
 def system_of(code: str) -> str:
@@ -50,7 +51,20 @@ def words_of_kinds(kinds: Mapping[str, str]) -> str:
 
 def by_slots(channels: str) -> str:
     """Channels in the order of their slots, so that words that mean the same are the same."""
-    return channels if channels == NO_CHANNELS else ",".join(sorted(channels.split(","), key=lambda it: int(it.partition(":")[0])))
+    if channels in (NO_CHANNELS, AUTO):
+        return channels
+    return ",".join(sorted(channels.split(","), key=lambda it: int(it.partition(":")[0])))
+
+
+def channels_of(words: str) -> Dict[int, int]:
+    """The channel of each slot, by words like 1:1,9:-6; none of other words."""
+    pairs = [it.split(":") for it in words.split(",") if re.fullmatch(SLOT, it)]
+    return {int(slot): int(channel) for slot, channel in pairs}
+
+
+def words_of_channels(channels: Mapping[int, int]) -> str:
+    """The words of these channels, in the order of their slots."""
+    return ",".join(f"{slot}:{channel}" for slot, channel in sorted(channels.items())) or NO_CHANNELS
 
 
 def first_twice(words: Sequence[str]) -> str:
@@ -71,12 +85,12 @@ def fault_of_codes(text: str) -> str:
 
 
 def fault_of_channels(channels: Optional[str], codes: Sequence[str]) -> str:
-    """What is wrong with the word channels= of a row with these codes, or with a row without this word."""
-    if GLONASS not in systems_of(codes):
-        return "" if channels is None else f"channels={channels} is there without a code of R"
+    """What is wrong with the word channels= of a row with these codes; nothing if there is no such word."""
     if channels is None:
-        return "codes of R need channels=, like channels=1:1,9:-6, or channels=none for a file without phases of R"
-    words = [] if channels == NO_CHANNELS else channels.split(",")
+        return ""
+    if GLONASS not in systems_of(codes):
+        return f"channels={channels} is there without a code of R"
+    words = [] if channels in (NO_CHANNELS, AUTO) else channels.split(",")
     for word in words:
         if not re.fullmatch(SLOT, word):
             return f"channels={channels}: {word!r} is no slot from 1 to 27 with a channel from -7 to 6, like 9:-6"

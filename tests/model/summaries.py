@@ -9,16 +9,14 @@ from datetime import datetime, timedelta
 from itertools import groupby
 
 from chains import clock_lines, week_lines
+from channels import told_by
 from equipment import Told, equipment_lines, equipment_of
-from finding import date_of
-from messages import CODES, Refusal, cells_of, frames_of, read_message, set_bits
-from mixed_cells import all_cells
-from msm import read_any, type_of
-from systems import GLONASS, GPS, INDEX, SYSTEMS, TYPES
-from wire import MSMS, Fields, Message, paired
-
-# The MSM of other systems than GPS.
-BESIDE_GPS = frozenset(number for number, (system, _) in TYPES.items() if system is not GPS)
+from finding import FIRST_DAY, date_of
+from messages import CODES, Refusal, cells_of, frames_of
+from msm import BESIDE_GPS, LEGACY_GLONASS, letter_of, read_frame
+from systems import GPS, INDEX, LETTERS
+from valued import NAMES, has_value, letter_of_name, names_in, shown_in
+from wire import MSMS, Fields, Message
 
 UNTAKEN = (1001, 1002, 1003, 1071, 1072, 1073)
 NO_DATE = "GPS-TIME-WITHIN-HALF-A-WEEK"
@@ -53,17 +51,6 @@ def summary_of(text: bytes, name: str = "file") -> str:
     return "".join(f"{line}\n" for line in lines)
 
 
-def read_frame(payload: bytes) -> Message | Refusal:
-    """The message that a payload begins with: of GPS or a station, or an MSM of another system."""
-    read = read_message(payload, MSMS)
-    return read_any(payload, BESIDE_GPS) if isinstance(read, Refusal) and read.fault == "M2" else read
-
-
-def is_of_gps(read: Message | Refusal) -> bool:
-    """A message that is no MSM of another system."""
-    return not isinstance(read, Refusal) and read.header["number"] not in BESIDE_GPS
-
-
 def look_of(text: bytes) -> str:
     """What a file looks like that has no frame."""
     for mark, look in reversed(MARKS.items()):
@@ -88,6 +75,11 @@ def civil_of(date: Fields) -> str | None:
     return moment.isoformat() if is_date else None
 
 
+def moment_of_date(date: Fields) -> int:
+    """The same as a moment, in ms."""
+    return 86_400_000 * (date["day"] - FIRST_DAY) + 1000 * date["second"]
+
+
 def sh_quoted(name: str) -> str:
     return ("./" if name.startswith("-") else "") + shlex.quote(name).replace("'\"'\"'", r"'\''")
 
@@ -105,15 +97,13 @@ def unread_lines(faults: Counter[Refusal]) -> list[str]:
 
 def station_lines(name: str, station: int, messages: list[Message], dated: list[Fields], told: list[Told]) -> list[str]:
     counts = Counter(it.header["number"] for it in messages)
-    observations = [it for it in messages if is_of_gps(it) and "tow" in it.header]
-    others = [it for it in messages if not is_of_gps(it)]
+    observations = [it for it in messages if letter_of(it) == GPS.letter]
+    others = [it for it in messages if letter_of(it) not in (None, GPS.letter)]
     times = [it.header["tow"] for it in observations]
     shown = [entry for it in observations for entry in entries_of(it)]
-    of_others = {(satellite, code) for it in others for satellite, code in signals_of(it)}
-    found = {f"G{it:02}" for _, _, it, _ in shown} | {satellite for satellite, _ in of_others}
+    found = {satellite for it in messages for satellite, _ in shown_in(it)}
     codes = codes_of(shown, (1004, *MSMS))
-    letters_and_codes = {(satellite[0], code) for satellite, code in of_others}
-    all_codes = [*codes, *(f"{it.letter}{code}" for it in SYSTEMS for code in it.codes if (it.letter, code) in letters_and_codes)]
+    names = {name for it in messages for name in names_in(it)}
     by_number = {number: [it for it in dated if it["number"] == number] for number in (1013, 1029)}
     first = (by_number[1013] + by_number[1029])[:1]
     lines = [
@@ -123,41 +113,26 @@ def station_lines(name: str, station: int, messages: list[Message], dated: list[
         *(f" date {civil_of(its[0])} {number} {len(its)}" for number, its in by_number.items() if its),
         *equipment_lines(told),
         f" satellites {' '.join(sorted(found, key=INDEX.__getitem__)) or '-'}",
-        f" codes {','.join(all_codes) or '-'}",
+        f" codes {','.join(it for it in NAMES if it in names) or '-'}",
         *epoch_lines(others),
         *channel_lines(others),
-        *clock_lines(messages),
+        *clock_lines(messages, [it for it in LETTERS if it in map(letter_of_name, names)], moment_of_date(first[0]) if first else None),
     ]
     near = civil_of(first[0]) if first else NO_DATE
     return lines + next_lines(name, near, station, shown) if codes else lines
 
 
-def signals_of(message: Message) -> list[tuple[str, str]]:
-    """The satellites and codes with a value, of an MSM of another system than GPS. GLONASS has no phases, since no channel is given."""
-    return [
-        (satellite, code)
-        for satellite, code, cell in all_cells(message, {})
-        if (cell.range, cell.phase, cell.strength) != (None, None, None)
-    ]
-
-
 def epoch_lines(others: list[Message]) -> list[str]:
     """How many runs of messages of one clock there are, of those of each number that have a value."""
-    valued = [(it.header["number"], it.header["tow"]) for it in others if signals_of(it)]
-    clocks = {number: [clock for its, clock in valued if its == number] for number in sorted(BESIDE_GPS)}
+    valued = [(it.header["number"], it.header["tow"]) for it in others if shown_in(it)]
+    clocks = {number: [clock for its, clock in valued if its == number] for number in sorted({LEGACY_GLONASS, *BESIDE_GPS})}
     return [f" epochs {number} {len(list(groupby(its)))}" for number, its in clocks.items() if its]
 
 
 def channel_lines(others: list[Message]) -> list[str]:
     """The channels that messages of GLONASS tell, of each slot from 1 to 27."""
-    told = {
-        (slot, row["extended"] - 7)
-        for it in others
-        if type_of(it)[0] is GLONASS
-        for slot, row in paired(set_bits(it.header["satellite_mask"], 64), it.satellites)
-        if slot <= 27 and row.get("extended", 15) < 14
-    }
-    return [f" channels {','.join(f'{slot}:{channel}' for slot, channel in sorted(told))}"] if told else []
+    told = [f"{slot}:{channel}" for slot, its in sorted(told_by(others).items()) for channel in sorted(its)]
+    return [f" channels {','.join(told)}"] if told else []
 
 
 Shown = tuple[int, int, int, str]  # number of a message, time, satellite and code
@@ -169,7 +144,7 @@ def entries_of(message: Message) -> list[Shown]:
     return [
         (number, tow, satellite, code)
         for satellite, code, cell in cells_of(message)
-        if (cell.range, cell.phase, cell.strength) != (None, None, None)
+        if has_value(cell)
     ]
 
 

@@ -405,6 +405,8 @@ for links in "1 2" "2 1"; do
 done
 report 66 2 0 0 41 23 0 0 10 >want; grep -E '^(frames|other|refused|foreign|taken|repeat|conflict|late|epochs) ' err >told
 same counts_of_the_example_of_systems told want
+run auto -o systems.rnx --made $made "$examples/systems_link1.rtcm" "$examples/systems_link2.rtcm"
+echo 'wrote systems.rnx: 10 epochs, G 3 R 2 E 2 C 2 satellites' >want; tail -n 1 err >told; same satellites_of_the_example told want
 run auto --systems GR --codes 1C seven.rtcm
 expect auto_systems_and_codes 2 '' "$(error "the argument '--systems <LETTERS>' cannot be used with '--codes <LIST>'" 'auto --systems <LETTERS> <CAPTURE>...')"
 

@@ -1,5 +1,5 @@
 -- What the words of `auto` say, and why they are refused.
-use Rattle.std.proofs.Common.{◌≡◌, ℕ, List, Option, None, Some, inl, sym, subst}
+use Rattle.std.proofs.Common.{◌≡◌, ℕ, List, Option, None, Some, inl, refl, sym, subst}
 use Rattle.std.specs.Borrow.{Bor}
 use Rattle.std.specs.Option.{ForSome}
 use Rattle.std.specs.declared.vec.Vec.{Vec}
@@ -38,28 +38,34 @@ pub has-list : {A : Type 0} (o : Option (Bor (List ℕ))) (codes : Option (Vec A
 has-list None None says good = tt
 has-list None (Some codes) says good = tt
 has-list (Some text) None says good = absurd says
-has-list (Some text) (Some codes) (own, lists, is) good = (own, lists, subst (λ (l : List AnyCode). IsMixedList l) is good)
+has-list (Some text) (Some codes) (own, lists, is) good = (own, lists, subst (λ (l : List AnyCode). IsMixedList l) is (good codes refl))
 
 -- codes that are not
 pub has-bad-list : {A : Type 0} (o : Option (Bor (List ℕ))) (codes : Option (Vec AnyCode A)) → SaysCodesOrNone o codes → ¬ (ForSome codes (λ cs. IsMixedList cs.items)) → HasBadList o
-has-bad-list None None says bad = absurd (bad tt)
+has-bad-list None None says bad = absurd (bad (λ x e. absurd (cc)))
 has-bad-list None (Some codes) says bad = absurd says
 has-bad-list (Some text) None says bad = absurd says
-has-bad-list (Some text) (Some codes) (own, lists, is) bad = (own, lists, λ good. bad (subst (λ (l : List AnyCode). IsMixedList l) (sym is) good))
+has-bad-list {A} (Some text) (Some codes) (own, lists, is) bad = (
+  own,
+  lists,
+  λ good. bad (λ x e.
+      let same : codes ≡ x = cc in
+      subst (λ (v : Vec AnyCode A). IsMixedList v.items) same (subst (λ (l : List AnyCode). IsMixedList l) (sym is) good)),
+)
 
 -- ---- the causes
 
 -- only names have such causes
 only-of-names : (o : Option (Bor (List ℕ))) (cause : BadWords) → ((name : List ℕ) → IsCauseOfName name cause → ⊥) → IsCauseOfCodes o cause → ⊥
-only-of-names None cause no is = is
-only-of-names (Some text) cause no (name, first, is) = no name is
+only-of-names None cause unlike is = is
+only-of-names (Some text) cause unlike (name, first, is) = unlike name is
 
 -- the cause of a name is a first cause
 pub auto-name-cause : (o : AutoOptions) → HasBothTimes o → (cause : BadWords) → IsCauseOfCodes o.codes cause → IsFirstAutoCause o cause
 auto-name-cause o times Codes is = inl (times, is)
 auto-name-cause o times (CodeOfSystem s) is = (times, is)
 auto-name-cause o times (CodeOfGps c) is = (times, is)
-auto-name-cause o times _ is = absurd (only-of-names o.codes _ (λ name no. no) is)
+auto-name-cause o times _ is = absurd (only-of-names o.codes _ (λ name other. other) is)
 
 -- bad channels are a first cause
 pub auto-channels-cause : (o : AutoOptions) → HasListToo o → (cause : BadWords) → (cause ≡ Channels) × HasBadChannels o.channels → IsFirstAutoCause o cause

@@ -79,10 +79,11 @@ fn channels_if_any(alloc: Global, text: Option<&str>) -> Result<Option<Channels>
     // `OutOfMemory` comes only if memory is refused: tests/system/calls, rows `job of auto ..`.
     ensures refused { IfErr result (IsRefusal (λ cause. (cause ≡ BadWords.Channels) × HasBadChannels text.entry)) }
 {
-    match text {
-        Some(text) => Ok(Some(channels_said(alloc, text)?)),
-        None => Ok(None),
-    }
+    let Some(text) = text else {
+        return Ok(None);
+    };
+    let channels = channels_said(alloc, text)?;
+    Ok(Some(channels))
 }
 
 // The window if none is given: the greatest one, since of files nothing has to go out early.

@@ -122,9 +122,9 @@ same-channels a b good also same =
     let count = good.count in
     let as_many = also.count in
     same-list a b (omega (arith, count, as_many)) (λ k lt.
-        let slot : IsSlot (k + 1) = (omega arith, omega (arith, lt, count)) in
-        let place : (k + 1) - 1 ≡ k = omega arith in
-        ap (λ (p : ℕ). slice_index_or a p None) (sym place) ∙ same (k + 1) slot ∙ ap (λ (p : ℕ). slice_index_or b p None) place)
+    let slot : IsSlot (k + 1) = (omega arith, omega (arith, lt, count)) in
+    let place : (k + 1) - 1 ≡ k = omega arith in
+    ap (λ (p : ℕ). slice_index_or a p None) (sym place) ∙ same (k + 1) slot ∙ ap (λ (p : ℕ). slice_index_or b p None) place)
 
 one-own : (ss : List CaptureSurvey) (n : ℕ) (kind : MsmKind) (a b : List (Option ℤ)) → AreOwnChannels ss n kind a → AreOwnChannels ss n kind b → a ≡ b
 one-own ss n kind a b is also =
@@ -134,8 +134,8 @@ one-channels : (ss : List CaptureSurvey) (n : ℕ) (kind : MsmKind) (a b : List 
 one-channels ss n kind a b is also =
     let own : is.own ≡ also.own = one-own ss n kind is.own also.own is.own_are also.own_are in
     same-channels a b is.good also.good (λ slot s.
-        one-channel ss n kind is.own slot (channel_at a slot) (channel_at b slot) (is.each slot s)
-        (subst (λ (cs : List (Option ℤ)). IsChannelFound ss n kind cs slot (channel_at b slot)) (sym own) (also.each slot s)))
+    one-channel ss n kind is.own slot (channel_at a slot) (channel_at b slot) (is.each slot s)
+    (subst (λ (cs : List (Option ℤ)). IsChannelFound ss n kind cs slot (channel_at b slot)) (sym own) (also.each slot s)))
 
 pub one-row : (Begun : ℕ → Type 0) (m n : ℕ) → IsLastRow Begun m → IsLastRow Begun n → m ≡ n
 one-row Begun m n is also = elim (cases_order m n) [

@@ -111,7 +111,7 @@ FindsNoCode ss kinds w station seconds near =
 abbrev pub HasNoCode : List CaptureSurvey → List (List ℕ) → Wanted → ℕ → ℕ → Type 0
 HasNoCode ss links w station near =
     (w.codes ≡ None) × ((seconds : Option ℕ) × AreLeapSecondsOf ss w station near seconds
-      × FindsNoCode ss (kinds_found w.msm ss links station) w station seconds near)
+    × FindsNoCode ss (kinds_found w.msm ss links station) w station seconds near)
 
 -- the same near the moment near which captures are dated
 abbrev pub HasNoCodeNear : List CaptureSurvey → List (List ℕ) → Wanted → ℕ → List StationCapture → Type 0

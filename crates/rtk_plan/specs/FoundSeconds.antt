@@ -101,7 +101,7 @@ seconds_found_if asked ss n table first last = if asked && first == last then se
 abbrev pub AreSecondsFound : Bool → List CaptureSurvey → ℕ → ℕ → ℕ → ℕ → Option ℕ → Type 0
 AreSecondsFound asked ss n near from until found =
     (table : ℕ) × IsLeapSecondsAt near table × ((first : ℕ) × IsLeapSecondsAt from first × ((last : ℕ) × IsLeapSecondsAt until last
-      × (found ≡ seconds_found_if asked ss n table first last)))
+    × (found ≡ seconds_found_if asked ss n table first last)))
 
 -- those that are given; else those that are found
 abbrev pub AreSecondsOfSetup : Option ℕ → Bool → List CaptureSurvey → ℕ → ℕ → ℕ → ℕ → Option ℕ → Type 0

@@ -26,9 +26,7 @@ pub enum OnlyStation {
 pub(crate) fn is_observed(surveys: &[CaptureSurvey], station: u16) -> bool
     ensures { result ≡ list_any (is_observed_in station) surveys.now }
 {
-    surveys
-        .iter()
-        .any(|survey| is_observed_in(station, survey))
+    surveys.iter().any(|survey| is_observed_in(station, survey))
 }
 
 /// The station that alone has observations in captures.

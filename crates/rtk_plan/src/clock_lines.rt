@@ -89,5 +89,13 @@ pub(crate) fn put_told_clocks(
 ) -> Result<(), AllocError>
     ensures { OnOk result (lines.new.items ≡ lines.old.items ++ spec.told_clock_lines asked surveys.now station leap_seconds) }
 {
-    put_clocks_among(alloc, lines, asked, surveys, station, leap_seconds, &COMPARED)
+    put_clocks_among(
+        alloc,
+        lines,
+        asked,
+        surveys,
+        station,
+        leap_seconds,
+        &COMPARED,
+    )
 }

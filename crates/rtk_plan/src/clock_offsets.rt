@@ -36,7 +36,11 @@ fn offsets_of_station(system: System, station: Option<&StationSurvey>) -> &[Cloc
 }
 
 /// The offsets of a system within the chains of a capture.
-pub(crate) fn offsets_in_capture(station: u16, system: System, survey: &CaptureSurvey) -> &[ClockOffset]
+pub(crate) fn offsets_in_capture(
+    station: u16,
+    system: System,
+    survey: &CaptureSurvey,
+) -> &[ClockOffset]
     ensures { result.now ≡ spec.offsets_in_capture station system survey.now }
 {
     offsets_of_station(system, survey.contents.stations.get(&station))

@@ -6,8 +6,7 @@ ghost use Rattle.std.specs.Option.{option_copied};
 ghost use Rattle.rtk_plan.specs.FoundSeconds as spec;
 
 use crate::clock_offsets::{
-    ahead_in_list, behind_of, clock_told, gps_ahead, is_clock_wrong, offsets_in_capture,
-    zero_ahead,
+    ahead_in_list, behind_of, clock_told, gps_ahead, is_clock_wrong, offsets_in_capture, zero_ahead,
 };
 use crate::span_line::DatedSpan;
 use rtk_message::System;

@@ -130,7 +130,14 @@ fn put_clocks_in(
     let surveys = captures.surveys;
     let setup = &plan.setup;
     let station = setup.station();
-    put_told_clocks(alloc, lines, plan.asked, surveys, station, plan.leap_seconds)?;
+    put_told_clocks(
+        alloc,
+        lines,
+        plan.asked,
+        surveys,
+        station,
+        plan.leap_seconds,
+    )?;
     put_unchecked(lines, setup, surveys, station)?;
     put_other_leap_in(lines, captures, setup)?;
     Ok(())

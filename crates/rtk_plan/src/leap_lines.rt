@@ -81,7 +81,12 @@ fn put_other_leap_at(
 ) -> Result<(), AllocError>
     ensures { OnOk result (lines.new.items ≡ lines.old.items ++ spec.other_leap_at captures.now.names.now station seconds at survey.now) }
 {
-    put_other_leap(lines, seconds, captures.name(at), leap_in_capture(station, survey))?;
+    put_other_leap(
+        lines,
+        seconds,
+        captures.name(at),
+        leap_in_capture(station, survey),
+    )?;
     Ok(())
 }
 

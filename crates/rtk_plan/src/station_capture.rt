@@ -5,8 +5,8 @@ ghost use Rattle.std.specs.Option.{option_copied};
 ghost use Rattle.rtk_plan.specs.StationCaptures as spec;
 
 use rtk_survey::{
-    CaptureSurvey, DatingSystems, Look, ReferencePoint, Span, StationSurvey, TargetSurvey, Tellings,
-    Told, UtcDate,
+    CaptureSurvey, DatingSystems, Look, ReferencePoint, Span, StationSurvey, TargetSurvey,
+    Tellings, Told, UtcDate,
 };
 use std::alloc::{AllocError, Global};
 

@@ -303,7 +303,15 @@ pub(crate) fn setup_near(
     let seconds = seconds_of_setup(alloc, surveys, station, wanted, near, span)?;
     let codes = codes_to_convert(alloc, surveys, station, kinds, wanted, &seconds, near)?;
     let listed = codes.as_slice();
-    let glonass = glonass_found(surveys, station, kinds, listed, &wanted.channels, &seconds, near);
+    let glonass = glonass_found(
+        surveys,
+        station,
+        kinds,
+        listed,
+        &wanted.channels,
+        &seconds,
+        near,
+    );
     let head = head_of(marker_of(station, &wanted.marker), listed, glonass, made);
     let Ok(station) = Station::new(station) else {
         unreachable!();

@@ -3,7 +3,8 @@
 //!
 //! If memory is refused, a first part of what is put may stand there.
 
-ghost use Rattle.std.specs.Prelude.{◌≡◌, ◌++◌, flat_map, OnOk};
+ghost use Rattle.std.specs.Prelude.{◌≡◌, ◌++◌, Some, flat_map, OnOk};
+ghost use Rattle.rtk_plan.specs.AlikeChannels.{constellation_slots};
 ghost use Rattle.std.specs.List.{sum_by};
 ghost use Rattle.rtk_survey.specs.Counting.{shown_count};
 ghost use Rattle.rtk_plan.specs.ToldChannels as spec;
@@ -59,14 +60,20 @@ fn put_alike_names(
     Ok(())
 }
 
+// Appends the slots of the constellation that have a channel.
+fn put_alike_slots(lines: &mut Vec<u8>, own: &Channels, channel: Channel) -> Result<(), AllocError>
+    ensures { OnOk result (lines.new.items ≡ lines.old.items ++ flat_map (spec.alike_name own.now (Some channel)) constellation_slots) }
+{
+    put_alike_names(lines, own, Some(channel.number()), &CONSTELLATION)
+}
+
 #[tactic(auto, unfolding(crate::specs::ToldChannels::alike_words))]
 fn put_alike_words(lines: &mut Vec<u8>, own: &Channels, channel: Channel) -> Result<(), AllocError>
     ensures { OnOk result (lines.new.items ≡ lines.old.items ++ spec.alike_words own.now channel) }
 {
-    let number = Some(channel.number());
     lines.extend_from_slice(b" channels-alike ")?;
     put_channel(lines, channel)?;
-    put_alike_names(lines, own, number, &CONSTELLATION)?;
+    put_alike_slots(lines, own, channel)?;
     lines.extend_from_slice(b"\n")?;
     Ok(())
 }
@@ -262,6 +269,13 @@ pub(crate) fn put_channels_in(
     let setup = &plan.setup;
     let kind = setup.kinds().glonass;
     let own = &plan.own_channels;
-    put_channels_if(lines, surveys, setup.station(), kind, own, setup.head().glonass())?;
+    put_channels_if(
+        lines,
+        surveys,
+        setup.station(),
+        kind,
+        own,
+        setup.head().glonass(),
+    )?;
     Ok(())
 }

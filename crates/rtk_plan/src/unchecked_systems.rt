@@ -16,23 +16,16 @@ use rtk_survey::{CaptureSurvey, StationSurvey};
 use std::alloc::AllocError;
 
 /// The kinds of MSM that are read.
-const KINDS: [MsmKind; 4] = [
-    MsmKind::Msm4,
-    MsmKind::Msm5,
-    MsmKind::Msm6,
-    MsmKind::Msm7,
-];
+const KINDS: [MsmKind; 4] = [MsmKind::Msm4, MsmKind::Msm5, MsmKind::Msm6, MsmKind::Msm7];
 
 /// The systems that time chains before others do.
 const BEFORE_GALILEO: [System; 1] = [System::Gps];
+
 const BEFORE_QZSS: [System; 2] = [System::Gps, System::Galileo];
+
 const BEFORE_SBAS: [System; 3] = [System::Gps, System::Galileo, System::Qzss];
-const BEFORE_NAVIC: [System; 4] = [
-    System::Gps,
-    System::Galileo,
-    System::Qzss,
-    System::Sbas,
-];
+
+const BEFORE_NAVIC: [System; 4] = [System::Gps, System::Galileo, System::Qzss, System::Sbas];
 
 // ---- the systems that a station sends
 
@@ -125,7 +118,12 @@ fn is_first_timing(surveys: &[CaptureSurvey], station: u16, system: System) -> b
 // ---- the lines
 
 // Is no clock of a system that is converted compared?
-fn is_system_unchecked(setup: &Setup, surveys: &[CaptureSurvey], station: u16, system: System) -> bool
+fn is_system_unchecked(
+    setup: &Setup,
+    surveys: &[CaptureSurvey],
+    station: u16,
+    system: System,
+) -> bool
     ensures { result ≡ spec.is_system_unchecked setup.now.head.listed surveys.now station system }
 {
     setup.lists(system)
@@ -133,7 +131,13 @@ fn is_system_unchecked(setup: &Setup, surveys: &[CaptureSurvey], station: u16, s
         && !is_first_timing(surveys, station, system)
 }
 
-fn put_unchecked_line(lines: &mut Vec<u8>, setup: &Setup, surveys: &[CaptureSurvey], station: u16, system: System) -> Result<(), AllocError>
+fn put_unchecked_line(
+    lines: &mut Vec<u8>,
+    setup: &Setup,
+    surveys: &[CaptureSurvey],
+    station: u16,
+    system: System,
+) -> Result<(), AllocError>
     ensures { OnOk result (lines.new.items ≡ lines.old.items ++ spec.unchecked_system_line setup.now.head.listed surveys.now station system) }
 {
     if !is_system_unchecked(setup, surveys, station, system) {

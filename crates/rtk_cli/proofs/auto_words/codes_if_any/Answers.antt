@@ -1,6 +1,4 @@
-use Rattle.std.proofs.Common.{Option, Some, List, ℕ, sym, ap, ◌∙◌, subst}
-use Rattle.std.specs.Borrow.{Bor}
-use Rattle.rtk_cli.specs.Steps.AnyCodeList.{in_file_order, IsNameCause}
+use Rattle.rtk_cli.specs.Steps.AnyCodeList.{IsNameCause}
 use Rattle.rtk_cli.specs.Steps.AutoWords.{IsCauseOfCodes}
 use Rattle.rtk_cli.proofs.AutoLemmas.{given-cause}
 use Rattle.rtk_cli.proofs.RefusedLemmas.{exit-also}

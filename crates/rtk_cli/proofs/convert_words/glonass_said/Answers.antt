@@ -13,10 +13,10 @@ returns-then-is_due-clause-refused c =
     refused-by (IsGlonassCause c.args.options.now c.args.listed.now) NoChannels c.into.result c.into.ensures (c.in-None.is, sym c.has_glonass-is_due.ensures ∙ c.if-is_due.true)
 
 -- 1012 have no code of GLONASS
-pub returns-then-options-with_1012-clause-refused : goal.returns-then-options-with_1012-clause-refused
-returns-then-options-with_1012-clause-refused c =
-    refused-by (IsGlonassCause c.args.options.now c.args.listed.now) NoGlonass c.into-then-options-with_1012.result c.into-then-options-with_1012.ensures
-    (c.in-None.is, sym c.has_glonass-is_due.ensures ∙ c.if-is_due.false, c.if-options-with_1012.true)
+pub returns-then-options-clause-refused : goal.returns-then-options-clause-refused
+returns-then-options-clause-refused c =
+    refused-by (IsGlonassCause c.args.options.now c.args.listed.now) NoGlonass c.into-then-options.result c.into-then-options.ensures
+    (c.in-None.is, sym c.has_glonass-is_due.ensures ∙ c.if-is_due.false, c.if-options.true)
 
 -- the channels are bad
 pub returns-in_err-channels-clause-refused : goal.returns-in_err-channels-clause-refused

@@ -8,5 +8,5 @@ returns c = (
   c.channel_told-other.result,
   c.channel_told-other.ensures,
   c.chosen_channel.ensures ∙ ap (λ (b : Bool). chosen_channel b c.channel.result c.channel_told-other.result) c.is_alike.ensures
-  ∙ ap (λ (o : Option ℤ). chosen_channel (is_alike c.args.own.now c.args.slot) o c.channel_told-other.result) c.channel.ensures,
+      ∙ ap (λ (o : Option ℤ). chosen_channel (is_alike c.args.own.now c.args.slot) o c.channel_told-other.result) c.channel.ensures,
 )

@@ -13,6 +13,6 @@ returns c =
     let names : List ℕ = flat_map (alike_name c.args.own.now (Some c.args.channel)) constellation_slots in
     let last : List ℕ = codes "\n" in
     c.in_ok-extend_from_slice-2.ensures.items
-    ∙ ap (λ l. l ++ last) (c.in_ok-put_alike_names.ensures
+    ∙ ap (λ l. l ++ last) (c.in_ok-put_alike_slots.ensures
     ∙ ap (λ l. l ++ names) (c.in_ok-put_channel.ensures ∙ ap (λ l. l ++ channel) c.in_ok-extend_from_slice.ensures.items))
     ∙ four-parts c.args.lines.now.items (codes " channels-alike ") channel names last

@@ -1,0 +1,108 @@
+"""What the scripts take from texts of `summary`: the channels of GLONASS, and the systems that are left out because of their clocks.
+
+A row has what it is, the codes of a station with the words of its row, the texts of the captures of a span and of those of the hours
+beside it, the channels that the list has, and what is due. A text has the lines of the station, with a ; between. What is due was worked
+out by hand. The last line is 'N passed, M failed'.
+"""
+
+from __future__ import annotations
+
+import sys
+from collections.abc import Iterator
+from pathlib import Path
+from typing import Optional
+
+sys.path.insert(0, str(Path(__file__).resolve().parents[3] / "network"))
+
+from rtcm2rinex_network.ends import Again, Refused  # noqa: E402
+from rtcm2rinex_network.program import Program, Ran  # noqa: E402
+from rtcm2rinex_network.summaries import told_of  # noqa: E402
+from rtcm2rinex_network.table import read_row  # noqa: E402
+
+R, C = "1C,R1C", "1C,C2I"
+WRONG = "clock C +14.000 257 of 257"
+OUT = "1C C +14.000 257 of 257"
+
+ROWS: list[tuple[str, str, list[str], list[str], dict[int, int], str]] = [
+    ("codes of GPS ask nothing", "1C,2W", ["status 1"], ["status 1"], {}, "1C,2W"),
+    ("no channel", R, ["codes 1C,R1C"], [], {}, "1C,R1C none"),
+    ("no capture", R, [], [], {}, "1C,R1C none"),
+    ("channels", R, ["channels 9:-6,27:6,1:0"], [], {}, "1C,R1C 1:0,9:-6,27:6"),
+    ("channels of another station", R, ["codes 1C; channels 9:-6", "other 9:5"], [], {}, "1C,R1C 9:-6"),
+    ("channels of several captures", R, ["channels 1:0", "channels 9:-6"], [], {}, "1C,R1C 1:0,9:-6"),
+    ("the channel of most captures", R, ["channels 9:-6", "channels 9:5", "channels 9:5"], [], {}, "1C,R1C 9:5"),
+    ("of two alike the lesser", R, ["channels 9:5", "channels 9:-6"], [], {}, "1C,R1C 9:-6"),
+    ("of one capture too", R, ["channels 9:4,9:5"], [], {}, "1C,R1C 9:4"),
+    ("unless another capture tells", R, ["channels 9:4,9:5", "channels 9:5"], [], {}, "1C,R1C 9:5"),
+    ("the captures of the span count first", R, ["channels 9:5"], ["channels 9:-6", "channels 9:-6"], {}, "1C,R1C 9:5"),
+    ("and then those beside", R, ["channels 9:5"], ["channels 1:3", "channels 1:3,9:1"], {}, "1C,R1C 1:3,9:5"),
+    ("a channel of the list stays", R, ["channels 9:5", "channels 9:5"], ["channels 2:0"], {9: -6, 7: 1}, "1C,R1C 2:0,7:1,9:-6"),
+    ("channels of the row stay", f"{R} channels=9:-6,1:0", ["channels 9:5,2:1"], [], {}, "1C,R1C 1:0,9:-6"),
+    ("and so do none", f"{R} channels=none", ["channels 9:5"], [], {}, "1C,R1C none"),
+    ("a clock that is off", C, [WRONG], [], {}, OUT),
+    ("by half a second", C, ["clock C -0.500 3 of 5"], [], {}, "1C C -0.500 3 of 5"),
+    ("by less", C, ["clock C -0.499 5 of 5"], [], {}, C),
+    ("as often as it is right", C, ["clock C +14.000 2 of 4"], [], {}, C),
+    ("in most captures", C, ["clock C +14.000 11 of 11", "epochs 1127 10"], [], {}, "1C C +14.000 11 of 21"),
+    ("in a few captures", C, ["clock C +14.000 10 of 10", "epochs 1124 1; epochs 1127 9"], [], {}, C),
+    ("by several offsets", C, ["clock C +14.000 5 of 5", "clock C +13.000 6 of 6"], [], {}, "1C C +13.000 6 of 11"),
+    ("of which the most frequent is small", C, ["clock C +14.000 5 of 5", "clock C +0.001 6 of 6"], [], {}, C),
+    ("before the span alone", C, ["epochs 1127 1"], [WRONG], {}, C),
+    ("before a span without it", C, ["epochs 1097 9"], [WRONG], {}, OUT),
+    ("a clock of a system without a code", "1C,E1C", [WRONG], [], {}, "1C,E1C"),
+    ("clocks of two systems", "1C,E1C,C2I,J1C", ["clock E -1.000 9 of 9; clock C +14.000 8 of 9"], [], {},
+        "1C,J1C E -1.000 9 of 9, C +14.000 8 of 9"),
+    ("the clock of GLONASS", R, ["channels 9:5; clock R -1.000 9 of 9"], [], {}, "1C R -1.000 9 of 9"),
+    ("that the row dates", f"{R} leap_seconds=17", ["channels 9:5; clock R -1.000 9 of 9"], [], {}, "1C,R1C 9:5"),
+    ("the clocks of all systems", "C2I", [WRONG], [], {}, "Refused the clocks of all systems of the row are wrong: C +14.000 257 of 257"),
+    ("a capture that can't be read", R, ["channels 9:5"], ["status 1"], {}, "Again summary: read failed"),
+]
+
+
+class Summarizing(Program):
+    """A program that knows the texts of captures by their names."""
+
+    def __init__(self, texts: dict[str, str]) -> None:
+        super().__init__("")
+        self.texts = texts
+
+    def ran(self, words: object, output: Optional[Path] = None, given: Optional[bytes] = None) -> Ran:
+        assert isinstance(words, list) and words[0] == "summary" and given is None
+        text = self.texts[words[1]]
+        if text.startswith("status"):
+            return Ran(1, "", "rtcm2rinex: read failed\n")
+        if text.startswith("other"):
+            return Ran(0, f"bytes 9\nstation 7\n channels {text[len('other '):]}\nother 1019 1\n", "")
+        lines = "".join(f" {it.strip()}\n" for it in text.split(";"))
+        return Ran(0, f"bytes 9\nframes 1\nstation 200\n channels 9:1\nstation 2003\n message 1087 1\n{lines}week 538 1019 1\n", "")
+
+
+def told(words: str, own: list[str], beside: list[str], known: dict[int, int]) -> str:
+    """What is converted: the codes, the channels, and the systems that are left out; or how it ends."""
+    codes, _, more = words.partition(" ")
+    row = read_row(1, f"2003 BASE BASE00XXX 01S {codes} 64 . {more}", Path("/"))
+    texts = {f"{place}{at}": it for place, its in (("own", own), ("beside", beside)) for at, it in enumerate(its)}
+    paths = [[Path(it) for it in texts if it.startswith(place)] for place in ("own", "beside")]
+    try:
+        it = told_of(Summarizing(texts), row, paths[0], paths[1], known)
+    except (Again, Refused) as end:
+        return f"{type(end).__name__} {end}"
+    clocks = ", ".join(f"{system} {text}" for system, text in it.left_out.items())
+    return " ".join(filter(None, [it.row.codes, it.row.glonass.get("channels", ""), clocks]))
+
+
+def results() -> Iterator[tuple[str, str, str]]:
+    for name, words, own, beside, known, due in ROWS:
+        yield name, told(words, own, beside, known), due
+
+
+def main() -> int:
+    found = list(results())
+    for name, got, due in found:
+        print(f"ok {name}" if got == due else f"FAILED {name}: {got}, and not {due}")
+    failed = sum(got != due for _, got, due in found)
+    print(f"{len(found) - failed} passed, {failed} failed")
+    return failed
+
+
+sys.exit(main())
