@@ -11,5 +11,6 @@ returns c =
     let greatest : List ℕ = greatest_text c.args.range.now in
     let name : List ℕ = name_line (codes " by 1013 in ") c.args.name.now in
     c.in_ok-put_name_line.ensures
-    ∙ ap (λ (l : List ℕ). l ++ name) (c.in_ok-put_greatest.ensures ∙ ap (λ (l : List ℕ). l ++ greatest) c.in_ok-put_named.ensures)
+    ∙ ap (λ (l : List ℕ). l ++ name) (c.in_ok-put_greatest.ensures ∙ ap (λ (l : List ℕ). l ++ greatest) (c.in_ok-put_named.ensures
+    ∙ ap (λ (n : ℕ). (c.args.lines.now.items ++ codes " other-leap-seconds ") ++ decimal n) c.from.ensures))
     ∙ four-parts c.args.lines.now.items (codes " other-leap-seconds ") least greatest name

@@ -15,5 +15,5 @@ returns-in_err-codes-clause-refused c =
     let links = places_of c.args.links.now in
     let seconds = c.in_ok-seconds.seconds in
     exit-also (λ (r : Refusal). (r ≡ NoCode) × (w.codes ≡ None) × FindsNoCode ss kinds w c.args.station seconds c.args.near) (IsSetupCause ss links w c.args.station c.args.near)
-    c.in_err-codes.field-0.0 c.from_residual.result c.from_residual.ensures.1
+    c.in_err-codes.field-0.0 c.from_residual-in_err-codes.result c.from_residual-in_err-codes.ensures.1
     (no-code-found ss links w c.args.station seconds c.args.near kinds c.kinds_to_convert-kinds.ensures c.in_ok-seconds.ensures) c.in_err-codes.ensures.refused
