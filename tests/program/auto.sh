@@ -40,7 +40,12 @@ done 3<<'ROWS'
 2|--near 2024-05-17T12:00:00Z one|bad --near\n --near takes YYYY-MM-DDTHH:MM:SS (GPS), from 1980-01-13T00:00:00 to 2099-12-31T23:59:59
 2|--near "2024/05/17 12:00:00" one|bad --near\n --near takes YYYY-MM-DDTHH:MM:SS (GPS), from 1980-01-13T00:00:00 to 2099-12-31T23:59:59
 2|--near 1980-01-12T23:59:59 one|bad --near\n --near takes YYYY-MM-DDTHH:MM:SS (GPS), from 1980-01-13T00:00:00 to 2099-12-31T23:59:59
-2|--codes C1C,C2W one|bad --codes
+2|--codes C1C,C2W one|bad --codes\ncodes of C: 2I 2Q 2X 6I 6Q 6X 7I 7Q 7X 5D 5P 5X 7D 1D 1P 1X
+2|--codes G1C one|bad --codes\nGPS codes have two characters: 1C
+2|--codes R1C,R1C one|bad --codes
+2|--channels 1:7 one|bad --channels
+2|--systems GX one|bad --systems
+2|--systems "" one|bad --systems
 2|--codes 1c,2w one|bad --codes
 2|--codes "1C, 2W" one|bad --codes
 2|--marker ZÜRICH one|bad --marker

@@ -1,3 +1,4 @@
+mod AutoLemmas
 mod ChannelLemmas
 mod ChoiceLemmas
 mod FaultLineLemmas

@@ -13,3 +13,4 @@ pub mod ChartWords
 pub mod CutWords
 pub mod KeptWords
 pub mod LabelWords
+pub mod AutoWords

@@ -4,6 +4,7 @@ ghost use Rattle.std.specs.Prelude.{◌≡◌, ◌%◌, ◌≤◌, IfOk, IfErr};
 ghost use Rattle.rtk_obs.specs.Dating.{IsReference};
 ghost use Rattle.rtk_obs.specs.declared.time.TheConstants.{LAST_MS};
 ghost use Rattle.rtk_rinex.specs.Header.{IsMarker};
+ghost use Rattle.rtk_cli.specs.Steps.AutoWords.{SaysMarkerOrNone, HasNoMarker, IsNoReference};
 ghost use Rattle.rtk_cli.specs.Steps.MomentText.{WritesMoment, HasMoment, SaysMomentOrNone, HasNoMoment};
 
 use crate::moment_text::moment_of;
@@ -49,6 +50,17 @@ pub(crate) fn made_said(text: &str) -> Result<CreationTime, BadWords>
     Ok(made)
 }
 
+/// The time of making that a text writes, or none without a text.
+pub(crate) fn made_if_any(text: Option<&str>) -> Result<Option<CreationTime>, BadWords>
+    ensures moment { IfOk result (SaysMomentOrNone text.entry) }
+    ensures cause { IfErr result (λ told. (told ≡ BadWords.Made) × HasNoMoment text.entry) }
+{
+    match text {
+        Some(text) => Ok(Some(made_said(text)?)),
+        None => Ok(None),
+    }
+}
+
 /// The marker that a text names.
 pub(crate) fn marker_said(text: &str) -> Result<Marker, BadWords>
     ensures marker { IfOk result (λ marker. marker ≡ text.now) }
@@ -61,6 +73,17 @@ pub(crate) fn marker_said(text: &str) -> Result<Marker, BadWords>
     }
 }
 
+/// The marker that a text names, or none without a text.
+pub(crate) fn marker_if_any(text: Option<&str>) -> Result<Option<Marker>, BadWords>
+    ensures marker { IfOk result (SaysMarkerOrNone text.entry) }
+    ensures cause { IfErr result (λ told. (told ≡ BadWords.Marker) × HasNoMarker text.entry) }
+{
+    match text {
+        Some(text) => Ok(Some(marker_said(text)?)),
+        None => Ok(None),
+    }
+}
+
 /// The reference of a moment.
 pub(crate) fn reference_said(moment: GpsMs) -> Result<Reference, BadWords>
     ensures near { IfOk result (λ near. near ≡ moment) }
@@ -69,5 +92,16 @@ pub(crate) fn reference_said(moment: GpsMs) -> Result<Reference, BadWords>
     match Reference::new(moment) {
         Ok(near) => Ok(near),
         Err(_) => Err(BadWords::Near),
+    }
+}
+
+/// The reference of a moment, or none without a moment.
+pub(crate) fn reference_if_any(moment: Option<GpsMs>) -> Result<Option<Reference>, BadWords>
+    ensures near { IfOk result (λ near. near ≡ moment) }
+    ensures cause { IfErr result (λ told. (told ≡ BadWords.Near) × IsNoReference moment) }
+{
+    match moment {
+        Some(moment) => Ok(Some(reference_said(moment)?)),
+        None => Ok(None),
     }
 }

@@ -70,6 +70,8 @@ pub(crate) struct ConvertOptions<'a> {
     pub(crate) channels: Option<&'a str>,
     /// The leap seconds by which clocks of GLONASS are dated, in place of the table's.
     pub(crate) leap_seconds: Option<LeapSeconds>,
+    /// The 1012 are converted too.
+    pub(crate) with_1012: bool,
 }
 
 /// The options of `chart`.
@@ -192,6 +194,7 @@ pub(crate) fn convert_options<'a>(words: &ArgMatches<'a>) -> Option<ConvertOptio
         kinds: kinds_said(words)?,
         channels: words.get_str("channels"),
         leap_seconds: value_if_any(words.get_one::<u32>("leap-seconds").map(leap_seconds_of))?,
+        with_1012: words.get_flag("with-1012"),
     })
 }
 

@@ -61,7 +61,7 @@ fn auto_with_times<'a>(alloc: Global) -> Result<Command<'a>, AllocError> {
 
 fn auto_with_values<'a>(alloc: Global) -> Result<Command<'a>, AllocError> {
     let codes = "The observation codes; all that have a value if not given";
-    let msm = "Which MSM is converted beside 1004, 4 to 7";
+    let msm = "Which MSM of all systems is converted beside 1004, 4 to 7";
     let window = "How many epochs are kept open, 2 to 4096; 4096 if not given";
     auto_with_times(alloc)?
         .arg(option_arg(alloc, "codes", "LIST", codes))?

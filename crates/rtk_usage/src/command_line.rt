@@ -146,7 +146,7 @@ fn cut_command<'a>(alloc: Global) -> Result<Command<'a>, AllocError> {
         .group(cut_options_group(alloc)?)
 }
 
-// `convert` with its first options. Its arguments stand in two functions, since the check of one that
+// `convert` with its first options. Its arguments stand in several functions, since the check of one that
 // adds them all takes long.
 fn convert_with_times<'a>(alloc: Global) -> Result<Command<'a>, AllocError> {
     let station = "The reference station, 0 to 4095, as 2003";
@@ -171,14 +171,21 @@ fn convert_with_codes<'a>(alloc: Global) -> Result<Command<'a>, AllocError> {
         .arg(window_arg(alloc, window).default_value(WINDOW))
 }
 
-fn convert_command<'a>(alloc: Global, takes_lists: bool) -> Result<Command<'a>, AllocError> {
+// The same with the kinds of MSM and the channels.
+fn convert_with_kinds<'a>(alloc: Global, takes_lists: bool) -> Result<Command<'a>, AllocError> {
     let msm = "Which MSM is converted: 4 is MSM4, as 1074, to 7; 7,E4 has an exception";
     let channels = "The channels of GLONASS slots, as 1:1,9:-6, or none";
-    let seconds = "The leap seconds that date GLONASS, 0 to 99; those of the table if not given";
     convert_with_codes(alloc)?
         .arg(kinds_arg(alloc, takes_lists, msm).default_value(MSM))?
-        .arg(option_arg(alloc, "channels", "LIST", channels))?
+        .arg(option_arg(alloc, "channels", "LIST", channels))
+}
+
+fn convert_command<'a>(alloc: Global, takes_lists: bool) -> Result<Command<'a>, AllocError> {
+    let seconds = "The leap seconds that date GLONASS, 0 to 99; those of the table if not given";
+    let with_1012 = "Converts 1012 too, and dates it within half a day of --near";
+    convert_with_kinds(alloc, takes_lists)?
         .arg(leap_seconds_arg(alloc, seconds))?
+        .arg(switch_arg(alloc, "with-1012", with_1012))?
         .arg(links_arg(alloc))
 }
 
