@@ -3,7 +3,7 @@ use Rattle.std.proofs.Common.{◌≡◌, ◌≢◌, ℕ, Bool, true, false, cond
 use Rattle.std.proofs.lemmas.Bool.{eq-eqb}
 use Rattle.std.specs.BTreeMap.{BTreeMap, get, is_at, Updates}
 use Rattle.std.specs.Map.{lookup}
-use Rattle.std.specs.Option.{unwrap_or}
+use Rattle.std.specs.Option.{unwrap_or, UnwrapsOrElse}
 use Rattle.std.specs.Ordering.{nat_cmp}
 use Rattle.rtk_message.specs.declared.any_message.AnyMessage.{AnyMessage}
 use Rattle.rtk_message.specs.AnyDecoded.{station_of}
@@ -49,6 +49,14 @@ entry-or-new ms d e None new nothing begins =
     (subst (λ (x : StationDates). IsStationOf [] x e new) (sym nothing.1) (subst (λ (x : Equipment). IsStationOf [] no_station_dates x new) (sym nothing.2) begins))
 entry-or-new ms d e (Some s) new is begins = is
 
+-- or else one that was made
+entry-made : (ms : List AnyMessage) (d : StationDates) (e : Equipment) (o : Option StationSurvey) (P : StationSurvey → Type 0) (s : StationSurvey)
+    → IsHeard ms d e o → ((x : StationSurvey) → P x → IsStationOf [] no_station_dates no_equipment x) → UnwrapsOrElse o P s → IsStationOf ms d e s
+entry-made ms d e None P s nothing begins was =
+    subst (λ (x : List AnyMessage). IsStationOf x d e s) (sym nothing.0)
+    (subst (λ (x : StationDates). IsStationOf [] x e s) (sym nothing.1) (subst (λ (x : Equipment). IsStationOf [] no_station_dates x s) (sym nothing.2) (begins s was)))
+entry-made ms d e (Some t) P s is begins was = subst (λ (x : StationSurvey). IsStationOf ms d e x) (sym was) is
+
 module _ (m m' : BTreeMap ℕ StationSurvey) (old new fresh : StationSurvey) (ms : List AnyMessage) (ds : List DateMessage) (es : List EquipmentMessage) where
   entry-is : (k : ℕ) → old ≡ unwrap_or (get nat_cmp m k) fresh → IsStationOf [] no_station_dates no_equipment fresh → AreStations ms ds es m
       → IsStationOf (messages_from k ms) (station_dates k ds) (equipment_of k es) old
@@ -64,6 +72,19 @@ module _ (m m' : BTreeMap ℕ StationSurvey) (old new fresh : StationSurvey) (ms
       put-one (λ n o. IsHeard (messages_from n ms) (station_dates n ds) (equipment_of n es) o) (λ n o. IsHeard (messages_from n (x ∷ ms)) (station_dates n ds) (equipment_of n es) o) m m' k new puts
       (subst (λ (own : List AnyMessage). IsStationOf own (station_dates k ds) (equipment_of k es) new) (sym (own-message k x ms is))
       (takes (messages_from k ms) (station_dates k ds) (equipment_of k es) (entry-is k was begins all)))
+      (λ n other heard. subst (λ (own : List AnyMessage). IsHeard own (station_dates n ds) (equipment_of n es) (get nat_cmp m n)) (sym (other-message n x ms (λ same. other (same ∙ sym is)))) heard)
+      all
+
+  -- so also if a new survey is made only where there is none
+  pub message-more-made : (x : AnyMessage) (k : ℕ) (P : StationSurvey → Type 0) → k ≡ station_of x → UnwrapsOrElse (get nat_cmp m k) P old
+      → ((s : StationSurvey) → P s → IsStationOf [] no_station_dates no_equipment s) → Updates nat_cmp m m' k (Some new)
+      → ((own : List AnyMessage) (d : StationDates) (e : Equipment) → IsStationOf own d e old → IsStationOf (x ∷ own) d e new)
+      → AreStations ms ds es m → AreStations (x ∷ ms) ds es m'
+  message-more-made x k P is was begins puts takes all =
+      put-one (λ n o. IsHeard (messages_from n ms) (station_dates n ds) (equipment_of n es) o) (λ n o. IsHeard (messages_from n (x ∷ ms)) (station_dates n ds) (equipment_of n es) o) m m' k new puts
+      (subst (λ (own : List AnyMessage). IsStationOf own (station_dates k ds) (equipment_of k es) new) (sym (own-message k x ms is))
+      (takes (messages_from k ms) (station_dates k ds) (equipment_of k es)
+      (entry-made (messages_from k ms) (station_dates k ds) (equipment_of k es) (get nat_cmp m k) P old (all k) begins was)))
       (λ n other heard. subst (λ (own : List AnyMessage). IsHeard own (station_dates n ds) (equipment_of n es) (get nat_cmp m n)) (sym (other-message n x ms (λ same. other (same ∙ sym is)))) heard)
       all
 

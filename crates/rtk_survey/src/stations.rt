@@ -37,7 +37,7 @@ pub(crate) fn take_message(
 {
     let station = stations
         .entry(message.station())?
-        .or_insert(StationSurvey::new(alloc));
+        .or_insert_with(|| StationSurvey::new(alloc));
     station.take_message(alloc, message, entries, codes, signals)
 }
 
