@@ -2,10 +2,12 @@
 //!
 //! A station gets its entry with the first frame that names it.
 
-ghost use Rattle.std.specs.Prelude.{◌≡◌, List, ◌∷◌, OnOk};
+ghost use Rattle.std.specs.Prelude.{◌≡◌, List, [], ◌∷◌, OnOk};
 ghost use Rattle.rtk_message.specs.declared.any_message.AnyMessage.{AnyMessage};
 ghost use Rattle.rtk_survey.specs.BesideGps.{cells_beside_gps};
-ghost use Rattle.rtk_survey.specs.Contents.{AreStations, HasCodes};
+ghost use Rattle.rtk_survey.specs.Contents.{AreStations, HasCodes, IsStationOf};
+ghost use Rattle.rtk_survey.specs.EquipmentHistory.{no_equipment};
+ghost use Rattle.rtk_survey.specs.FrameDates.{no_station_dates};
 ghost use Rattle.rtk_survey.specs.Tracing.{entries_of_message};
 ghost use Rattle.rtk_survey.specs.declared.date_message.DateMessage.{DateMessage};
 ghost use Rattle.rtk_survey.specs.declared.date_message.DateMessage.TheVariants.{Utc};
@@ -37,7 +39,9 @@ pub(crate) fn take_message(
 {
     let station = stations
         .entry(message.station())?
-        .or_insert_with(|| StationSurvey::new(alloc));
+        .or_insert_with(|| ensures { IsStationOf [] no_station_dates no_equipment result } {
+            StationSurvey::new(alloc)
+        });
     station.take_message(alloc, message, entries, codes, signals)
 }
 

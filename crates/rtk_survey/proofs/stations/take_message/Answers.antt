@@ -17,6 +17,6 @@ returns c =
     (λ took ms ds es all. subst (λ (x : BTreeMap ℕ StationSurvey). AreStations (c.args.message.now ∷ ms) ds es x) (sym e)
     (message-more-made c.args.stations.now m c.or_insert_with-station.result.now after c.or_insert_with-station.result.now ms ds es c.args.message.now c.station.result _ c.station.ensures
     (subst (λ (o : Option StationSurvey). UnwrapsOrElse o _ c.or_insert_with-station.result.now) c.in_ok-stations.ensures.value c.or_insert_with-station.ensures.value)
-    ?
+    (λ s made. made)
     (c.in_ok-stations.ensures.update.0 after) took all))
     c.take_message.ensures
