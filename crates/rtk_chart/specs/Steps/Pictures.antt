@@ -1,15 +1,11 @@
 -- What is made of a file's records: it holds of their epochs, and gives the picture.
 use Rattle.std.specs.Prelude.{ℕ, List}
 use Rattle.rtk_obs.specs.declared.code.Code.{Code}
-use Rattle.rtk_chart.specs.TextPicture.{satellites_in, number_lines, text_body, text_picture}
+use Rattle.rtk_chart.specs.TextPicture.{text_body, text_picture}
 use Rattle.rtk_chart.specs.SvgPicture.{svg_picture}
 use Rattle.rtk_chart.specs.declared.scale.Scale.{Scale}
 use Rattle.rtk_chart.specs.declared.survey.Survey.{Survey}
 use Rattle.rtk_chart.specs.declared.grid.Grid.{Grid}
-
--- the numbers in the heading of a picture in characters
-abbrev pub numbers_of_grid : Scale → Survey → Grid → List ℕ
-numbers_of_grid s survey grid = number_lines s survey.records (satellites_in grid.bins.items) grid.slips grid.returns grid.rises grid.missing
 
 -- what stands below the heading
 abbrev pub body_of_grid : List Code → Scale → ℕ → Grid → List ℕ
