@@ -62,5 +62,7 @@ def text_picture(file: str, width: int, chosen: set[str] | None = None) -> str:
         first = [name for name in it.names_of(letter) if int(name[1:]) <= LAST.get(letter, 99)]
         for names in first, it.names_of(letter)[len(first) :]:
             for at, code in enumerate(codes):
-                out += never_lines(it, width, code if letter == "G" else letter + code, at, names)
+                # the names of all systems have the room that three characters leave
+                of_gps = letter == "G"
+                out += never_lines(it, width - of_gps, code if of_gps else letter + code, at, names)
     return "\n".join([*out, *SIGNS]) + "\n"
