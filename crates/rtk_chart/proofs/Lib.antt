@@ -7,6 +7,7 @@ pub mod FileLemmas
 pub mod GridLemmas
 pub mod GroupLemmas
 pub mod HeadingLemmas
+pub mod LabelLemmas
 pub mod LawLemmas
 pub mod ListLemmas
 pub mod MarkLemmas

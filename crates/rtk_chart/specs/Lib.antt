@@ -2,6 +2,7 @@ pub mod Chart
 pub mod Choice
 pub mod Epochs
 pub mod Grid
+pub mod GroupLaws
 pub mod Groups
 pub mod Heading
 pub mod HeadingLaws
