@@ -39,8 +39,8 @@ inside-group g i on =
 some-same : (a b : ℕ) → Some a ≡ Some b → a ≡ b
 some-same a b e = cc
 
-none-some : (b : ℕ) → None {ℕ} ≡ Some b → ⊥
-none-some b e = cc
+none-some : (o : Option ℕ) (b : ℕ) → o ≡ None → o ≡ Some b → ⊥
+none-some o b e f = cc
 
 pub place-is : (choice : Choice) (g : Group) (i p : ℕ) → group_place choice g i ≡ Some p → (g.before < i) × (p ≡ i - g.before)
 place-is choice g i p is =
@@ -50,7 +50,7 @@ place-is choice g i p is =
           let range = inside-group g i (and_parts (is_in_group g i) (is_chosen_by choice i) on).0 in
           let same : i - g.before ≡ p = some-same (i - g.before) p (sym (cond-true test (Some (i - g.before)) None on) ∙ is) in
           (omega (arith, range.0), sym same)
-      | inr off ↦ absurd (none-some p (sym (cond-false test (Some (i - g.before)) None off) ∙ is))
+      | inr off ↦ absurd (none-some (group_place choice g i) p (cond-false test (Some (i - g.before)) None off) is)
     ]
 
 -- of two satellites the one behind has the greater place

@@ -50,7 +50,7 @@ pub(crate) fn letter_of(system: System) -> u8
 }
 
 // A group, whose numbers in names begin behind this one.
-fn group(before: u8, count: u8, letter: u8, number: u8) -> Group
+fn make_group(before: u8, count: u8, letter: u8, number: u8) -> Group
     ensures { result ≡ record { before = before; count = count; names = record { letter = letter; before = number } } }
 {
     Group {
@@ -70,13 +70,13 @@ pub(crate) fn first_group(system: System) -> Group
     ensures names { result.names.before ≤ 67 }
 {
     match system {
-        System::Gps => group(0, 32, b'G', 0),
-        System::Glonass => group(32, 27, b'R', 0),
-        System::Galileo => group(59, 32, b'E', 0),
-        System::Beidou => group(95, 32, b'C', 0),
-        System::Qzss => group(158, 10, b'J', 0),
-        System::Sbas => group(168, 32, b'S', 19),
-        System::Navic => group(207, 14, b'I', 0),
+        System::Gps => make_group(0, 32, b'G', 0),
+        System::Glonass => make_group(32, 27, b'R', 0),
+        System::Galileo => make_group(59, 32, b'E', 0),
+        System::Beidou => make_group(95, 32, b'C', 0),
+        System::Qzss => make_group(158, 10, b'J', 0),
+        System::Sbas => make_group(168, 32, b'S', 19),
+        System::Navic => make_group(207, 14, b'I', 0),
     }
 }
 
@@ -87,12 +87,12 @@ pub(crate) fn second_group(system: System) -> Group
     ensures names { result.names.before ≤ 67 }
 {
     match system {
-        System::Gps => group(32, 0, b'G', 32),
-        System::Glonass => group(64, 0, b'R', 32),
-        System::Galileo => group(91, 4, b'E', 32),
-        System::Beidou => group(127, 31, b'C', 32),
-        System::Qzss => group(190, 0, b'J', 32),
-        System::Sbas => group(200, 7, b'S', 51),
-        System::Navic => group(239, 0, b'I', 32),
+        System::Gps => make_group(32, 0, b'G', 32),
+        System::Glonass => make_group(64, 0, b'R', 32),
+        System::Galileo => make_group(91, 4, b'E', 32),
+        System::Beidou => make_group(127, 31, b'C', 32),
+        System::Qzss => make_group(190, 0, b'J', 32),
+        System::Sbas => make_group(200, 7, b'S', 51),
+        System::Navic => make_group(239, 0, b'I', 32),
     }
 }
