@@ -14,7 +14,7 @@ use Rattle.rtk_chart.specs.Groups.{title_of, listed_in, group_epochs}
 use Rattle.rtk_chart.specs.MixedChart.{DrawnView, both_numbers, drawn_numbers_at, with_satellites, with_listed, drawn_of_system, then_system, drawn_systems, systems_picture, systems_at, systems_of_epochs}
 use Rattle.rtk_chart.specs.TextPicture.{satellites_in, satellite_rows, never_in_line, all_never_lines, text_of_none}
 use Rattle.rtk_chart.specs.Steps.Pictures.{numbers_of_grid, with_grid}
-use Rattle.rtk_chart.specs.Steps.Standing.{StandsForGrid, bare_epochs}
+use Rattle.rtk_chart.specs.Steps.Standing.{StandsForGrid, bare_epoch, bare_epochs}
 use Rattle.rtk_chart.specs.declared.choice.Choice.{Choice}
 use Rattle.rtk_chart.specs.declared.drawn.DrawnNumbers.{DrawnNumbers}
 use Rattle.rtk_chart.specs.declared.grid.Grid.{Grid}
@@ -65,6 +65,9 @@ some-listed s width choice es system (c ∷ cs) codes more d is some drawn =
     ap (λ (x : DrawnView). then_system system x d) (drawn ∙ ap (λ (xs : List AnyCode). drawn_of_system s width choice es system xs) is)
 
 -- ---- the moments of a file
+
+pub bare-is : (x e : EpochTableView) (t : ℕ) → x ≡ record { time = t; rows = [] } → t ≡ e.time → x ≡ bare_epoch e
+bare-is x e t is at = subst (λ (n : ℕ). x ≡ record { time = n; rows = [] }) at is
 
 newest-bare : (es : List EpochTableView) → newest_moment (bare_epochs es) ≡ newest_moment es
 newest-bare [] = refl

@@ -50,6 +50,9 @@ pub record StandsForGrid (g : Grid) (s : Scale) (listed : List Code) (es : List 
   pub returns : g.returns ≡ returns_at s es
   pub rises : g.rises ≡ rises_at s es
 
--- the epochs without their rows
+-- an epoch without its rows
+abbrev pub bare_epoch : EpochTableView → EpochTableView
+bare_epoch e = record { time = e.time; rows = [] }
+
 abbrev pub bare_epochs : List EpochTableView → List EpochTableView
-bare_epochs es = map (λ e. record { time = e.time; rows = [] }) es
+bare_epochs es = map bare_epoch es

@@ -1,7 +1,8 @@
-use Rattle.std.proofs.Common.{[], ◌∷◌, refl, sym, ap, subst, ◌∙◌, ℕ}
+use Rattle.std.proofs.Common.{[], ◌∷◌, refl, subst, ◌∙◌}
 use Rattle.rtk_rinex.specs.Record.{EpochTableView}
 use Rattle.rtk_chart.specs.Steps.Standing.{StandsForGrid, bare_epochs}
 use Rattle.rtk_chart.proofs.GroupLemmas.{record-more, record-all}
+use Rattle.rtk_chart.proofs.MixedLemmas.{bare-is}
 use Rattle.rtk_chart.proofs.group_rows.fill_moments.Goals as goal
 
 pub loop-record-init : goal.loop-record-init
@@ -18,7 +19,7 @@ loop-record-preserved c = record {
       (c.loop-record.invariant.grid t is text) c.in-Some.ensures.next
       (λ es e of good stands.
       subst (λ (x : EpochTableView). StandsForGrid c.place_record.new.self c.args.scale.now [] (x ∷ bare_epochs es))
-      (c.restart.ensures ∙ ap (λ (n : ℕ). record { time = n; rows = [] }) (c.time.ensures ∙ of.time))
+      (bare-is c.restart.new.self e c.time.result c.restart.ensures (c.time.ensures ∙ of.time))
       (c.place_record.ensures.grid (bare_epochs es) stands));
 }
 
