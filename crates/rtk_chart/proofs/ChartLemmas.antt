@@ -1,5 +1,5 @@
 -- The picture of a table, from what was read of it.
-use Rattle.std.proofs.Common.{◌≡◌, ◌-◌, ℕ, List, [], ◌∷◌, Bool, Option, Some, None, length, refl, ap, subst, ◌∙◌}
+use Rattle.std.proofs.Common.{◌≡◌, ◌-◌, ℕ, List, [], ◌∷◌, Bool, Option, Some, None, length, map, refl, ap, subst, ◌∙◌}
 use Rattle.rtk_rinex.specs.Record.{EpochTableView}
 use Rattle.rtk_tracking.specs.Epochs.{capped, newest_moment}
 use Rattle.rtk_tracking.specs.Interval.{missing_in}
@@ -10,6 +10,7 @@ use Rattle.rtk_chart.specs.Chart.{slips_at, returns_at, rises_at, text_at, text_
 use Rattle.rtk_chart.specs.SvgPicture.{svg_picture, svg_of_none}
 use Rattle.rtk_chart.specs.Means.{columns_of}
 use Rattle.rtk_chart.specs.Steps.Standing.{StandsForGrid}
+use Rattle.rtk_obs.specs.Code.{name_of}
 use Rattle.rtk_obs.specs.declared.code.Code.{Code}
 use Rattle.rtk_chart.specs.declared.scale.Scale.{Scale}
 use Rattle.rtk_chart.specs.declared.grid.Grid.{Grid}
@@ -73,10 +74,10 @@ no-svg marker listed first interval (e ∷ es) none = cc
 pub svg-is : (marker m : List ℕ) (listed ls : List Code) (first f last records : ℕ) (interval : Option ℕ) (s : Scale) (g : Grid) (es : List EpochTableView)
     → m ≡ marker → ls ≡ listed → f ≡ first → Some last ≡ newest_moment es → s ≡ scale_of f last interval 1440
     → records ≡ capped (length es) → StandsForGrid g s ls es
-    → svg_picture m ls s records g.slips g.returns g.rises g.missing g.bins.items g.outages.items g.gaps.items g.strengths.items ≡ svg_of_epochs marker listed first interval es
+    → svg_picture m (map name_of ls) s records g.slips g.returns g.rises g.missing g.bins.items g.outages.items g.gaps.items g.strengths.items ≡ svg_of_epochs marker listed first interval es
 svg-is marker m listed ls first f last records interval s g [] name named from to is many stands = cc
 svg-is marker m listed ls first f last records interval s g (e ∷ es) name named from to is many stands =
-    ap (λ (x : List ℕ). svg_picture x ls s records g.slips g.returns g.rises g.missing g.bins.items g.outages.items g.gaps.items g.strengths.items) name
-    ∙ ap (λ (x : List Code). svg_picture marker x s records g.slips g.returns g.rises g.missing g.bins.items g.outages.items g.gaps.items g.strengths.items) named
-    ∙ same-parts (λ records slips returns rises missing bins outages recorded gaps strengths. svg_picture marker listed s records slips returns rises missing bins outages gaps strengths) records g s listed (e ∷ es) many (subst (λ (cs : List Code). StandsForGrid g s cs (e ∷ es)) named stands)
+    ap (λ (x : List ℕ). svg_picture x (map name_of ls) s records g.slips g.returns g.rises g.missing g.bins.items g.outages.items g.gaps.items g.strengths.items) name
+    ∙ ap (λ (x : List Code). svg_picture marker (map name_of x) s records g.slips g.returns g.rises g.missing g.bins.items g.outages.items g.gaps.items g.strengths.items) named
+    ∙ same-parts (λ records slips returns rises missing bins outages recorded gaps strengths. svg_picture marker (map name_of listed) s records slips returns rises missing bins outages gaps strengths) records g s listed (e ∷ es) many (subst (λ (cs : List Code). StandsForGrid g s cs (e ∷ es)) named stands)
     ∙ ap (λ (x : Scale). svg_at marker listed x (e ∷ es)) (scale-is first f last 1440 interval s e es from to is)

@@ -1,10 +1,12 @@
 -- How many bytes a picture in SVG has beside its bands.
-use Rattle.std.proofs.Common.{◌≡◌, ◌≤◌, ◌<◌, ◌==◌, ℕ, zero, suc, ◌+◌, ◌-◌, ◌*◌, ◌/◌, ◌%◌, ◌^◌, Bool, true, false, cond, List, [], ◌∷◌, ◌++◌, Option, None, Some, length, map, codes, refl, arith, length-append}
-use Rattle.std.specs.Prelude.{decimal, flat_map, max, min, unwrap_or, is_some}
+use Rattle.std.proofs.Common.{◌≡◌, ◌≤◌, ◌<◌, ◌==◌, ℕ, zero, suc, ◌+◌, ◌-◌, ◌*◌, ◌/◌, ◌%◌, ◌^◌, Bool, true, false, cond, List, [], ◌∷◌, ◌++◌, Option, None, Some, length, get_or, map, codes, refl, ap, subst, arith, length-append}
+use Rattle.std.specs.Prelude.{All, decimal, flat_map, max, min, unwrap_or, is_some}
 use Rattle.std.specs.Option.{ForSome}
 use Rattle.std.specs.List.{range_with_len, sum_by, fold}
 use Rattle.std.specs.Ordering.{nat_cmp, is_lt}
 use Rattle.std.proofs.lemmas.Fmt.{length-decimal-le}
+use Rattle.std.proofs.lemmas.List.{get_or-map, length-map}
+use Rattle.std.proofs.lemmas.List.Elements.{All-head, All-tail}
 use Rattle.std.proofs.lemmas.List.Concat.{length-flat_map}
 use Rattle.std.proofs.lemmas.List.Sums.{sum_by-cons, count_by-le-length}
 use Rattle.std.proofs.lemmas.List.FromFn.{length-range_with_len, length-map-range_with_len}
@@ -14,19 +16,20 @@ use Rattle.rtk_obs.specs.declared.time.Civil.{Civil}
 use Rattle.rtk_obs.specs.declared.code.Band.{Band}
 use Rattle.rtk_obs.specs.declared.code.Band.TheVariants.{L1, L2, L5}
 use Rattle.rtk_obs.specs.declared.code.Code.{Code}
+use Rattle.rtk_obs.specs.declared.code.Code.TheVariants.{G1C}
 use Rattle.rtk_obs.specs.Reading.{reading_of}
 use Rattle.rtk_rinex.specs.Record.{EpochTableView}
 use Rattle.rtk_tracking.specs.Epochs.{capped}
 use Rattle.rtk_tracking.specs.Extremes.{lesser, greater}
 use Rattle.rtk_tracking.specs.Interval.{missing_in}
-use Rattle.rtk_chart.specs.Chart.{slips_at, returns_at, rises_at}
+use Rattle.rtk_chart.specs.Chart.{slips_at, returns_at, rises_at, svg_at}
 use Rattle.rtk_chart.specs.Heading.{seconds_text}
 use Rattle.rtk_chart.specs.Scale.{IsScale}
 use Rattle.rtk_chart.specs.Grid.{bin_in, bins_of, outages_of, gaps_of, has_missing, tracking_in, trackings_in}
 use Rattle.rtk_chart.specs.Means.{number_of, columns_of, bins_per_column, mean_of, mean_at, of_band, least_mean, greatest_mean}
 use Rattle.rtk_chart.specs.Signs.{is_tracked, is_never}
 use Rattle.rtk_chart.specs.Ticks.{tick_at, tick_label}
-use Rattle.rtk_chart.specs.TextPicture.{satellite_label, satellites_in}
+use Rattle.rtk_chart.specs.TextPicture.{gps_names, satellite_label, satellites_in}
 use Rattle.rtk_chart.specs.SvgPath.{edge_of, tracked_in, most_tracked, step_part, steps_from, steps_text}
 use Rattle.rtk_chart.specs.SvgStrip.{reach_of, depth_of, depth_at, depths_of, depth_part, depths_from, depths_text, lane_start, lane_text, lane_height, lane_if_measured, strip_height, strip_text}
 use Rattle.rtk_chart.specs.SvgPicture.{xml_character, xml_text, number_between, runs_layer, lines_before, lacked_before, is_lacked, never_name, never_text, never_if_lacked, never_texts, bands_text, bands_end, never_end, spacing_of, gaps_band, satellites_band, svg_tick_step, label_start, tick_text, ticks_text, interval_text, svg_span, svg_numbers, svg_start, svg_legend, svg_body, svg_picture}
@@ -180,20 +183,19 @@ numbers-few records satellites slips returns rises missing few-1 few-2 few-3 few
 
 -- ---- the lines `never`
 
-never-name-few : (bins : List TimeBin) (at place : ℕ) → length (never_name bins at place) ≤ 4
-never-name-few bins at place = if-few (is_never bins at place) (32 ∷ satellite_label 71 (place + 1)) 4 (omega arith)
+never-name-few : (bins : List TimeBin) (at place : ℕ) → length (never_name gps_names bins at place) ≤ 4
+never-name-few bins at place = if-few (is_never bins at place) (32 ∷ satellite_label 71 (0 + place + 1)) 4 (omega arith)
 
-never-names-few : (bins : List TimeBin) (at : ℕ) → length (flat_map (never_name bins at) (range_with_len 0 32)) ≤ 128
+never-names-few : (bins : List TimeBin) (at : ℕ) → length (flat_map (never_name gps_names bins at) (range_with_len 0 32)) ≤ 128
 never-names-few bins at =
-    let sums = texts-few 4 (never_name bins at) 0 32 (λ place within. never-name-few bins at place) in
-    omega (arith, sums, length-flat_map (never_name bins at) (range_with_len 0 32))
+    let sums = texts-few 4 (never_name gps_names bins at) 0 32 (λ place within. never-name-few bins at place) in
+    omega (arith, sums, length-flat_map (never_name gps_names bins at) (range_with_len 0 32))
 
-never-text-few : (bins : List TimeBin) (top at : ℕ) (code : Code) → top ≤ 20_000 → at ≤ 16 → length (never_text bins top at code) ≤ 200
+never-text-few : (bins : List TimeBin) (top at : ℕ) (name : List ℕ) → length name ≤ 2 → top ≤ 20_000 → at ≤ 16 → length (never_text gps_names bins top at name) ≤ 200
 unfolding never_text
-never-text-few bins top at code low few =
+never-text-few bins top at name two low few =
     let lacked = nevers-few bins at in
     let first = place-few (codes "<text class='never' x='110' y='") (codes "'>never ") (top + 24 * lacked_before bins at) (omega (arith, low, few, lacked)) in
-    let two = two-characters code in
     let names = never-names-few bins at in
     omega (
       arith,
@@ -202,15 +204,15 @@ never-text-few bins top at code low few =
       names,
       five-long
           (number_between (codes "<text class='never' x='110' y='") (top + 24 * lacked_before bins at) (codes "'>never "))
-          (name_of code) (codes ":") (flat_map (never_name bins at) (range_with_len 0 32)) (codes "</text>\n"),
+          name (codes ":") (flat_map (never_name gps_names bins at) (range_with_len 0 32)) (codes "</text>\n"),
     )
 
-never-texts-few : (bins : List TimeBin) (top at : ℕ) (cs : List Code) → top ≤ 20_000 → at + length cs ≤ 16 → length (never_texts bins top at cs) ≤ 200 * length cs
-never-texts-few bins top at [] low few = omega arith
-never-texts-few bins top at (c ∷ cs) low few =
-    let rest = never-texts-few bins top (at + 1) cs low (omega (arith, few)) in
-    let here = if-few (is_lacked bins at) (never_text bins top at c) 200 (never-text-few bins top at c low (omega (arith, few))) in
-    omega (arith, rest, here, length-append (never_if_lacked bins top at c) (never_texts bins top (at + 1) cs))
+never-texts-few : (bins : List TimeBin) (top at : ℕ) (cs : List (List ℕ)) → All (λ (name : List ℕ). length name ≤ 2) cs → top ≤ 20_000 → at + length cs ≤ 16 → length (never_texts gps_names bins top at cs) ≤ 200 * length cs
+never-texts-few bins top at [] short low few = omega arith
+never-texts-few bins top at (c ∷ cs) short low few =
+    let rest = never-texts-few bins top (at + 1) cs (All-tail (λ (name : List ℕ). length name ≤ 2) c cs short) low (omega (arith, few)) in
+    let here = if-few (is_lacked bins at) (never_text gps_names bins top at c) 200 (never-text-few bins top at c (All-head (λ (name : List ℕ). length name ≤ 2) c cs short) low (omega (arith, few))) in
+    omega (arith, rest, here, length-append (never_if_lacked gps_names bins top at c) (never_texts gps_names bins top (at + 1) cs))
 
 -- ---- missing epochs, and numbers of satellites
 
@@ -509,12 +511,12 @@ most-tracked-few : (s : Scale) (es : List EpochTableView) → most_tracked (bins
 unfolding bins_of
 most-tracked-few s es = most-few s es 0 (range_with_len 0 s.bins) (omega arith)
 
-body-few : (spacing : Spacing) (listed : List Code) (s : Scale) (es : List EpochTableView) (columns : List Strengths) → length listed ≤ 16 → IsScale s
+body-few : (spacing : Spacing) (listed : List (List ℕ)) (s : Scale) (es : List EpochTableView) (columns : List Strengths) → All (λ (name : List ℕ). length name ≤ 2) listed → length listed ≤ 16 → IsScale s
     → length (svg_body spacing listed s (bins_of s es) (outages_of s es) (gaps_of s es) columns (never_end spacing (bins_of s es) (length listed)))
     ≤ 245_000 + 260 * satellites_in (bins_of s es) + 620 * lines_before (bins_of s es) (length listed) 32
     + 22 * forms_in_bands (bins_of s es) (outages_of s es) (length listed)
 unfolding svg_body
-body-few spacing listed s es columns few is =
+body-few spacing listed s es columns short few is =
     let bins : List TimeBin = bins_of s es in
     let many = bins-many s es in
     let bound = is.few in
@@ -524,8 +526,8 @@ body-few spacing listed s es columns few is =
     let top = top-few spacing (bins_of s es) (length listed) 32 few (omega arith) in
     let strip = strip-low columns in
     let a = system-few in
-    let b = bands-small spacing listed (bins_of s es) (outages_of s es) few size in
-    let c = never-texts-few (bins_of s es) (bands_end spacing (bins_of s es) (length listed) + 18) 0 listed (omega (arith, top)) (omega (arith, few)) in
+    let b = bands-small gps_names spacing listed (bins_of s es) (outages_of s es) short few size in
+    let c = never-texts-few (bins_of s es) (bands_end spacing (bins_of s es) (length listed) + 18) 0 listed short (omega (arith, top)) (omega (arith, few)) in
     let d = gaps-few end (gaps_of s es) (omega (arith, low)) (omega (arith, gaps-many s es, bound)) in
     let e = satellites-band-few (end + 26) (bins_of s es) (omega (arith, low)) (most-tracked-few s es) size in
     let f = strip-few (end + 72) columns (bins_per_column s) (length (bins_of s es)) (omega (arith, low)) size in
@@ -543,27 +545,39 @@ body-few spacing listed s es columns few is =
       h,
       few,
       nine-long
-          SYSTEM.now (bands_text spacing listed (bins_of s es) (outages_of s es)) (never_texts (bins_of s es) (bands_end spacing (bins_of s es) (length listed) + 18) 0 listed)
+          SYSTEM.now (bands_text gps_names spacing listed (bins_of s es) (outages_of s es)) (never_texts gps_names (bins_of s es) (bands_end spacing (bins_of s es) (length listed) + 18) 0 listed)
           (gaps_band end (gaps_of s es)) (satellites_band (end + 26) (bins_of s es))
           (strip_text (end + 72) columns (bins_per_column s) (length (bins_of s es)))
           (ticks_text s (svg_tick_step s) (end + strip_height columns + 72)) (svg_legend (end + strip_height columns + 104)) (codes "</svg>\n"),
     )
 
-pub pictures-small : PicturesAreSmall
+-- the names of codes of GPS have two characters
+names-short : (listed : List Code) → All (λ (name : List ℕ). length name ≤ 2) (map name_of listed)
+names-short listed k d lt =
+    let within : k < length listed = omega (arith, length-map listed name_of, lt) in
+    let two = two-characters (get_or listed k G1C) in
+    let same : length (get_or (map name_of listed) k d) ≡ length (name_of (get_or listed k G1C)) = ap (λ (n : List ℕ). length n) (get_or-map name_of listed k G1C d within) in
+    omega (arith, two, same)
+
+-- a picture of codes with these names
+picture-few : (marker : List ℕ) (listed : List (List ℕ)) (s : Scale) (es : List EpochTableView) (columns : List Strengths)
+    → All (λ (name : List ℕ). length name ≤ 2) listed → length marker ≤ 60 → length listed ≤ 16 → IsScale s → ForSome s.interval (λ ms. ms < 2 ^ 64)
+    → length (svg_picture marker listed s (capped (length es)) (slips_at s es) (returns_at s es) (rises_at s es) (capped (missing_in s.unit es)) (bins_of s es) (outages_of s es) (gaps_of s es) columns)
+    ≤ 260_000 + 260 * satellites_in (bins_of s es) + 620 * lines_before (bins_of s es) (length listed) 32
+    + 22 * forms_in_bands (bins_of s es) (outages_of s es) (length listed)
 unfolding svg_picture
-pictures-small marker listed s es short few is some =
+picture-few marker listed s es columns names short few is some =
     let bins : List TimeBin = bins_of s es in
-    let columns : List Strengths = columns_of s listed es in
     let spacing : Spacing = spacing_of (bins_of s es) (length listed) in
     let height : ℕ = never_end spacing bins (length listed) + strip_height columns + 230 in
-    let high = height-is (bins_of s es) (length listed) (columns_of s listed es) in
-    let low = none-is-higher (bins_of s es) (length listed) (columns_of s listed es) few in
+    let high = height-is (bins_of s es) (length listed) columns in
+    let low = none-is-higher (bins_of s es) (length listed) columns few in
     let a = start-few marker height short (omega (arith, high, low)) in
     let b = span-few s is some in
     let there = satellites-few (bins_of s es) in
     let c = numbers-few (capped (length es)) (satellites_in (bins_of s es)) (slips_at s es) (returns_at s es) (rises_at s es) (capped (missing_in s.unit es))
     (omega arith) (omega (arith, there)) (omega arith) (omega arith) (omega arith) (omega arith) in
-    let d = body-few spacing listed s es (columns_of s listed es) few is in
+    let d = body-few spacing listed s es columns names few is in
     omega (
       arith,
       a,
@@ -572,8 +586,15 @@ pictures-small marker listed s es short few is some =
       d,
       four-long (svg_start marker height) (svg_span s)
           (svg_numbers (capped (length es)) (satellites_in (bins_of s es)) (slips_at s es) (returns_at s es) (rises_at s es) (capped (missing_in s.unit es)))
-          (svg_body spacing listed s (bins_of s es) (outages_of s es) (gaps_of s es) (columns_of s listed es) (never_end spacing (bins_of s es) (length listed))),
+          (svg_body spacing listed s (bins_of s es) (outages_of s es) (gaps_of s es) columns (never_end spacing (bins_of s es) (length listed))),
     )
+
+pub pictures-small : PicturesAreSmall
+pictures-small marker listed s es short few is some =
+    let many : length (map name_of listed) ≡ length listed = length-map listed name_of in
+    subst (λ (n : ℕ). length (svg_at marker listed s es)
+    ≤ 260_000 + 260 * satellites_in (bins_of s es) + 620 * lines_before (bins_of s es) n 32 + 22 * forms_in_bands (bins_of s es) (outages_of s es) n) many
+    (picture-few marker (map name_of listed) s es (columns_of s listed es) (names-short listed) short (omega (arith, many, few)) is some)
 
 pub days-small : DaysAreSmall
 days-small marker listed s es short few is some satellites bars forms =

@@ -11,6 +11,7 @@ use Rattle.rtk_chart.specs.Grid.{bins_of, outages_of, gaps_of, recorded_of}
 use Rattle.rtk_chart.specs.Means.{columns_of}
 use Rattle.rtk_chart.specs.TextPicture.{text_picture, text_of_none}
 use Rattle.rtk_chart.specs.SvgPicture.{svg_picture, svg_of_none}
+use Rattle.rtk_obs.specs.Code.{name_of}
 use Rattle.rtk_obs.specs.declared.code.Code.{Code}
 use Rattle.rtk_chart.specs.declared.choice.Choice.{Choice}
 use Rattle.rtk_chart.specs.declared.scale.Scale.{Scale}
@@ -59,7 +60,7 @@ ShowsChosen choice file width text =
 -- the picture in SVG of these epochs, newest first, at a scale
 abbrev pub svg_at : List ℕ → List Code → Scale → List EpochTableView → List ℕ
 svg_at marker listed s es =
-    svg_picture marker listed s (capped (length es)) (slips_at s es) (returns_at s es) (rises_at s es)
+    svg_picture marker (map name_of listed) s (capped (length es)) (slips_at s es) (returns_at s es) (rises_at s es)
     (capped (missing_in s.unit es)) (bins_of s es) (outages_of s es) (gaps_of s es) (columns_of s listed es)
 
 -- formula

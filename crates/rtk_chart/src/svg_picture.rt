@@ -1,11 +1,13 @@
 //! A picture in SVG.
 
-ghost use Rattle.std.specs.Prelude.{◌≡◌, ◌≤◌, ◌<◌, ◌++◌, length, IfOk, OnOk};
+ghost use Rattle.std.specs.Prelude.{◌≡◌, ◌≤◌, ◌<◌, ◌++◌, length, map, IfOk, OnOk};
+ghost use Rattle.rtk_obs.specs.Code.{name_of};
 ghost use Rattle.rtk_chart.specs.Scale.{IsScale};
 ghost use Rattle.rtk_chart.specs.SvgPicture.{interval_text, svg_span, svg_numbers, svg_start, svg_legend, never_end, svg_body, svg_of_none};
 ghost use Rattle.rtk_chart.specs.Steps.Pictures.{svg_of_grid};
 
 use crate::grid::Grid;
+use crate::groups::gps_names;
 use crate::scale::Scale;
 use crate::spacing::Spacing;
 use crate::survey::Survey;
@@ -182,7 +184,7 @@ fn put_body(
     alloc: Global,
     text: &mut Vec<u8>,
     spacing: Spacing,
-    codes: &[Code],
+    codes: &[[u8; 2]],
     scale: &Scale,
     grid: &Grid,
     end: u64,
@@ -195,11 +197,12 @@ fn put_body(
     ensures { OnOk result (text.new.items
         ≡ text.old.items ++ svg_body spacing codes.now scale.now grid.now.bins.items grid.now.outages.items grid.now.gaps.items grid.now.strengths.items end) }
 {
+    let names = gps_names();
     let (bins, outages) = (grid.bins.as_slice(), grid.outages.as_slice());
     text.extend_from_slice(SYSTEM)?;
-    put_bands(alloc, text, spacing, codes, bins, outages)?;
+    put_bands(alloc, text, names, spacing, codes, bins, outages)?;
     let bands_end = band_top(spacing, bins, codes.len(), 32);
-    put_never_texts(text, bins, bands_end + 18, codes)?;
+    put_never_texts(text, names, bins, bands_end + 18, codes)?;
     put_gaps(text, end, grid.gaps.as_slice())?;
     put_satellites(text, end + 26, bins)?;
     let strengths = grid.strengths.as_slice();
@@ -227,6 +230,18 @@ fn never_end(spacing: Spacing, bins: &[TimeBin], listed: usize) -> u64
     band_top(spacing, bins, listed, 32) + 24 * lacked_before(bins, listed)
 }
 
+// The names of codes of GPS.
+fn code_names(alloc: Global, codes: &[Code]) -> Result<Vec<[u8; 2]>, AllocError>
+    ensures value { IfOk result (λ names. names.items ≡ map name_of codes.now) }
+    ensures size { IfOk result (λ names. length names.items ≡ length codes.now) }
+{
+    let mut names = Vec::new(alloc);
+    for code in codes {
+        names.push(code.name())?;
+    }
+    Ok(names)
+}
+
 /// The picture of a file with records.
 pub(crate) fn svg_picture(
     alloc: Global,
@@ -242,9 +257,11 @@ pub(crate) fn svg_picture(
     requires gaps { length grid.now.gaps.items ≡ scale.now.bins }
     ensures { IfOk result (λ text. text.items ≡ svg_of_grid marker.now codes.now scale.now survey.now grid.now) }
 {
+    let listed = code_names(alloc, codes)?;
+    let names = listed.as_slice();
     let satellites = drawn_before(grid.bins.as_slice(), 32);
-    let spacing = Spacing::of(grid.bins.as_slice(), codes.len());
-    let end = never_end(spacing, grid.bins.as_slice(), codes.len());
+    let spacing = Spacing::of(grid.bins.as_slice(), names.len());
+    let end = never_end(spacing, grid.bins.as_slice(), names.len());
     let mut text = Vec::new(alloc);
     let height = end + strip_height(grid.strengths.as_slice()) + 230;
     put_start(&mut text, marker, height)?;
@@ -258,7 +275,7 @@ pub(crate) fn svg_picture(
         grid.rises,
         grid.missing,
     )?;
-    put_body(alloc, &mut text, spacing, codes, scale, grid, end)?;
+    put_body(alloc, &mut text, spacing, names, scale, grid, end)?;
     Ok(text)
 }
 

@@ -22,4 +22,5 @@ returns c =
       c.as_slice.ensures.value,
       c.as_slice-outages.ensures.value,
       c.as_slice-bins.ensures.value,
+      c.gps_names-names.ensures.value,
     ) (simp append_assoc)
