@@ -30,7 +30,7 @@ use Rattle.rtk_chart.specs.Means.{number_of, columns_of, bins_per_column, mean_o
 use Rattle.rtk_chart.specs.Signs.{is_tracked, is_never}
 use Rattle.rtk_chart.specs.Ticks.{tick_at, tick_label}
 use Rattle.rtk_chart.specs.TextPicture.{gps_names, satellite_label, satellites_in}
-use Rattle.rtk_chart.specs.SvgPath.{edge_of, tracked_in, most_tracked, step_part, steps_from, steps_text}
+use Rattle.rtk_chart.specs.SvgPath.{edge_of, tracked_in, tracked_counts, most_tracked, step_part, steps_from, steps_text}
 use Rattle.rtk_chart.specs.SvgStrip.{reach_of, depth_of, depth_at, depths_of, depth_part, depths_from, depths_text, lane_start, lane_text, lane_height, lane_if_measured, strip_height, strip_text}
 use Rattle.rtk_chart.specs.SvgPicture.{xml_character, xml_text, number_between, runs_layer, lines_before, lacked_before, is_lacked, never_name, never_text, never_if_lacked, never_texts, bands_text, bands_end, never_end, spacing_of, gaps_band, satellites_band, svg_tick_step, label_start, tick_text, ticks_text, interval_text, svg_span, svg_numbers, svg_start, svg_legend, svg_body, svg_picture}
 use Rattle.rtk_chart.specs.Size.{forms_in_bands}
@@ -242,35 +242,35 @@ step-if false x y few low =
     let short = length-decimal-le 2 y (omega arith) (omega arith) (omega arith) in
     omega (arith, long, short, four-long (codes "H") (decimal x) (codes "V") (decimal y))
 
-steps-few : (most n c was : ℕ) (bins : List TimeBin) → 0 < n → c + length bins ≤ n → length (steps_from most n c was bins) ≤ 8 * length bins
+steps-few : (most n c was : ℕ) (counts : List ℕ) → 0 < n → c + length counts ≤ n → length (steps_from most n c was counts) ≤ 8 * length counts
 steps-few most n c was [] some within = omega arith
-steps-few most n c was (b ∷ bs) some within =
-    let rest = steps-few most n (c + 1) (tracked_in b) bs some (omega (arith, within)) in
-    let here = step-if (tracked_in b == was) (edge_of n c) (40 - tracked_in b * 40 / max most 1) (edge-few n c some (omega (arith, within))) (omega arith) in
-    omega (arith, rest, here, length-append (step_part most (edge_of n c) was (tracked_in b)) (steps_from most n (c + 1) (tracked_in b) bs))
+steps-few most n c was (k ∷ ks) some within =
+    let rest = steps-few most n (c + 1) k ks some (omega (arith, within)) in
+    let here = step-if (k == was) (edge_of n c) (40 - k * 40 / max most 1) (edge-few n c some (omega (arith, within))) (omega arith) in
+    omega (arith, rest, here, length-append (step_part most (edge_of n c) was k) (steps_from most n (c + 1) k ks))
 
-all-steps-few : (bins : List TimeBin) → length (steps_text bins) ≤ 8 * length bins
+all-steps-few : (counts : List ℕ) → length (steps_text counts) ≤ 8 * length counts
 unfolding steps_text
 all-steps-few [] = omega arith
-all-steps-few (b ∷ bs) = steps-few (most_tracked (b ∷ bs)) (length (b ∷ bs)) 0 0 (b ∷ bs) (omega arith) (omega arith)
+all-steps-few (k ∷ ks) = steps-few (most_tracked (k ∷ ks)) (length (k ∷ ks)) 0 0 (k ∷ ks) (omega arith) (omega arith)
 
 tracked-few : (s : Scale) (es : List EpochTableView) (c : ℕ) → tracked_in (bin_in s es c) ≤ 32
 unfolding trackings_in
 tracked-few s es c =
     omega (arith, count_by-le-length is_tracked (trackings_in s es c), length-map-range_with_len (λ place. tracking_in s (place + 1) es c) 0 32)
 
-most-few : (s : Scale) (es : List EpochTableView) (most : ℕ) (xs : List ℕ) → most ≤ 32 → fold (λ m bin. max m (tracked_in bin)) most (map (bin_in s es) xs) ≤ 32
+most-few : (s : Scale) (es : List EpochTableView) (most : ℕ) (xs : List ℕ) → most ≤ 32 → fold (λ m n. max m n) most (tracked_counts (map (bin_in s es) xs)) ≤ 32
 most-few s es most [] few = few
 most-few s es most (x ∷ xs) few =
     let here = tracked-few s es x in
     most-few s es (max most (tracked_in (bin_in s es x))) xs (omega (arith, few, here))
 
-satellites-band-few : (top : ℕ) (bins : List TimeBin) → top ≤ 20_000 → most_tracked bins ≤ 32 → length bins ≤ 1440 → length (satellites_band top bins) ≤ 12_000
+satellites-band-few : (top : ℕ) (counts : List ℕ) → top ≤ 20_000 → most_tracked counts ≤ 32 → length counts ≤ 1440 → length (satellites_band top counts) ≤ 12_000
 unfolding satellites_band
-satellites-band-few top bins low most few =
+satellites-band-few top counts low most few =
     let first = place-few (codes "<g transform='translate(110 ") (codes ")'>\n<title>satellites with a phase</title>\n<text class='code' x='-6' y='18'>satellites</text>\n") top (omega (arith, low)) in
-    let second = place-few (codes "<text class='code' x='-6' y='38'>at most ") (codes "</text>\n<path class='n' d='M0 40") (most_tracked bins) (omega (arith, most)) in
-    let steps = all-steps-few bins in
+    let second = place-few (codes "<text class='code' x='-6' y='38'>at most ") (codes "</text>\n<path class='n' d='M0 40") (most_tracked counts) (omega (arith, most)) in
+    let steps = all-steps-few counts in
     omega (
       arith,
       first,
@@ -279,8 +279,8 @@ satellites-band-few top bins low most few =
       few,
       four-long
           (number_between (codes "<g transform='translate(110 ") top (codes ")'>\n<title>satellites with a phase</title>\n<text class='code' x='-6' y='18'>satellites</text>\n"))
-          (number_between (codes "<text class='code' x='-6' y='38'>at most ") (most_tracked bins) (codes "</text>\n<path class='n' d='M0 40"))
-          (steps_text bins) (codes "H1440V40z'/>\n</g>\n"),
+          (number_between (codes "<text class='code' x='-6' y='38'>at most ") (most_tracked counts) (codes "</text>\n<path class='n' d='M0 40"))
+          (steps_text counts) (codes "H1440V40z'/>\n</g>\n"),
     )
 
 -- ---- the strip
@@ -507,7 +507,7 @@ gaps-many : (s : Scale) (es : List EpochTableView) → length (gaps_of s es) ≡
 unfolding gaps_of
 gaps-many s es = length-map-range_with_len (has_missing s es) 0 s.bins
 
-most-tracked-few : (s : Scale) (es : List EpochTableView) → most_tracked (bins_of s es) ≤ 32
+most-tracked-few : (s : Scale) (es : List EpochTableView) → most_tracked (tracked_counts (bins_of s es)) ≤ 32
 unfolding bins_of
 most-tracked-few s es = most-few s es 0 (range_with_len 0 s.bins) (omega arith)
 
@@ -529,7 +529,8 @@ body-few spacing listed s es columns short few is =
     let b = bands-small gps_names spacing listed (bins_of s es) (outages_of s es) short few size in
     let c = never-texts-few (bins_of s es) (bands_end spacing (bins_of s es) (length listed) + 18) 0 listed short (omega (arith, top)) (omega (arith, few)) in
     let d = gaps-few end (gaps_of s es) (omega (arith, low)) (omega (arith, gaps-many s es, bound)) in
-    let e = satellites-band-few (end + 26) (bins_of s es) (omega (arith, low)) (most-tracked-few s es) size in
+    let counted : length (tracked_counts (bins_of s es)) ≡ length (bins_of s es) = length-map (bins_of s es) tracked_in in
+    let e = satellites-band-few (end + 26) (tracked_counts (bins_of s es)) (omega (arith, low)) (most-tracked-few s es) (omega (arith, counted, size)) in
     let f = strip-few (end + 72) columns (bins_per_column s) (length (bins_of s es)) (omega (arith, low)) size in
     let g = ticks-few s (svg_tick_step s) (end + strip_height columns + 72) (omega (arith, low, strip)) bound in
     let h = legend-few (end + strip_height columns + 104) (omega (arith, low, strip)) in
@@ -546,7 +547,7 @@ body-few spacing listed s es columns short few is =
       few,
       nine-long
           SYSTEM.now (bands_text gps_names spacing listed (bins_of s es) (outages_of s es)) (never_texts gps_names (bins_of s es) (bands_end spacing (bins_of s es) (length listed) + 18) 0 listed)
-          (gaps_band end (gaps_of s es)) (satellites_band (end + 26) (bins_of s es))
+          (gaps_band end (gaps_of s es)) (satellites_band (end + 26) (tracked_counts (bins_of s es)))
           (strip_text (end + 72) columns (bins_per_column s) (length (bins_of s es)))
           (ticks_text s (svg_tick_step s) (end + strip_height columns + 72)) (svg_legend (end + strip_height columns + 104)) (codes "</svg>\n"),
     )

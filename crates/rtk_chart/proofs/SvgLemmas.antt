@@ -54,15 +54,15 @@ marks-more form n i x flags d all mid after within at so_far more =
     ∙ ap (λ (k : ℕ). (mid ++ mark_part form k b) ++ marks_from form n (i + 1) rest) (sym at)
     ∙ ap (λ (t : List ℕ). t ++ marks_from form n (i + 1) rest) (sym more)
 
-pub steps-more : (most n i x was now : ℕ) (bins : List TimeBin) (d : TimeBin) (all mid after : List ℕ) → i < length bins → x ≡ edge_of n i
-    → now ≡ tracked_in (get_or bins i d) → all ≡ mid ++ steps_from most n i was (drop i bins) → after ≡ mid ++ step_part most x was now
-    → all ≡ after ++ steps_from most n (i + 1) now (drop (i + 1) bins)
-steps-more most n i x was now bins d all mid after within at is so_far more =
-    let b = get_or bins i d in
-    let rest = drop (i + 1) bins in
-    so_far ∙ ap (λ (bs : List TimeBin). mid ++ steps_from most n i was bs) (drop_more bins i d within)
-    ∙ sym (append_assoc mid (step_part most (edge_of n i) was (tracked_in b)) (steps_from most n (i + 1) (tracked_in b) rest))
-    ∙ ap (λ (k : ℕ). (mid ++ step_part most k was (tracked_in b)) ++ steps_from most n (i + 1) (tracked_in b) rest) (sym at)
+pub steps-more : (most n i x was now : ℕ) (counts : List ℕ) (d : ℕ) (all mid after : List ℕ) → i < length counts → x ≡ edge_of n i
+    → now ≡ get_or counts i d → all ≡ mid ++ steps_from most n i was (drop i counts) → after ≡ mid ++ step_part most x was now
+    → all ≡ after ++ steps_from most n (i + 1) now (drop (i + 1) counts)
+steps-more most n i x was now counts d all mid after within at is so_far more =
+    let b = get_or counts i d in
+    let rest = drop (i + 1) counts in
+    so_far ∙ ap (λ (ks : List ℕ). mid ++ steps_from most n i was ks) (drop_more counts i d within)
+    ∙ sym (append_assoc mid (step_part most (edge_of n i) was b) (steps_from most n (i + 1) b rest))
+    ∙ ap (λ (k : ℕ). (mid ++ step_part most k was b) ++ steps_from most n (i + 1) b rest) (sym at)
     ∙ ap (λ (k : ℕ). (mid ++ step_part most x was k) ++ steps_from most n (i + 1) k rest) (sym is)
     ∙ ap (λ (t : List ℕ). t ++ steps_from most n (i + 1) now rest) (sym more)
 

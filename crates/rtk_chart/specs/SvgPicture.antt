@@ -11,7 +11,7 @@ use Rattle.rtk_chart.specs.Signs.{is_drawn, has_code, is_never}
 use Rattle.rtk_chart.specs.TextPicture.{gps_names, satellite_label, never_before, drawn_before, satellites_in}
 use Rattle.rtk_chart.specs.Means.{bins_per_column}
 use Rattle.rtk_chart.specs.SvgStrip.{strip_height, strip_text}
-use Rattle.rtk_chart.specs.SvgPath.{edge_of, runs_text, marks_text, most_tracked, steps_text}
+use Rattle.rtk_chart.specs.SvgPath.{edge_of, runs_text, marks_text, tracked_counts, most_tracked, steps_text}
 use Rattle.rtk_chart.specs.Layers.{shows}
 use Rattle.rtk_chart.specs.declared.svg_picture.TheConstants.{STYLE, SYSTEM, LEGEND}
 use Rattle.rtk_chart.specs.declared.groups.Names.{Names}
@@ -282,12 +282,12 @@ gaps_band top gaps =
     ++ runs_layer (codes "g") (codes " 12") [] gaps ++ codes "</g>\n"
 
 -- formula
--- the numbers of satellites with a phase, and the greatest of them
-unfoldable pub satellites_band : ℕ → List TimeBin → List ℕ
-satellites_band top bins =
+-- the numbers of satellites with a phase in each bin, and the greatest of them
+unfoldable pub satellites_band : ℕ → List ℕ → List ℕ
+satellites_band top counts =
     number_between (codes "<g transform='translate(110 ") top (codes ")'>\n<title>satellites with a phase</title>\n<text class='code' x='-6' y='18'>satellites</text>\n")
-    ++ number_between (codes "<text class='code' x='-6' y='38'>at most ") (most_tracked bins) (codes "</text>\n<path class='n' d='M0 40")
-    ++ steps_text bins ++ codes "H1440V40z'/>\n</g>\n"
+    ++ number_between (codes "<text class='code' x='-6' y='38'>at most ") (most_tracked counts) (codes "</text>\n<path class='n' d='M0 40")
+    ++ steps_text counts ++ codes "H1440V40z'/>\n</g>\n"
 
 -- formula
 -- ticks are 144 units apart or more
@@ -365,7 +365,7 @@ never_end spacing bins listed = bands_end spacing bins listed + 24 * lacked_befo
 -- what stands below the heading: the name of the system, its satellites, and so far from the top what is of all
 unfoldable pub svg_body : Spacing → List (List ℕ) → Scale → List TimeBin → List Bool → List Bool → List Strengths → ℕ → List ℕ
 svg_body spacing listed s bins outages gaps strengths end =
-    SYSTEM.now ++ bands_text gps_names spacing listed bins outages ++ never_texts gps_names bins (bands_end spacing bins (length listed) + 18) 0 listed ++ gaps_band end gaps ++ satellites_band (end + 26) bins
+    SYSTEM.now ++ bands_text gps_names spacing listed bins outages ++ never_texts gps_names bins (bands_end spacing bins (length listed) + 18) 0 listed ++ gaps_band end gaps ++ satellites_band (end + 26) (tracked_counts bins)
     ++ strip_text (end + 72) strengths (bins_per_column s) (length bins)
     ++ ticks_text s (svg_tick_step s) (end + strip_height strengths + 72) ++ svg_legend (end + strip_height strengths + 104) ++ codes "</svg>\n"
 

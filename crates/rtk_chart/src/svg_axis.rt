@@ -10,7 +10,6 @@ use crate::svg_path::edge;
 use crate::svg_steps::{most_tracked, put_steps};
 use crate::svg_text::put_between;
 use crate::ticks::{put_tick_label, tick_at, tick_step};
-use crate::time_bin::TimeBin;
 use rtk_obs::GpsMs;
 use std::alloc::AllocError;
 
@@ -34,16 +33,16 @@ pub(crate) fn put_gaps(text: &mut Vec<u8>, top: u64, gaps: &[bool]) -> Result<()
     Ok(())
 }
 
-/// Appends the row of the numbers of satellites.
+/// Appends the row of the numbers of satellites in each bin.
 pub(crate) fn put_satellites(
     text: &mut Vec<u8>,
     top: u64,
-    bins: &[TimeBin],
+    counts: &[u8],
 ) -> Result<(), AllocError>
-    requires { length bins.now ≤ 1440 }
-    ensures { OnOk result (text.new.items ≡ text.old.items ++ satellites_band top bins.now) }
+    requires { length counts.now ≤ 1440 }
+    ensures { OnOk result (text.new.items ≡ text.old.items ++ satellites_band top counts.now) }
 {
-    let most = most_tracked(bins);
+    let most = most_tracked(counts);
     put_between(text, b"<g transform='translate(110 ", top, SATELLITES_START)?;
     put_between(
         text,
@@ -51,7 +50,7 @@ pub(crate) fn put_satellites(
         most,
         b"</text>\n<path class='n' d='M0 40",
     )?;
-    put_steps(text, most, bins)?;
+    put_steps(text, most, counts)?;
     text.extend_from_slice(b"H1440V40z'/>\n</g>\n")?;
     Ok(())
 }

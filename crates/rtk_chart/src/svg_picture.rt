@@ -14,6 +14,7 @@ use crate::survey::Survey;
 use crate::svg_axis::{put_gaps, put_satellites, put_ticks};
 use crate::svg_bands::{band_top, put_bands};
 use crate::svg_never::{lacked_before, put_never_texts};
+use crate::svg_steps::tracked_counts;
 use crate::svg_strip::{put_strip, strip_height};
 use crate::svg_text::{put_between, put_xml};
 use crate::text_picture::drawn_before;
@@ -204,7 +205,8 @@ fn put_body(
     let bands_end = band_top(spacing, bins, codes.len(), 32);
     put_never_texts(text, names, bins, bands_end + 18, codes)?;
     put_gaps(text, end, grid.gaps.as_slice())?;
-    put_satellites(text, end + 26, bins)?;
+    let counts = tracked_counts(alloc, bins)?;
+    put_satellites(text, end + 26, counts.as_slice())?;
     let strengths = grid.strengths.as_slice();
     put_strip(
         alloc,
