@@ -14,7 +14,7 @@ returns c =
       c.bins_per_column.ensures.value,
       c.as_slice-strengths.ensures.value,
       c.in_ok-put_satellites.ensures,
-      c.as_slice-6.ensures.value,
+      c.as_slice-2.ensures.value,
       c.in_ok-counts.ensures.value,
       c.in_ok-put_gaps.ensures,
       c.in_ok-put_never_texts.ensures,
