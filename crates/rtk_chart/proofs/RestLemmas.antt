@@ -26,7 +26,7 @@ use Rattle.rtk_chart.specs.Chart.{slips_at, returns_at, rises_at, svg_at}
 use Rattle.rtk_chart.specs.Heading.{seconds_text}
 use Rattle.rtk_chart.specs.Scale.{IsScale}
 use Rattle.rtk_chart.specs.Grid.{bin_in, bins_of, outages_of, gaps_of, has_missing, tracking_in, trackings_in}
-use Rattle.rtk_chart.specs.Means.{number_of, columns_of, bins_per_column, mean_of, mean_at, of_band, least_mean, greatest_mean}
+use Rattle.rtk_chart.specs.Means.{number_of, bands_of, columns_of, bins_per_column, mean_of, mean_at, of_band, least_mean, greatest_mean}
 use Rattle.rtk_chart.specs.Signs.{is_tracked, is_never}
 use Rattle.rtk_chart.specs.Ticks.{tick_at, tick_label}
 use Rattle.rtk_chart.specs.TextPicture.{gps_names, satellite_label, satellites_in}
@@ -595,7 +595,7 @@ pictures-small marker listed s es short few is some =
     let many : length (map name_of listed) ≡ length listed = length-map listed name_of in
     subst (λ (n : ℕ). length (svg_at marker listed s es)
     ≤ 260_000 + 260 * satellites_in (bins_of s es) + 620 * lines_before (bins_of s es) n 32 + 22 * forms_in_bands (bins_of s es) (outages_of s es) n) many
-    (picture-few marker (map name_of listed) s es (columns_of s listed es) (names-short listed) short (omega (arith, many, few)) is some)
+    (picture-few marker (map name_of listed) s es (columns_of s (bands_of listed) es) (names-short listed) short (omega (arith, many, few)) is some)
 
 pub days-small : DaysAreSmall
 days-small marker listed s es short few is some satellites bars forms =

@@ -10,7 +10,7 @@ use Rattle.std.proofs.lemmas.List.FromFn.{length-range_with_len}
 use Rattle.rtk_obs.specs.Code.{name_of}
 use Rattle.rtk_obs.specs.declared.code.Band.TheVariants.{L1, L2, L5}
 use Rattle.rtk_chart.specs.Signs.{is_drawn, has_code}
-use Rattle.rtk_chart.specs.Means.{least_mean, columns_of}
+use Rattle.rtk_chart.specs.Means.{least_mean, bands_of, columns_of}
 use Rattle.rtk_chart.specs.TextPicture.{drawn_before, satellites_in}
 use Rattle.rtk_tracking.specs.Epochs.{capped}
 use Rattle.rtk_tracking.specs.Interval.{missing_in}
@@ -87,7 +87,7 @@ pub svg-has-its-height : SvgHasItsHeight
 unfolding svg_picture
 svg-has-its-height marker listed s es =
     let bins = bins_of s es in
-    let columns = columns_of s listed es in
+    let columns = columns_of s (bands_of listed) es in
     let names : List (List ℕ) = map name_of listed in
     let spacing = spacing_of bins (length names) in
     let end = never_end spacing bins (length names) in

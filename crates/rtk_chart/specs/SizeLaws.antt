@@ -6,7 +6,7 @@ use Rattle.rtk_rinex.specs.Record.{EpochTableView}
 use Rattle.rtk_chart.specs.Signs.{is_drawn}
 use Rattle.rtk_chart.specs.Scale.{IsScale}
 use Rattle.rtk_chart.specs.Grid.{bins_of, outages_of}
-use Rattle.rtk_chart.specs.Means.{columns_of}
+use Rattle.rtk_chart.specs.Means.{bands_of, columns_of}
 use Rattle.rtk_chart.specs.TextPicture.{satellites_in}
 use Rattle.rtk_chart.specs.SvgPicture.{codes_before, lines_before, lacked_before, code_line, bands_text, svg_start}
 use Rattle.rtk_chart.specs.Chart.{svg_at}
@@ -21,7 +21,7 @@ use Rattle.rtk_chart.specs.declared.spacing.Spacing.{Spacing}
 abbrev pub SvgHasItsHeight : Type 0
 SvgHasItsHeight =
     (marker : List ℕ) (listed : List Code) (s : Scale) (es : List EpochTableView)
-    → (rest : List ℕ) × (svg_at marker listed s es ≡ svg_start marker (picture_height (bins_of s es) (length listed) (columns_of s listed es)) ++ rest)
+    → (rest : List ℕ) × (svg_at marker listed s es ≡ svg_start marker (picture_height (bins_of s es) (length listed) (columns_of s (bands_of listed) es)) ++ rest)
 
 -- a satellite that is drawn has two bars or more
 abbrev pub HaveTwoBars : List TimeBin → ℕ → Type 0
