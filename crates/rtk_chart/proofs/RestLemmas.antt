@@ -31,7 +31,7 @@ use Rattle.rtk_chart.specs.Signs.{is_tracked, is_never}
 use Rattle.rtk_chart.specs.Ticks.{tick_at, tick_label}
 use Rattle.rtk_chart.specs.TextPicture.{gps_names, satellite_label, satellites_in}
 use Rattle.rtk_chart.specs.SvgPath.{edge_of, tracked_in, tracked_counts, most_tracked, step_part, steps_from, steps_text}
-use Rattle.rtk_chart.specs.SvgStrip.{reach_of, depth_of, depth_at, depths_of, depth_part, depths_from, depths_text, lane_start, lane_text, lane_height, lane_if_measured, strip_height, strip_text}
+use Rattle.rtk_chart.specs.SvgStrip.{reach_of, depth_of, depth_at, depths_of, depth_part, depths_from, depths_text, lane_start, strip_number, lane_text, lane_height, lane_if_measured, strip_height, strip_text}
 use Rattle.rtk_chart.specs.SvgPicture.{xml_character, xml_text, number_between, runs_layer, lines_before, lacked_before, is_lacked, never_name, never_text, never_if_lacked, never_texts, bands_text, bands_end, never_end, spacing_of, gaps_band, satellites_band, svg_tick_step, label_start, tick_text, ticks_text, interval_text, svg_span, svg_numbers, svg_start, svg_legend, svg_body, svg_picture}
 use Rattle.rtk_chart.specs.Size.{forms_in_bands}
 use Rattle.rtk_chart.specs.SizeLaws.{PicturesAreSmall, DaysAreSmall}
@@ -356,15 +356,10 @@ depths-text-few band columns reach each n few =
     (omega (arith, long, size)) in
     omega (arith, forms, size, few)
 
-number-few : (band : Band) → number_of band ≤ 5
-number-few L1 = omega arith
-number-few L2 = omega arith
-number-few L5 = omega arith
-
 five-digits : (n : ℕ) → n < 100_000 → length (decimal n) ≤ 5
 five-digits n few = length-decimal-le 5 n (omega arith) (omega arith) (omega arith)
 
-lane-start-few : (top number : ℕ) (reach : Reach) → top ≤ 20_000 → number ≤ 5 → reach.until < 100_000 → reach.from < 100_000 → length (lane_start top number reach) ≤ 400
+lane-start-few : (top number : ℕ) (reach : Reach) → top ≤ 20_000 → number ≤ 9 → reach.until < 100_000 → reach.from < 100_000 → length (lane_start top number reach) ≤ 400
 unfolding lane_start
 lane-start-few top number reach low few until from =
     let a = five-digits top (omega (arith, low)) in
@@ -390,44 +385,52 @@ lane-start-few top number reach low few until from =
       length-append (decimal reach.from) (codes "</text>\n<path class='k' d='"),
     )
 
-lane-few : (top : ℕ) (band : Band) (columns : List Strengths) (each n : ℕ) → top ≤ 20_000 → n ≤ 1440 → length (lane_text top band columns each n) ≤ 16_300
+strip-number-few : (upper : Bool) (band : Band) → strip_number upper band ≤ 8
+strip-number-few true L1 = omega arith
+strip-number-few true L2 = omega arith
+strip-number-few true L5 = omega arith
+strip-number-few false L1 = omega arith
+strip-number-few false L2 = omega arith
+strip-number-few false L5 = omega arith
+
+lane-few : (upper : Bool) (top : ℕ) (band : Band) (columns : List Strengths) (each n : ℕ) → top ≤ 20_000 → n ≤ 1440 → length (lane_text upper top band columns each n) ≤ 16_300
 unfolding lane_text
-lane-few top band columns each n low few =
+lane-few upper top band columns each n low few =
     let least : unwrap_or (least_mean band columns) 0 ≤ 63_750 = least-few band None columns (omega arith) in
     let greatest : unwrap_or (greatest_mean band columns) 0 ≤ 63_750 = greatest-few band None columns (omega arith) in
-    let start = lane-start-few top (number_of band) (reach_of band columns) low (number-few band) (omega (arith, least, greatest)) (omega (arith, least)) in
+    let start = lane-start-few top (strip_number upper band) (reach_of band columns) low (omega (arith, strip-number-few upper band)) (omega (arith, least, greatest)) (omega (arith, least)) in
     let depths = depths-text-few band columns (reach_of band columns) each n few in
     omega (
       arith,
       start,
       depths,
-      three-long (lane_start top (number_of band) (reach_of band columns))
+      three-long (lane_start top (strip_number upper band) (reach_of band columns))
           (depths_text (depths_of band columns (reach_of band columns) each n)) (codes "'/>\n</g>\n"),
     )
 
-lane-if-few : (top : ℕ) (band : Band) (columns : List Strengths) (each n : ℕ) → top ≤ 20_000 → n ≤ 1440 → length (lane_if_measured top band columns each n) ≤ 16_300
-lane-if-few top band columns each n low few =
-    if-few (is_some (least_mean band columns)) (lane_text top band columns each n) 16_300 (lane-few top band columns each n low few)
+lane-if-few : (upper : Bool) (top : ℕ) (band : Band) (columns : List Strengths) (each n : ℕ) → top ≤ 20_000 → n ≤ 1440 → length (lane_if_measured upper top band columns each n) ≤ 16_300
+lane-if-few upper top band columns each n low few =
+    if-few (is_some (least_mean band columns)) (lane_text upper top band columns each n) 16_300 (lane-few upper top band columns each n low few)
 
 high-if : (measured : Bool) → cond measured 46 0 ≤ 46
 high-if true = omega arith
 high-if false = omega arith
 
-strip-few : (top : ℕ) (columns : List Strengths) (each n : ℕ) → top ≤ 19_000 → n ≤ 1440 → length (strip_text top columns each n) ≤ 48_900
+strip-few : (upper : Bool) (top : ℕ) (columns : List Strengths) (each n : ℕ) → top ≤ 19_000 → n ≤ 1440 → length (strip_text upper top columns each n) ≤ 48_900
 unfolding strip_text
-strip-few top columns each n low few =
+strip-few upper top columns each n low few =
     let one = high-if (is_some (least_mean L1 columns)) in
     let two = high-if (is_some (least_mean L2 columns)) in
-    let first = lane-if-few top L1 columns each n (omega (arith, low)) few in
-    let second = lane-if-few (top + lane_height L1 columns) L2 columns each n (omega (arith, low, one)) few in
-    let third = lane-if-few (top + lane_height L1 columns + lane_height L2 columns) L5 columns each n (omega (arith, low, one, two)) few in
+    let first = lane-if-few upper top L1 columns each n (omega (arith, low)) few in
+    let second = lane-if-few upper (top + lane_height L1 columns) L2 columns each n (omega (arith, low, one)) few in
+    let third = lane-if-few upper (top + lane_height L1 columns + lane_height L2 columns) L5 columns each n (omega (arith, low, one, two)) few in
     omega (
       arith,
       first,
       second,
       third,
-      three-long (lane_if_measured top L1 columns each n) (lane_if_measured (top + lane_height L1 columns) L2 columns each n)
-          (lane_if_measured (top + lane_height L1 columns + lane_height L2 columns) L5 columns each n),
+      three-long (lane_if_measured upper top L1 columns each n) (lane_if_measured upper (top + lane_height L1 columns) L2 columns each n)
+          (lane_if_measured upper (top + lane_height L1 columns + lane_height L2 columns) L5 columns each n),
     )
 
 strip-low : (columns : List Strengths) → strip_height columns ≤ 138
@@ -531,7 +534,7 @@ body-few spacing listed s es columns short few is =
     let d = gaps-few end (gaps_of s es) (omega (arith, low)) (omega (arith, gaps-many s es, bound)) in
     let counted : length (tracked_counts (bins_of s es)) ≡ length (bins_of s es) = length-map (bins_of s es) tracked_in in
     let e = satellites-band-few (end + 26) (tracked_counts (bins_of s es)) (omega (arith, low)) (most-tracked-few s es) (omega (arith, counted, size)) in
-    let f = strip-few (end + 72) columns (bins_per_column s) (length (bins_of s es)) (omega (arith, low)) size in
+    let f = strip-few false (end + 72) columns (bins_per_column s) (length (bins_of s es)) (omega (arith, low)) size in
     let g = ticks-few s (svg_tick_step s) (end + strip_height columns + 72) (omega (arith, low, strip)) bound in
     let h = legend-few (end + strip_height columns + 104) (omega (arith, low, strip)) in
     omega (
@@ -548,7 +551,7 @@ body-few spacing listed s es columns short few is =
       nine-long
           SYSTEM.now (bands_text gps_names spacing listed (bins_of s es) (outages_of s es)) (never_texts gps_names (bins_of s es) (bands_end spacing (bins_of s es) (length listed) + 18) 0 listed)
           (gaps_band end (gaps_of s es)) (satellites_band (end + 26) (tracked_counts (bins_of s es)))
-          (strip_text (end + 72) columns (bins_per_column s) (length (bins_of s es)))
+          (strip_text false (end + 72) columns (bins_per_column s) (length (bins_of s es)))
           (ticks_text s (svg_tick_step s) (end + strip_height columns + 72)) (svg_legend (end + strip_height columns + 104)) (codes "</svg>\n"),
     )
 

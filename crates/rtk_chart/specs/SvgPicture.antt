@@ -1,6 +1,6 @@
 -- A picture in SVG (this project's rule). Lengths are in units of the picture, which is 1620 wide:
 -- bands begin 110 from the left and 140 from the top, and are 1440 wide.
-use Rattle.std.specs.Prelude.{ℕ, ◌+◌, ◌-◌, ◌*◌, ◌/◌, ◌%◌, ◌==◌, nat_lt, Bool, not, List, [], ◌∷◌, ◌++◌, length, max, map, flat_map, count_by, codes, decimal, Option, None, Some, if◌then◌else◌}
+use Rattle.std.specs.Prelude.{ℕ, ◌+◌, ◌-◌, ◌*◌, ◌/◌, ◌%◌, ◌==◌, nat_lt, Bool, false, not, List, [], ◌∷◌, ◌++◌, length, max, map, flat_map, count_by, codes, decimal, Option, None, Some, if◌then◌else◌}
 use Rattle.std.specs.List.{list_any, range_with_len, sum_by}
 use Rattle.rtk_obs.specs.Reading.{reading_of}
 use Rattle.rtk_obs.specs.CivilText.{civil_text}
@@ -366,7 +366,7 @@ never_end spacing bins listed = bands_end spacing bins listed + 24 * lacked_befo
 unfoldable pub svg_body : Spacing → List (List ℕ) → Scale → List TimeBin → List Bool → List Bool → List Strengths → ℕ → List ℕ
 svg_body spacing listed s bins outages gaps strengths end =
     SYSTEM.now ++ bands_text gps_names spacing listed bins outages ++ never_texts gps_names bins (bands_end spacing bins (length listed) + 18) 0 listed ++ gaps_band end gaps ++ satellites_band (end + 26) (tracked_counts bins)
-    ++ strip_text (end + 72) strengths (bins_per_column s) (length bins)
+    ++ strip_text false (end + 72) strengths (bins_per_column s) (length bins)
     ++ ticks_text s (svg_tick_step s) (end + strip_height strengths + 72) ++ svg_legend (end + strip_height strengths + 104) ++ codes "</svg>\n"
 
 -- formula

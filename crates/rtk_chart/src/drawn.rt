@@ -179,7 +179,8 @@ fn put_group(
     requires names { group.names.before ≤ 67 }
     ensures { OnOk result (HoldsOfMixed table.now.text (λ es. view_of drawn.new ≡ with_group scale.now width choice.now es codes.now group (view_of drawn.old))) }
 {
-    let grid = fill_group(alloc, table, scale, choice, group)?;
+    let mut none = Vec::new(alloc);
+    let grid = fill_group(alloc, table, scale, choice, group, &[], &[], &mut none)?;
     drawn.add_grid(width, codes, group.names, &grid)?;
     Ok(())
 }

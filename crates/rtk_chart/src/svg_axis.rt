@@ -75,7 +75,7 @@ fn put_tick(
     x: u64,
     tick: Option<GpsMs>,
 ) -> Result<(), AllocError>
-    requires top { top ≤ 12_446 }
+    requires top { top ≤ 2_000_000 }
     requires step { 0 < step }
     ensures { OnOk result (text.new.items ≡ text.old.items ++ tick_text top step x tick) }
 {
@@ -106,7 +106,7 @@ fn least_step(bins: u64, bin_ms: u64) -> u64
 /// Appends the ticks of the bins.
 pub(crate) fn put_ticks(text: &mut Vec<u8>, scale: &Scale, top: u64) -> Result<(), AllocError>
     requires good { IsScale scale.now }
-    requires top { top ≤ 12_446 }
+    requires top { top ≤ 2_000_000 }
     ensures { OnOk result (text.new.items ≡ text.old.items ++ ticks_text scale.now (svg_tick_step scale.now) top) }
 {
     let step = tick_step(least_step(scale.bins, scale.bin_ms));

@@ -87,7 +87,7 @@ fn put_line(
     code: [u8; 2],
 ) -> Result<(), AllocError>
     requires names { names.before ≤ 67 }
-    requires top { top ≤ 11_870 }
+    requires top { top ≤ 1_000_000 }
     requires listed { at < 16 }
     ensures { OnOk result (text.new.items ≡ text.old.items ++ never_text names bins.now top at code) }
 {
@@ -109,7 +109,7 @@ fn put_line_if_lacked(
     code: [u8; 2],
 ) -> Result<(), AllocError>
     requires names { names.before ≤ 67 }
-    requires top { top ≤ 11_870 }
+    requires top { top ≤ 1_000_000 }
     requires listed { at < 16 }
     ensures { OnOk result (text.new.items ≡ text.old.items ++ never_if_lacked names bins.now top at code) }
 {
@@ -128,7 +128,7 @@ pub(crate) fn put_never_texts(
     codes: &[[u8; 2]],
 ) -> Result<(), AllocError>
     requires names { names.before ≤ 67 }
-    requires top { top ≤ 11_870 }
+    requires top { top ≤ 1_000_000 }
     requires listed { length codes.now ≤ 16 }
     ensures { OnOk result (text.new.items ≡ text.old.items ++ never_texts names bins.now top 0 codes.now) }
 {

@@ -211,6 +211,7 @@ fn put_body(
     put_strip(
         alloc,
         text,
+        false,
         end + 72,
         strengths,
         scale.bins_per_column(),
