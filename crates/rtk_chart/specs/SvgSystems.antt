@@ -191,14 +191,22 @@ systems_end v = v.top + 24 * v.lines
 abbrev pub strips_height : SvgView → ℕ
 strips_height v = strip_height v.lower + strip_height v.upper
 
+-- the lines of the codes that satellites have nowhere, below the bands
+unfoldable pub never_group : SvgView → List ℕ
+never_group v = number_between (codes "<g transform='translate(0 ") v.top (codes ")'>\n") ++ v.never ++ codes "</g>\n"
+
+-- the strips, so far from the top
+unfoldable pub both_strips : ℕ → Scale → SvgView → List ℕ
+both_strips top s v =
+    strip_text false top v.lower (bins_per_column s) s.bins ++ strip_text true (top + strip_height v.lower) v.upper (bins_per_column s) s.bins
+
 -- formula
 -- what stands below the heading
 unfoldable pub systems_svg_body : Scale → SvgView → List Bool → List ℕ
 systems_svg_body s v gaps =
-    v.bands ++ number_between (codes "<g transform='translate(0 ") v.top (codes ")'>\n") ++ v.never ++ codes "</g>\n"
+    v.bands ++ never_group v
     ++ gaps_band (systems_end v) gaps ++ satellites_band (systems_end v + 26) v.tracked
-    ++ strip_text false (systems_end v + 72) v.lower (bins_per_column s) s.bins
-    ++ strip_text true (systems_end v + 72 + strip_height v.lower) v.upper (bins_per_column s) s.bins
+    ++ both_strips (systems_end v + 72) s v
     ++ ticks_text s (svg_tick_step s) (systems_end v + strips_height v + 72) ++ svg_legend (systems_end v + strips_height v + 104) ++ codes "</svg>\n"
 
 -- formula

@@ -110,7 +110,8 @@ fn put_interval_words(
     text.extend_from_slice(b" s")
 }
 
-fn put_span(text: &mut Vec<u8>, scale: &Scale) -> Result<(), AllocError>
+/// Appends the span of a file with records.
+pub(crate) fn put_span(text: &mut Vec<u8>, scale: &Scale) -> Result<(), AllocError>
     requires { IsScale scale.now }
     ensures { OnOk result (text.new.items ≡ text.old.items ++ svg_span scale.now) }
 {
@@ -123,7 +124,8 @@ fn put_span(text: &mut Vec<u8>, scale: &Scale) -> Result<(), AllocError>
     Ok(())
 }
 
-fn put_counts(
+/// Appends the numbers in the heading.
+pub(crate) fn put_counts(
     text: &mut Vec<u8>,
     records: u64,
     satellites: u64,
@@ -148,7 +150,8 @@ fn put_counts(
     Ok(())
 }
 
-fn put_start(text: &mut Vec<u8>, marker: &[u8], height: u64) -> Result<(), AllocError>
+/// Appends the beginning of a picture so high.
+pub(crate) fn put_start(text: &mut Vec<u8>, marker: &[u8], height: u64) -> Result<(), AllocError>
     ensures { OnOk result (text.new.items ≡ text.old.items ++ svg_start marker.now height) }
 {
     put_between(
@@ -171,7 +174,8 @@ fn put_start(text: &mut Vec<u8>, marker: &[u8], height: u64) -> Result<(), Alloc
     Ok(())
 }
 
-fn put_legend(text: &mut Vec<u8>, top: u64) -> Result<(), AllocError>
+/// Appends the legend, so far from the top.
+pub(crate) fn put_legend(text: &mut Vec<u8>, top: u64) -> Result<(), AllocError>
     ensures { OnOk result (text.new.items ≡ text.old.items ++ svg_legend top) }
 {
     put_between(text, b"<g transform='translate(110 ", top, b")'>\n")?;
