@@ -20,4 +20,5 @@ pub mod SeenLemmas
 pub mod SizeLemmas
 pub mod StrengthLemmas
 pub mod SvgLemmas
+pub mod SvgSystemLemmas
 pub mod WidthLemmas

@@ -96,7 +96,8 @@ pub(crate) fn fill_moments(
     scale: &Scale,
 ) -> Result<Grid, AllocError>
     requires { IsScale scale.now }
-    ensures { IfOk result (λ grid. HoldsOfMixed table.now.text (λ es. StandsForGrid grid scale.now [] (bare_epochs es))) }
+    ensures gaps { IfOk result (λ grid. length grid.gaps.items ≡ scale.now.bins) }
+    ensures grid { IfOk result (λ grid. HoldsOfMixed table.now.text (λ es. StandsForGrid grid scale.now [] (bare_epochs es))) }
 {
     let mut grid = Grid::new(alloc, scale)?;
     let mut bare = EpochTable::new(scale.first);

@@ -151,6 +151,7 @@ impl SvgDrawn {
         ensures { OnOk result (svg_view_of self.new ≡ with_svg_sums listed.now names grid.now upper.now (svg_view_of self.old)) }
         ensures lines { self.new.lines ≤ self.old.lines + 16 }
         ensures top { self.new.top ≡ self.old.top }
+        ensures bins { OnOk result (length self.new.tracked.items ≡ length self.old.tracked.items) }
     {
         let bins = grid.bins.as_slice();
         let counts = tracked_counts(alloc, bins)?;
@@ -184,6 +185,7 @@ impl SvgDrawn {
         ensures drawn { IfOk result (λ drawn. drawn ≡ not (satellites_in grid.now.bins.items == 0)) }
         ensures top { self.new.top ≤ self.old.top + 11_886 }
         ensures lines { self.new.lines ≤ self.old.lines + 16 }
+        ensures bins { OnOk result (length self.new.tracked.items ≡ length self.old.tracked.items) }
     {
         let bins = grid.bins.as_slice();
         if drawn_before(bins, 32) == 0 {
@@ -221,6 +223,7 @@ fn put_group(
     ensures drawn { IfOk result (λ is_drawn. HoldsOfMixed table.now.text (λ es. is_drawn ≡ is_group_drawn scale.now choice.now es group)) }
     ensures top { drawn.new.top ≤ drawn.old.top + 11_886 }
     ensures lines { drawn.new.lines ≤ drawn.old.lines + 16 }
+    ensures bins { OnOk result (length drawn.new.tracked.items ≡ length drawn.old.tracked.items) }
 {
     let listed = names_of(alloc, codes)?;
     let lower = lower_bands(alloc, codes)?;
@@ -266,6 +269,7 @@ fn put_groups(
         ≡ with_second_group scale.now choice.now es system codes.now (second_group system) (with_svg_group scale.now choice.now es system true codes.now (first_group system) (svg_view_of drawn.old)))) }
     ensures top { drawn.new.top ≤ drawn.old.top + 23_772 }
     ensures lines { drawn.new.lines ≤ drawn.old.lines + 32 }
+    ensures bins { OnOk result (length drawn.new.tracked.items ≡ length drawn.old.tracked.items) }
 {
     let first = first_group(system);
     let second = second_group(system);
@@ -296,6 +300,7 @@ fn put_system(
     ensures value { OnOk result (HoldsOfMixed table.now.text (λ es. svg_view_of drawn.new ≡ with_svg_system scale.now choice.now es listed.now system (svg_view_of drawn.old))) }
     ensures top { drawn.new.top ≤ drawn.old.top + 23_772 }
     ensures lines { drawn.new.lines ≤ drawn.old.lines + 32 }
+    ensures bins { OnOk result (length drawn.new.tracked.items ≡ length drawn.old.tracked.items) }
 {
     let own = listed_in(alloc, system, listed)?;
     let codes = own.as_slice();
@@ -319,6 +324,7 @@ pub(crate) fn svg_of_systems(
     ensures value { IfOk result (λ drawn. HoldsOfMixed table.now.text (λ es. svg_view_of drawn ≡ svg_of_systems scale.now choice.now es listed.now)) }
     ensures top { IfOk result (λ drawn. drawn.top ≤ 200_000) }
     ensures lines { IfOk result (λ drawn. drawn.lines ≤ 224) }
+    ensures bins { IfOk result (λ drawn. length drawn.tracked.items ≡ scale.now.bins) }
 {
     let mut all = SvgDrawn::new(alloc, scale.bins)?;
     put_system(alloc, &mut all, table, scale, choice, listed, System::Gps)?;
