@@ -50,6 +50,16 @@ DrawsMixedFile chart file answer bytes =
     ((answer ≡ Written) × HasOfSystems chart.choice file true × IsMixedPicture chart.width chart.choice file bytes)
     ⊎ ((answer ≡ NoneChosen) × HasOfSystems chart.choice file false × (bytes ≡ []))
 
+-- a picture of the choice of a file with other systems
+abbrev pub IsMixedPicture : Option ℕ → Choice → List ℕ → List ℕ → Type 0
+IsMixedPicture None choice file picture = ⊥
+IsMixedPicture (Some width) choice file picture = ShowsSystems choice file width picture
+
+-- a picture of what is chosen of a file
+abbrev pub IsPictureOf : Chart → FileTable → List ℕ → Type 0
+IsPictureOf chart (OfGps t) picture = IsPicture chart.width chart.choice (table_text t) picture
+IsPictureOf chart (OfSystems t) picture = IsMixedPicture chart.width chart.choice (mixed_table_text t) picture
+
 -- the same of a file, whatever its label and its time lines
 abbrev pub DrawsTable : Chart → FileTable → TimeLines → LabelView → FileAnswer → List ℕ → Type 0
 DrawsTable chart (OfGps t) w l answer bytes = DrawsFile chart (table_text t) answer bytes
