@@ -50,11 +50,6 @@ DrawsMixedFile chart file answer bytes =
     ((answer ≡ Written) × HasOfSystems chart.choice file true × IsMixedPicture chart.width chart.choice file bytes)
     ⊎ ((answer ≡ NoneChosen) × HasOfSystems chart.choice file false × (bytes ≡ []))
 
--- a picture of the choice of a file with other systems
-abbrev pub IsMixedPicture : Option ℕ → Choice → List ℕ → List ℕ → Type 0
-IsMixedPicture None choice file picture = ⊥
-IsMixedPicture (Some width) choice file picture = ShowsSystems choice file width picture
-
 -- a picture of what is chosen of a file
 abbrev pub IsPictureOf : Chart → FileTable → List ℕ → Type 0
 IsPictureOf chart (OfGps t) picture = IsPicture chart.width chart.choice (table_text t) picture
