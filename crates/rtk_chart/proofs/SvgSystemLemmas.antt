@@ -1,5 +1,6 @@
 -- The picture in SVG of a file of any systems, from what was read of it.
-use Rattle.std.proofs.Common.{◌≡◌, ◌-◌, ◌==◌, not, ℕ, Bool, true, List, [], ◌∷◌, length, map, Option, Some, None, refl, ap, ◌∙◌, arith}
+use Rattle.std.proofs.Common.{◌≡◌, ◌≢◌, ◌-◌, ◌==◌, not, cond, ℕ, Bool, true, List, [], ◌∷◌, length, map, Option, Some, None, refl, sym, ap, ◌∙◌, arith}
+use Rattle.std.proofs.lemmas.Bool.{eq-eqb, ne_eqb}
 use Rattle.rtk_message.specs.declared.system.System.{System}
 use Rattle.rtk_obs.specs.declared.any_code.AnyCode.{AnyCode}
 use Rattle.rtk_obs.specs.AnyCode.{name_of}
@@ -12,13 +13,14 @@ use Rattle.rtk_chart.specs.Scale.{scale_of}
 use Rattle.rtk_chart.specs.Grid.{bins_of, outages_of, gaps_of}
 use Rattle.rtk_chart.specs.Means.{columns_of}
 use Rattle.rtk_chart.specs.SvgPicture.{svg_of_none}
-use Rattle.rtk_chart.specs.SvgSystems.{SvgView, lower_of, upper_of, with_svg_bins, with_svg_epochs, with_svg_listed, with_second_group, with_svg_group, svg_of_systems, systems_svg, systems_svg_at, systems_svg_of_epochs}
+use Rattle.rtk_chart.specs.SvgSystems.{SvgView, lower_of, upper_of, with_svg_bins, with_svg_epochs, with_svg_listed, with_second_group, with_svg_group, is_group_drawn, svg_of_systems, systems_svg, systems_svg_at, systems_svg_of_epochs}
 use Rattle.rtk_chart.specs.Groups.{first_group, second_group}
 use Rattle.rtk_chart.specs.TextPicture.{satellites_in}
 use Rattle.rtk_chart.specs.Steps.Standing.{StandsForGrid, bare_epochs}
 use Rattle.rtk_chart.specs.Steps.SvgParts.{with_svg_grid}
 use Rattle.rtk_chart.specs.declared.choice.Choice.{Choice}
 use Rattle.rtk_chart.specs.declared.grid.Grid.{Grid}
+use Rattle.rtk_chart.specs.declared.groups.Group.{Group}
 use Rattle.rtk_chart.specs.declared.groups.Names.{Names}
 use Rattle.rtk_chart.specs.declared.scale.Scale.{Scale}
 use Rattle.rtk_chart.specs.declared.strengths.Strengths.{Strengths}
@@ -52,6 +54,24 @@ pub drawn-is : (s : Scale) (bs : List (Option Band)) (grid : Grid) (es : List Ep
 drawn-is s bs grid es stands = ap (λ (x : List TimeBin). not (satellites_in x == 0)) stands.bins
 
 -- ---- a system
+
+-- a second group without satellites
+pub second-none : (s : Scale) (choice : Choice) (es : List EpochTableView) (system : System) (listed : List AnyCode) (g : Group) (v : SvgView) → g ≡ second_group system → g.count ≡ 0
+    → v ≡ with_second_group s choice es system listed (second_group system) v
+second-none s choice es system listed g v is none =
+    let zero : (second_group system).count ≡ 0 = sym (ap (λ (h : Group). h.count) is) ∙ none in
+    sym (ap (λ (b : Bool). cond b v (with_svg_group s choice es system (not (is_group_drawn s choice es (first_group system))) listed (second_group system) v)) (eq-eqb (second_group system).count 0 zero))
+
+-- one with satellites
+pub second-some : (s : Scale) (choice : Choice) (es : List EpochTableView) (system : System) (listed : List AnyCode) (g : Group) (first : Bool) (u v : SvgView)
+    → g ≡ second_group system → g.count ≢ 0 → first ≡ not (is_group_drawn s choice es (first_group system)) → u ≡ v
+    → with_svg_group s choice es system first listed g u ≡ with_second_group s choice es system listed (second_group system) v
+second-some s choice es system listed g first u v is some titled same =
+    let more : (second_group system).count ≢ 0 = λ zero. some (ap (λ (h : Group). h.count) is ∙ zero) in
+    ap (λ (h : Group). with_svg_group s choice es system first listed h u) is
+    ∙ ap (λ (b : Bool). with_svg_group s choice es system b listed (second_group system) u) titled
+    ∙ ap (λ (x : SvgView). with_svg_group s choice es system (not (is_group_drawn s choice es (first_group system))) listed (second_group system) x) same
+    ∙ sym (ap (λ (b : Bool). cond b v (with_svg_group s choice es system (not (is_group_drawn s choice es (first_group system))) listed (second_group system) v)) (ne_eqb (second_group system).count 0 more))
 
 pub svg-not-listed : (s : Scale) (choice : Choice) (es : List EpochTableView) (system : System) (cs codes : List AnyCode) (v : SvgView) → codes ≡ cs → length codes ≡ 0
     → v ≡ with_svg_listed s choice es system cs v
