@@ -24,11 +24,10 @@ abbrev pub fine_rate_of : ℤ → Option ℤ → Option ℤ
 fine_rate_of rough None = None
 fine_rate_of rough (Some fine) = Some (pos 10_000 *ℤ rough +ℤ fine)
 
--- formula
--- the rate, if the rough one and DF404 (-16384 is invalid) are valid
-abbrev pub rate_of : Option ℤ → ℤ → Option ℤ
-rate_of None field = None
-rate_of (Some rough) field = fine_rate_of rough (unless_invalid (negsuc 16_383) field)
+-- the rate, if the rough one and DF404 are valid
+abbrev pub rate_of : Option ℤ → Option ℤ → Option ℤ
+rate_of None fine = None
+rate_of (Some rough) fine = fine_rate_of rough fine
 
 -- formula
 -- the Doppler shift of a rate in 0.0001 m/s on a carrier of f Hz, in thousandths of a Hz: - rate * f / (10 * c), where c
@@ -55,13 +54,13 @@ abbrev pub rough_rate_at : Msm → ℕ → Option ℤ
 rough_rate_at m row = unless_invalid (negsuc 8191) (slice_index_or m.rough_rate row (negsuc 8191))
 
 -- formula
--- the field of the fine rate (DF404) of the k-th cell, or its invalid mark in a kind without rates
-abbrev pub fine_rate_field : Msm → ℕ → ℤ
-fine_rate_field m k = slice_index_or m.fine_rate k (negsuc 16_383)
+-- the fine rate (DF404) of the k-th cell, in 0.0001 m/s, if it is valid; a kind without rates has none
+abbrev pub fine_rate_at : Msm → ℕ → Option ℤ
+fine_rate_at m k = unless_invalid (negsuc 16_383) (slice_index_or m.fine_rate k (negsuc 16_383))
 
 -- the rate of the k-th cell, of the satellite of a row
 abbrev pub rate_at : Msm → ℕ → ℕ → Option ℤ
-rate_at m k row = rate_of (rough_rate_at m row) (fine_rate_field m k)
+rate_at m k row = rate_of (rough_rate_at m row) (fine_rate_at m k)
 
 -- ---- the entries
 

@@ -1,7 +1,7 @@
 //! The Doppler shift of a cell of an MSM5 or MSM7, from the range rates of its fields.
 
 ghost use Rattle.std.specs.Prelude.{◌≡◌, ◌*◌, ◌^◌, ◌<◌, ◌≤◌, pos, negsuc, ◌*ℤ◌, IfSome, unsigned_abs};
-ghost use Rattle.rtk_obs.specs.Doppler.{fine_rate_of, rate_of, doppler_of, doppler_or_none, doppler_on, rough_rate_at, fine_rate_field};
+ghost use Rattle.rtk_obs.specs.Doppler.{fine_rate_of, rate_of, doppler_of, doppler_or_none, doppler_on, rough_rate_at, fine_rate_at};
 ghost use Rattle.rtk_obs.specs.Rounding.{rounded, rounded_magnitude};
 ghost use Rattle.rtk_obs.specs.Scaling.{unless_invalid};
 
@@ -37,14 +37,15 @@ pub(crate) fn rough_rate_at(message: &Msm, row: usize) -> Option<i16>
     unless_no_rate(field, NO_ROUGH_RATE)
 }
 
-/// Returns the field of the fine range rate of a cell (DF404), or its invalid mark in a kind without rates.
-pub(crate) fn fine_rate_field(message: &Msm, cell: usize) -> i16
-    ensures { result ≡ fine_rate_field message.now cell }
+/// Returns the fine range rate of a cell, in 0.0001 m/s (DF404), or `None` in a kind without rates.
+pub(crate) fn fine_rate_at(message: &Msm, cell: usize) -> Option<i16>
+    ensures { result ≡ fine_rate_at message.now cell }
 {
-    match message.fine_rate.as_slice().get(cell) {
+    let field = match message.fine_rate.as_slice().get(cell) {
         Some(field) => *field,
         None => NO_FINE_RATE,
-    }
+    };
+    unless_no_rate(field, NO_FINE_RATE)
 }
 
 // Returns the range rate in 0.0001 m/s, from the rough one in m/s and a fine one, or `None` without a
@@ -59,13 +60,13 @@ fn fine_rate(rough: i16, fine: Option<i16>) -> Option<i64>
     }
 }
 
-// Returns the range rate in 0.0001 m/s, from the rough one in m/s and DF404.
-fn rate(rough: Option<i16>, field: i16) -> Option<i64>
-    ensures value { result ≡ rate_of rough field }
+// Returns the range rate in 0.0001 m/s, from the rough one in m/s and a fine one.
+fn rate(rough: Option<i16>, fine: Option<i16>) -> Option<i64>
+    ensures value { result ≡ rate_of rough fine }
     ensures bound { IfSome result (λ r. unsigned_abs r ≤ 2 ^ 29) }
 {
     match rough {
-        Some(rough) => fine_rate(rough, unless_no_rate(field, NO_FINE_RATE)),
+        Some(rough) => fine_rate(rough, fine),
         None => None,
     }
 }
@@ -111,13 +112,13 @@ fn shift_or_none(frequency: u32, rate: Option<i64>) -> i32
     }
 }
 
-/// Returns the Doppler shift of a cell in thousandths of a Hz, from the rough range rate in m/s and DF404, on a
-/// carrier whose frequency in Hz is known or not. It is 0, which means no value, if one of them is missing.
-pub(crate) fn doppler(frequency: Option<u32>, rough: Option<i16>, field: i16) -> i32
-    ensures { result ≡ doppler_on frequency (rate_of rough field) }
+/// Returns the Doppler shift of a cell in thousandths of a Hz, from the rough range rate in m/s and a fine one in
+/// 0.0001 m/s, on a carrier whose frequency in Hz is known or not. It is 0, which means no value, if one of them is missing.
+pub(crate) fn doppler(frequency: Option<u32>, rough: Option<i16>, fine: Option<i16>) -> i32
+    ensures { result ≡ doppler_on frequency (rate_of rough fine) }
 {
     match frequency {
-        Some(frequency) => shift_or_none(frequency, rate(rough, field)),
+        Some(frequency) => shift_or_none(frequency, rate(rough, fine)),
         None => 0,
     }
 }

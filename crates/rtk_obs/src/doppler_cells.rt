@@ -5,7 +5,7 @@ ghost use Rattle.rtk_message.specs.MsmForm.{IsValid};
 ghost use Rattle.rtk_obs.specs.Doppler.{doppler_entries};
 
 use crate::carrier::Channels;
-use crate::doppler::{doppler, fine_rate_field, rough_rate_at};
+use crate::doppler::{doppler, fine_rate_at, rough_rate_at};
 use crate::msm_cells::set_values;
 use crate::msm_values::rough_range;
 use crate::satellite_index::satellite_in;
@@ -71,8 +71,8 @@ impl<'a> SignalsOfMsm for WithDoppler<'a> {
             return false;
         };
         let frequency = code.carrier().frequency(row.channel);
-        let field = fine_rate_field(self.message, cell);
-        let shift = doppler(frequency, row.rough_rate, field);
+        let fine = fine_rate_at(self.message, cell);
+        let shift = doppler(frequency, row.rough_rate, fine);
         entry.satellite = row.satellite;
         entry.code = code;
         entry.doppler_millihertz = shift;
