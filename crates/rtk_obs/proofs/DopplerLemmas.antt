@@ -113,8 +113,7 @@ differ-msm channels m valid =
 
 kind-msm : (channels : List (Option ℤ)) (m : Msm) → EntriesAreOfOneKind (doppler_entries channels m)
 kind-msm channels m =
-    let kind = entries_of-kind channels (any.Msm m) in
-    (
+    let kind = entries_of-kind channels (any.Msm m) in (
       kind.0,
       all-with-shifts (IsOfKind kind.0) (λ e p. p) (doppler_entries channels m)
           (subst (λ (es : List SignalEntry). All (IsOfKind kind.0) es) (plain-entries channels m) kind.1),

@@ -84,7 +84,8 @@ fn shift_magnitude(frequency: u32, n: u64) -> u64
 // Returns the whole number nearest to speed * f / (10 * c), where f is a frequency in Hz. A tie goes away from 0.
 fn scaled_speed(frequency: u32, speed: i64) -> i32
     requires { unsigned_abs speed ≤ 2 ^ 29 }
-    ensures { result ≡ rounded (speed *ℤ pos frequency) TEN_LIGHTS }
+    ensures value { result ≡ rounded (speed *ℤ pos frequency) TEN_LIGHTS }
+    ensures bound { unsigned_abs result < 2 ^ 30 }
 {
     if speed < 0 {
         return -(shift_magnitude(frequency, speed.unsigned_abs()) as i32);
@@ -96,7 +97,8 @@ fn scaled_speed(frequency: u32, speed: i64) -> i32
 // of a Hz.
 fn shift(frequency: u32, rate: i64) -> i32
     requires { unsigned_abs rate ≤ 2 ^ 29 }
-    ensures { result ≡ doppler_of frequency rate }
+    ensures value { result ≡ doppler_of frequency rate }
+    ensures bound { unsigned_abs result < 2 ^ 30 }
 {
     scaled_speed(frequency, -rate)
 }
@@ -104,7 +106,8 @@ fn shift(frequency: u32, rate: i64) -> i32
 // Returns the Doppler shift of a range rate, or 0 without one.
 fn shift_or_none(frequency: u32, rate: Option<i64>) -> i32
     requires { IfSome rate (λ r. unsigned_abs r ≤ 2 ^ 29) }
-    ensures { result ≡ doppler_or_none frequency rate }
+    ensures value { result ≡ doppler_or_none frequency rate }
+    ensures bound { unsigned_abs result < 2 ^ 30 }
 {
     match rate {
         Some(rate) => shift(frequency, rate),
@@ -115,7 +118,8 @@ fn shift_or_none(frequency: u32, rate: Option<i64>) -> i32
 /// Returns the Doppler shift of a cell in thousandths of a Hz, from the rough range rate in m/s and a fine one in
 /// 0.0001 m/s, on a carrier whose frequency in Hz is known or not. It is 0, which means no value, if one of them is missing.
 pub(crate) fn doppler(frequency: Option<u32>, rough: Option<i16>, fine: Option<i16>) -> i32
-    ensures { result ≡ doppler_on frequency (rate_of rough fine) }
+    ensures value { result ≡ doppler_on frequency (rate_of rough fine) }
+    ensures bound { unsigned_abs result < 2 ^ 30 }
 {
     match frequency {
         Some(frequency) => shift_or_none(frequency, rate(rough, fine)),

@@ -87,8 +87,8 @@ pub use glonass_time::GlonassTime;
 pub use laws::{
     any_code_laws, cell_laws, cells_are_distinct, cells_are_in_range, civil_laws, clock_laws,
     code_laws, date_in_day_is_unique, date_is_unique, doppler_laws, entry_laws, leap_laws,
-    moment_laws, normal_field_laws, one_reading, places_are_distinct, position_laws, rounded_is_unique,
-    satellite_laws, sbas_laws, signal_laws, track_laws, tracks_laws,
+    moment_laws, normal_field_laws, one_reading, places_are_distinct, position_laws,
+    rounded_is_unique, satellite_laws, sbas_laws, signal_laws, track_laws, tracks_laws,
 };
 pub use leap_seconds::leap_seconds_at;
 pub use legacy_cells::{cells_1004, put_cells_1004};
