@@ -5,6 +5,6 @@ use Rattle.rtk_rinex.proofs.record_lines.RecordLines.put_codes.Given as goal
 
 abbrev pub invariant-loop-place : goal.invariant-loop-place
 invariant-loop-place l = record {
-  line : HasOpenLine l.self (take l.place l.observed ++ replicate (length l.observed - l.place) no_observation);
+  line : HasOpenLine false l.self (take l.place l.observed ++ replicate (length l.observed - l.place) no_observation);
   lines : KeepsLines l.fn.self l.self;
 }
