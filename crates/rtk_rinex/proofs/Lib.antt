@@ -42,6 +42,7 @@ mod GpsHeaderLemmas
 mod GpsRecordLemmas
 mod MixedRecordLemmas
 mod SatelliteRangeLemmas
+mod MixedCodeLemmas
 mod MixedRowLemmas
 mod MixedCountLemmas
 mod MixedCheckLemmas
