@@ -10,11 +10,11 @@ use Rattle.rtk_rinex.specs.Columns.{left}
 use Rattle.rtk_rinex.specs.Lines.{HasNoEnd}
 use Rattle.rtk_rinex.specs.Record.{is_present, observation, observations, observations_with_doppler, code_text, code_width, has_observation, has_observation_or_doppler, is_shown, lli_digit, strength_digit, strength_value}
 use Rattle.rtk_rinex.specs.Table.{IsObserved, IsObservedWithDoppler, IsObservedIn}
-use Rattle.rtk_rinex.proofs.CellLemmas.{one_value, or-none, and-left, and-right, solid-value, solid-cell, no_more, left-nil}
+use Rattle.rtk_rinex.proofs.CellLemmas.{one_value, or-none, and-left, and-right, solid-value, solid-cell, no_more, left-nil, drop_more}
 use Rattle.rtk_rinex.proofs.DigitsLemmas.{take-exact, drop-exact}
 use Rattle.rtk_rinex.proofs.LineLemmas.{IsNoEnd, both, of_observation, of_observations, strength_is, lli_is}
 use Rattle.rtk_rinex.proofs.ValuesLemmas.{are_blanks, are_blanks-append, code_shown, observed_of-observations, length-observation}
-use Rattle.rtk_rinex.proofs.WrittenLemmas.{length-code, blank-code, more-width}
+use Rattle.rtk_rinex.proofs.WrittenLemmas.{length-code, blank-code, no-width, more-width}
 
 -- ---- a code with its shift
 
@@ -197,3 +197,23 @@ module _ (doppler : Bool) where
   solid-codes [] h e = cc
   solid-codes (o ∷ os) h e =
       solid-if o os (is_shown doppler o) refl (All-head (IsObservedIn doppler) o os h) e (λ more. solid-codes os (All-tail (IsObservedIn doppler) o os h) more)
+
+  -- the columns of the code after k codes, where they were read
+  pub code-at : (k w : ℕ) (columns read : List ℕ) → w ≡ code_width doppler → read ≡ take w (drop (w * k) columns) → read ≡ take (code_width doppler) (drop (code_width doppler * k) columns)
+  code-at k w columns read e is = is ∙ ap (λ (n : ℕ). take n (drop (n * k) columns)) e
+
+  -- the columns after one more code
+  pub next-place : (k : ℕ) (columns : List ℕ) → drop (code_width doppler * (k + 1)) columns ≡ drop (code_width doppler) (drop (code_width doppler * k) columns)
+  next-place k columns =
+      let one : k + 1 ≡ suc k = omega arith in
+      let places : code_width doppler * (k + 1) ≡ code_width doppler * k + code_width doppler = ap (λ (n : ℕ). code_width doppler * n) one ∙ more-width doppler k ∙ omega arith in
+      ap (λ (n : ℕ). drop n columns) places ∙ drop_more (code_width doppler * k) (code_width doppler) columns
+
+  -- no columns are left after those of all codes
+  pub no-codes-left : (n k : ℕ) (columns : List ℕ) → length columns ≤ code_width doppler * n → k ≡ n → left (code_width doppler * (n - k)) (drop (code_width doppler * k) columns) ≡ []
+  no-codes-left n k columns few e =
+      let none : n - k ≡ 0 = omega (arith, e) in
+      let short : length columns ≤ code_width doppler * k = rw e few in
+      ap (λ (m : ℕ). left (code_width doppler * m) (drop (code_width doppler * k) columns)) none
+      ∙ ap (λ (m : ℕ). left m (drop (code_width doppler * k) columns)) (no-width doppler)
+      ∙ ap (left 0) (no_more (code_width doppler * k) columns short) ∙ left-nil 0

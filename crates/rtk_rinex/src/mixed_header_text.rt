@@ -153,16 +153,12 @@ pub(crate) fn put_types_of(
     if codes.len() == 0 {
         return;
     }
+    let count = types_count(doppler) * codes.len();
     let types = types_text(doppler, codes);
     let text = types.as_slice();
     put_header_line(
         out,
-        types_content(
-            system,
-            types_count(doppler) * codes.len(),
-            front(text, 52),
-        )
-        .as_slice(),
+        types_content(system, count, front(text, 52)).as_slice(),
         TYPES,
     );
     put_continuation_line(out, after(text, 52));

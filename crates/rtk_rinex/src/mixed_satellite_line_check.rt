@@ -25,7 +25,8 @@ pub(crate) fn satellite_of_mixed_form(line: &[u8], form: &RecordForm) -> Option<
 {
     let satellite = satellite_named(front(line, 3))?;
     let codes = form.width(satellite);
-    if codes == 0 || line.len() > 4 + code_columns(form.has_doppler()) * codes {
+    let most = code_columns(form.has_doppler()) * codes;
+    if codes == 0 || line.len() > 4 + most {
         return None;
     }
     if line[line.len() - 2] == b' ' {
@@ -62,7 +63,8 @@ fn are_mixed_cells(columns: &[u8], code_count: usize, doppler: bool, phases: boo
 {
     let width = code_columns(doppler);
     for k in 0..code_count {
-        if !is_mixed_cell(columns_at(columns, width * k, width), doppler, phases) {
+        let at = width * k;
+        if !is_mixed_cell(columns_at(columns, at, width), doppler, phases) {
             return false;
         }
     }

@@ -56,7 +56,8 @@ pub(crate) fn read_cells_in(
     let width = code_columns(doppler);
     observed.clear();
     for k in 0..code_count {
-        let Some(shown) = shown_cell_in(doppler, columns_at(columns, width * k, width)) else {
+        let at = width * k;
+        let Some(shown) = shown_cell_in(doppler, columns_at(columns, at, width)) else {
             unreachable!();
         };
         observed.push(shown);
