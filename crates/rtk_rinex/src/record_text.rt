@@ -138,6 +138,16 @@ fn put_doppler(field: &mut [u8], shift: Option<i64>)
     put_any_observation(field, shift, b' ', b' ');
 }
 
+// Writes a Doppler shift and a signal strength over 32 blanks.
+fn put_last_columns(columns: &mut [u8], observed: &Observed)
+    requires blank { columns.old ≡ replicate 32 32 }
+    ensures value { columns.new ≡ observation observed.now.doppler_millihertz 32 32 ++ observation (strength_value observed.now.strength_millidbhz) 32 32 }
+    ensures len { length columns.new ≡ 32 }
+{
+    put_doppler(&mut columns[..16], observed.doppler_millihertz);
+    put_strength(&mut columns[16..], observed.strength_millidbhz);
+}
+
 /// Writes the columns of a code in a file with Doppler shifts over 64 blanks.
 pub(crate) fn put_doppler_columns(columns: &mut [u8], observed: &Observed)
     requires blank { columns.old ≡ replicate 64 32 }
@@ -152,8 +162,7 @@ pub(crate) fn put_doppler_columns(columns: &mut [u8], observed: &Observed)
         lock,
         digit,
     );
-    put_doppler(&mut columns[32..48], observed.doppler_millihertz);
-    put_strength(&mut columns[48..], observed.strength_millidbhz);
+    put_last_columns(&mut columns[32..], observed);
 }
 
 // Returns whether two blanks stand at the end and no third one, as at the end of the columns of a
