@@ -59,6 +59,7 @@ mod SlotsReadLemmas
 mod SystemLinesLemmas
 mod SystemOrderLemmas
 mod SystemsReadLemmas
+mod FlagLemmas
 mod SlotsLinesLemmas
 mod MixedPartsLemmas
 mod GlonassReadLemmas

@@ -14,7 +14,7 @@ use Rattle.rtk_rinex.specs.declared.epoch_table.Observed.{Observed}
 use Rattle.rtk_rinex.specs.declared.epoch_table.SatelliteRow.{SatelliteRow}
 use Rattle.rtk_obs.specs.Reading.{reading_of}
 use Rattle.rtk_rinex.specs.Record.{EpochTableView, IsStrengthOrNone, is_present, is_written, code_text, is_shown, has_line_in, trim_end}
-use Rattle.rtk_rinex.specs.Table.{IsObservedIn, StartsAt, shown_value, shown_with_doppler, shown_in, shown_row_in, shown_epoch_in}
+use Rattle.rtk_rinex.specs.Table.{IsObservedIn, StartsAt, shown_value, shown_in, shown_row_in, shown_epoch_in}
 use Rattle.rtk_rinex.specs.MixedHead.{MixedHeadView}
 use Rattle.rtk_rinex.specs.MixedHeader.{codes_of, mixed_header_text}
 use Rattle.rtk_rinex.specs.MixedRecord.{mixed_satellite_line, mixed_lines_of, mixed_record_text}

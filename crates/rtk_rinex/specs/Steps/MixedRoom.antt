@@ -22,3 +22,8 @@ codes_before_letter l = if l == 71 then 0 else if l == 82 then 16 else if l == 6
 abbrev pub types_line_count : Bool → ℕ → ℕ
 types_line_count false n = (12 * n + 51) / 52
 types_line_count true n = (16 * n + 51) / 52
+
+-- the lines of the observation types of all systems are at most 18, or 24 with Doppler shifts, of 81 characters
+abbrev pub all_types_room : Bool → ℕ
+all_types_room false = 1458
+all_types_room true = 1944
