@@ -220,7 +220,7 @@ all_shown : (doppler : Bool) (i n k : ℕ) → i < n → k ≡ types_line_count 
 all_shown false i n k lt e = omega (arith, lt, e)
 all_shown true i n k lt e = omega (arith, lt, e)
 
-small_count : (m : ℕ) → m ≤ 64 → m < 2 ^ 64
+pub small_count : (m : ℕ) → m ≤ 64 → m < 2 ^ 64
 small_count m h = omega arith
 
 -- ---- in a file with Doppler shifts, or without them

@@ -1,10 +1,10 @@
 -- A header of any systems is read back from its parts.
-use Rattle.std.proofs.Common.{◌≡◌, ◌∙◌, ◌++◌, ◌<◌, ◌%◌, ℕ, Bool, List, [], ◌∷◌, length, drop, codes, ap, sym, refl, subst, arith, ℤ, pos, Option, append_assoc, length-append}
+use Rattle.std.proofs.Common.{◌≡◌, ◌∙◌, ◌++◌, ◌<◌, ◌%◌, ℕ, Bool, List, [], ◌∷◌, length, drop, codes, ap, sym, refl, subst, ℤ, pos, Option, append_assoc}
 use Rattle.rtk_obs.specs.declared.any_code.AnyCode.{AnyCode}
-use Rattle.rtk_rinex.specs.Columns.{left, fixed}
-use Rattle.rtk_rinex.specs.Header.{PositionView, IsMarker, IsPositionView, header_line, unit_line, made_text, first_text, made_line, marker_line, place_line, height_line, first_line}
+use Rattle.rtk_rinex.specs.Columns.{fixed}
+use Rattle.rtk_rinex.specs.Header.{PositionView, IsMarker, IsPositionView, made_text, first_text, made_line, marker_line, place_line, height_line, first_line}
 use Rattle.rtk_rinex.specs.MixedHead.{MixedHeadView, GlonassView, TellsGlonass}
-use Rattle.rtk_rinex.specs.MixedHeader.{version_letter, mixed_version_line, system_types_lines, phase_shift_line, by_system, glonass_lines, unknown_lines}
+use Rattle.rtk_rinex.specs.MixedHeader.{version_letter, mixed_version_line, phase_shift_line, by_system, glonass_lines, unknown_lines}
 use Rattle.rtk_obs.specs.Reading.{IsMoment, reading_of}
 use Rattle.rtk_rinex.specs.Steps.HeaderShown.{StartsWith}
 use Rattle.rtk_rinex.specs.Steps.MixedHeaderRead.{Reads, shows_doppler, types_and_unit, IsListOf}
@@ -13,6 +13,7 @@ use Rattle.rtk_rinex.proofs.FlagLemmas.{flag_read, types_flag}
 use Rattle.rtk_rinex.proofs.HeaderGoodLemmas.{of_made, of_first}
 use Rattle.rtk_rinex.proofs.MixedListLemmas.{HaveOnePlace}
 use Rattle.rtk_rinex.proofs.MixedPartsLemmas.{MixedValues, IsGoodMixed, mixed_text, end_line, all_mixed, all_is, from_made, from_marker, from_unknown, from_place, from_height, from_types, from_first, from_shift, from_glonass, from_end, file_letter, of_version, of_marker, of_place, of_height, whole_unknown, whole_types, whole_shifts, whole_glonass}
+use Rattle.rtk_rinex.proofs.SystemLinesLemmas.{types_from, starts_from}
 use Rattle.rtk_rinex.proofs.TextPartLemmas.{whole_line, reads_then, reads_fixed, reads_known, reads_line, reads_at, reads_from}
 
 -- what each part shows where it is read, and where the parts are put
@@ -141,11 +142,10 @@ read_first text file v o p put read next =
 
 -- the lines of the types are not empty
 some_types : (doppler : Bool) (cs : List AnyCode) → types_and_unit doppler cs ≡ [] → ⊥
-unfolding header_line left
 some_types doppler cs e =
-    let n = ap length e in
-    let m = length-append (by_system (system_types_lines doppler) cs) unit_line in
-    absurd (omega (arith, n, m))
+    let starts = starts_from doppler (codes "GRECJSI") cs in
+    let some : starts.char ∷ starts.rest ≡ [] = sym starts.is ∙ sym (types_from doppler cs) ∙ e in
+    absurd (cc)
 
 -- the types of one file, read with the flag that they show
 read_flagged : (text : List ℕ) (file : ℕ) (v : MixedValues) (o : List ℕ) → HaveOnePlace → v.head.doppler ≡ shows_doppler (drop (length o) text)

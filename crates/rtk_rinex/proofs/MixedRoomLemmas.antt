@@ -146,6 +146,10 @@ seven_rooms doppler g r e b j s i p q t u v w x =
     let l = more_lines doppler i 1 x in
     omega (arith, m, a, c, d, f, h, k, l)
 
+pub whole_room : (doppler : Bool) → 2025 + all_types_room doppler ≡ (if doppler then 3969 else 3483)
+whole_room false = refl
+whole_room true = refl
+
 pub all_room : (doppler : Bool) → all_types_room doppler ≤ 1944
 all_room false = omega arith
 all_room true = omega arith

@@ -6,7 +6,7 @@ ghost use Rattle.rtk_rinex.specs.Columns.{right};
 ghost use Rattle.rtk_rinex.specs.Header.{header_line, position_view};
 ghost use Rattle.rtk_rinex.specs.MixedHead.{IsMixedList};
 ghost use Rattle.rtk_rinex.specs.MixedHeader.{version_letter, mixed_version_line, codes_of, three_types, four_types, code_types, types_count, types_text, system_types_lines, phase_shift_line, by_system, channel_text, slot_text, slots_text, further_slots_line, slots_lines, biases_line, leap_line, glonass_lines, mixed_header_text};
-ghost use Rattle.rtk_rinex.specs.Steps.MixedRoom.{types_line_count};
+ghost use Rattle.rtk_rinex.specs.Steps.MixedRoom.{types_line_count, all_types_room};
 
 use crate::columns::{append, integer_3, integer_6, put_last_digits};
 use crate::digits::{after, front};
@@ -178,6 +178,7 @@ pub(crate) fn put_system_types_lines(
     requires room { length out.old.items + 405 ≤ 3969 }
     ensures items { out.new.items ≡ out.old.items ++ system_types_lines doppler system (codes_of system listed.now) }
     ensures lines { length out.new.items ≤ length out.old.items + 81 * types_line_count doppler (length (codes_of system listed.now)) }
+    ensures room { length out.new.items ≤ length out.old.items + 405 }
     ensures few { length (codes_of system listed.now) ≤ 16 }
 {
     // A law: a place belongs to one code of a system, and is below 16.
@@ -194,7 +195,8 @@ pub(crate) fn put_all_types_lines(
     requires listed { IsMixedList listed.now }
     requires room { length out.old.items + 2835 ≤ 3969 }
     ensures items { out.new.items ≡ out.old.items ++ by_system (system_types_lines doppler) listed.now }
-    ensures len { length out.new.items ≤ length out.old.items + 1944 }
+    ensures len { length out.new.items ≤ length out.old.items + all_types_room doppler }
+    ensures room { length out.new.items ≤ length out.old.items + 2835 }
 {
     // A law: a place belongs to one code of a system.
     any_code_laws();
@@ -389,7 +391,8 @@ fn mixed_header_lines(
     position: &Position,
     first: GpsMs,
 ) -> ArrayVec<u8, LONGEST_MIXED_HEADER>
-    ensures { result.items ≡ mixed_header_text head.now (position_view position.now) first }
+    ensures value { result.items ≡ mixed_header_text head.now (position_view position.now) first }
+    ensures few { length result.items ≤ (if head.now.doppler then 3969 else 3483) }
 {
     let mut out = ArrayVec::new();
     put_mixed_version_line(&mut out, version_letter(head.codes()));
@@ -407,6 +410,13 @@ fn mixed_header_lines(
     out
 }
 
+// Returns the bytes of the longest header of a file with Doppler shifts, or without them.
+fn longest_header(doppler: bool) -> usize
+    ensures { result ≡ (if doppler then 3969 else 3483) }
+{
+    if doppler { LONGEST_MIXED_HEADER } else { 3483 }
+}
+
 /// Returns the header of a file of this head, whose first observation is at `first`, as `header` does
 /// for GPS.
 ///
@@ -419,10 +429,10 @@ pub fn mixed_header(
 ) -> Result<Vec<u8>, AllocError>
     // Fails only if memory is refused: tests/system/calls, rows `mixed_header ..`.
     ensures value { IfOk result (λ text. text.items ≡ mixed_header_text head.now (position_view position.now) first) }
-    ensures few { IfOk result (λ text. length text.items ≤ 3969) }
+    ensures few { IfOk result (λ text. length text.items ≤ (if head.now.doppler then 3969 else 3483)) }
 {
     let lines = mixed_header_lines(head, position, first);
-    let mut out = Vec::with_capacity(alloc, LONGEST_MIXED_HEADER)?;
+    let mut out = Vec::with_capacity(alloc, longest_header(head.has_doppler()))?;
     out.extend_from_slice(lines.as_slice())?;
     Ok(out)
 }

@@ -189,6 +189,7 @@ fn read_system(
     ensures reads { ReadsSystem doppler text.now file system listed.old.items listed.new.items out.old.items out.new.items }
     ensures few { length listed.new.items ≤ codes_before_letter system + codes_of_letter system }
     ensures lines { length out.new.items ≤ length out.old.items + 81 * types_line_count doppler (codes_of_letter system) }
+    ensures room { length out.new.items ≤ length out.old.items + 405 }
 {
     let rest = after(text, out.len());
     let begins = begins_with(rest, system);
