@@ -33,7 +33,7 @@ use rtk_streams::{
     Beside, Digest, FAILED, NOT_VALID, Quiet, ToolFault, Unbroken, fail, is_there, let_go,
     make_beside, name_whole,
 };
-use rtk_survey::Target;
+use rtk_survey::{DatingSystems, Target};
 use std::alloc::{AllocError, Global};
 use std::cell::Cell;
 use std::env::Env;
@@ -343,6 +343,7 @@ fn begin<'a, R: Env + Clock + Files + Input + Eprint + AllocGlobal, W: Write>(
     let made = made_at(rt, words.made)?;
     let target = Target {
         station: words.wanted.station.map(Station::number),
+        systems: DatingSystems::all(),
         present: made.moment(),
     };
     let as_given = words.ways.links_as_given;

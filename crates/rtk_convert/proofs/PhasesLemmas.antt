@@ -7,7 +7,9 @@ use Rattle.std.proofs.lemmas.Bool.Decides.{nat_tests}
 use Rattle.std.proofs.lemmas.List.Elements.{All-nil, All-cons, All-append, All-map, All-weaker}
 use Rattle.rtk_message.specs.declared.any_message.AnyMessage.{AnyMessage as Message}
 use Rattle.rtk_message.specs.declared.any_message.AnyMessage.TheVariants as any
+use Rattle.rtk_message.specs.declared.message.Message.TheVariants.{Obs1004, Arp1005, Arp1006, Msm1074}
 use Rattle.rtk_message.specs.declared.msm.Msm.{Msm}
+use Rattle.rtk_message.specs.declared.obs1004.Satellite.{Satellite}
 use Rattle.rtk_message.specs.declared.obs1012.GlonassSatellite.{GlonassSatellite}
 use Rattle.rtk_message.specs.declared.system.System.{System}
 use Rattle.rtk_message.specs.declared.system.System.TheVariants.{Gps, Glonass, Galileo, Beidou, Qzss, Sbas, Navic}
@@ -23,12 +25,15 @@ use Rattle.rtk_obs.specs.Mask.{join_from}
 use Rattle.rtk_obs.specs.MessageCells.{cells_of}
 use Rattle.rtk_obs.specs.MsmCells.{Slot, cell_on, slots_of}
 use Rattle.rtk_obs.specs.SatelliteIndex.{bit_at, index_in, is_taken, satellites_before, satellites_of_system, system_at}
+use Rattle.rtk_obs.specs.SbasCells.{entries_with_sbas}
 use Rattle.rtk_obs.specs.Signals.{code_in}
 use Rattle.rtk_obs.specs.SignalCells.{bit_of_row, channel_in, entries_of, entry_if, field_of_row, signal_entry, signal_of}
 use Rattle.rtk_obs.proofs.PublicLaws.{cells_of-satellites}
+use Rattle.rtk_collect.specs.Signals.{entries_by}
 use Rattle.rtk_rinex.specs.MixedForm.{form_of_head, has_channel, has_phases, phases_in}
 use Rattle.rtk_rinex.specs.MixedHead.{GlonassView, MixedHeadView}
 use Rattle.rtk_setup.specs.Setup.{channels_of}
+use Rattle.rtk_convert.proofs.SignalsOf1004Lemmas.{each-signal, sbas_entry}
 use Rattle.rtk_convert.proofs.SystemLemmas.{at-gps, in-system}
 
 le-of : (a b : ℕ) → nat_le a b ≡ true → a ≤ b
@@ -195,9 +200,25 @@ module _ (h : MixedHeadView) where
   of-gps e is = of-another (signal_of e) Gps (at-gps e.satellite is.1) (λ q. cc)
 
   -- no cell of a message has a phase without the channel of its slot
-  pub entries-phases : (m : Message) → All HasPhase (entries_of (channels_of h.glonass) m)
+  entries-phases : (m : Message) → All HasPhase (entries_of (channels_of h.glonass) m)
   entries-phases (any.Message m) =
       All-map HasPhase signal_of (cells_of (any.Message m))
       (All-weaker (λ (e : CellEntry). IsSatellite e.satellite) (λ (e : CellEntry). HasPhase (signal_of e)) of-gps (cells_of (any.Message m)) (cells_of-satellites (any.Message m)))
   entries-phases (any.Msm m) = of-slots m 0 (slots_of m.header m.cell_mask)
   entries-phases (any.Obs1012 m) = of-satellites (first_of_slots m.satellites)
+
+  -- nor with those of SBAS in a 1004
+  of-sbas : (s : Satellite) (bit : ℕ) → is_taken Sbas bit ≡ true → HasPhase (sbas_entry s bit)
+  of-sbas s bit taken = of-another (sbas_entry s bit) Sbas (system-of Sbas bit taken) (λ q. cc)
+
+  with-sbas : (m : Message) → All HasPhase (entries_with_sbas (channels_of h.glonass) m)
+  with-sbas (any.Message (Obs1004 m)) = each-signal HasPhase of-gps of-sbas m.satellites
+  with-sbas (any.Message (Arp1005 m)) = entries-phases (any.Message (Arp1005 m))
+  with-sbas (any.Message (Arp1006 m)) = entries-phases (any.Message (Arp1006 m))
+  with-sbas (any.Message (Msm1074 m)) = entries-phases (any.Message (Msm1074 m))
+  with-sbas (any.Msm m) = entries-phases (any.Msm m)
+  with-sbas (any.Obs1012 m) = entries-phases (any.Obs1012 m)
+
+  pub phases-by : (sbas : Bool) (m : Message) → All HasPhase (entries_by sbas (channels_of h.glonass) m)
+  phases-by true m = with-sbas m
+  phases-by false m = entries-phases m

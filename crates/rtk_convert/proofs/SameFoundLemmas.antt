@@ -43,7 +43,7 @@ use Rattle.rtk_convert.specs.FileOfArrivals.{site_of_stations, site_of_kept, kep
 use Rattle.rtk_convert.specs.Finish.{all_counts, missing_letter, missing_letters, missing_lines, unphased_lines, remark_lines, report_of}
 use Rattle.rtk_convert.specs.FrameClass.{IsDatedMessage, IsEpochOf, IsClassOfReading, IsClassOfPayload, Found, arrivals}
 use Rattle.rtk_convert.specs.History.{Finds, newest_on}
-use Rattle.rtk_convert.specs.Report.{brings, class_lines, frame_lines, has_taken, is_of, is_taken, lines, counted_as, one_frame_more, frame_counts}
+use Rattle.rtk_convert.specs.Report.{brings, brings_sbas, class_lines, frame_lines, has_taken, is_of, is_of_sbas, is_taken, lines, counted_as, one_frame_more, frame_counts}
 use Rattle.rtk_convert.specs.ReportText.{missing_line}
 use Rattle.rtk_setup.specs.Counts.{count_lines}
 use Rattle.rtk_convert.specs.Rows.{rolling_frequency, cell_at, and_below, last_phase_of, observed_after, observed_at}
@@ -181,7 +181,8 @@ lines-same s link a first second alike =
     ]
 
 brings-same : (s : SetupView) (system : System) (a : Arrival) (first second : List Arrival) → AnsweredAlike (cells_by s) s.window a first second → brings s system (Dated a) first ≡ brings s system (Dated a) second
-brings-same s system a first second alike = ap (λ (c : Class). is_of system (message_of a) && is_taken c) alike.same_class
+brings-same s system a first second alike =
+    ap (λ (c : Class). (is_of system (message_of a) && is_taken c) || (is_of_sbas (brings_sbas s (message_of a)) system && is_taken c)) alike.same_class
 
 -- ---- a frame
 

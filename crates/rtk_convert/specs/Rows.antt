@@ -1,18 +1,16 @@
 -- The table of an epoch, given the epochs below it. Lists of epochs fall: the greatest stands
 -- first.
-use Rattle.std.specs.Prelude.{ℕ, zero, suc, Bool, false, ◌&&◌, ◌==◌, nat_lt, List, [], ◌∷◌, ◌++◌, map, filter, Option, Some, None, is_some, if◌then◌else◌, ℤ}
+use Rattle.std.specs.Prelude.{ℕ, zero, suc, Bool, false, ◌&&◌, ◌==◌, List, [], ◌∷◌, ◌++◌, map, filter, Option, Some, None, is_some, if◌then◌else◌, ℤ}
 use Rattle.std.specs.List.{list_any}
 use Rattle.rtk_obs.specs.declared.any_code.AnyCode.{AnyCode}
 use Rattle.rtk_obs.specs.declared.cell.Cell.{Cell}
 use Rattle.rtk_obs.specs.declared.cell.CellSource.TheVariants.{Legacy, Msm}
-use Rattle.rtk_obs.specs.declared.code.Band.{Band}
-use Rattle.rtk_obs.specs.declared.code.Band.TheVariants.{L1, L2, L5}
 use Rattle.rtk_obs.specs.declared.signal_cells.SignalEntry.{SignalEntry}
 use Rattle.rtk_obs.specs.declared.track.Track.{Track}
 use Rattle.rtk_obs.specs.declared.track.Digits.{Digits}
-use Rattle.rtk_obs.specs.AnyCode.{number_of, place_of}
+use Rattle.rtk_obs.specs.AnyCode.{number_of, carrier_of}
+use Rattle.rtk_obs.specs.Carriers.{roll_frequency}
 use Rattle.rtk_obs.specs.SatelliteIndex.{letter_of, system_at}
-use Rattle.rtk_obs.specs.Code.{frequency_of}
 use Rattle.rtk_obs.specs.Slip.{EpochCell, epoch_cell}
 use Rattle.rtk_obs.specs.Rollover.{last_phase, digits_since, rolled_phase}
 use Rattle.rtk_collect.specs.EpochSet.{EpochSetView, is_from}
@@ -24,7 +22,7 @@ use Rattle.rtk_rinex.specs.Record.{EpochTableView}
 
 -- ---- the cell of a satellite and code (this project's rule)
 
--- the cells of an epoch: first the cells of an MSM, then the cells of a 1004
+-- the cells of an epoch: first the cells of an MSM, then the cells of a 1004 or a 1012
 abbrev pub in_turn : List SignalEntry → List SignalEntry
 in_turn cells = filter (is_from signals Msm) cells ++ filter (is_from signals Legacy) cells
 
@@ -37,7 +35,7 @@ first_cell [] satellite code = None
 first_cell (e ∷ cells) satellite code = if is_signal satellite code e then Some e.cell else first_cell cells satellite code
 
 -- the cell of a satellite and code at an epoch: the cell of an MSM, even one without any value,
--- else the cell of a 1004
+-- else the cell of a 1004 or a 1012
 abbrev pub cell_at : List SignalEntry → ℕ → AnyCode → Option Cell
 cell_at cells satellite code = first_cell (in_turn cells) satellite code
 
@@ -50,15 +48,9 @@ abbrev pub cells_at_epochs : List (EpochSetView SignalEntry) → ℕ → AnyCode
 cells_at_epochs [] satellite code = []
 cells_at_epochs (e ∷ below) satellite code = and_below e.epoch (cell_at e.cells satellite code) (cells_at_epochs below satellite code)
 
--- table
--- the band of the code of GPS with this place
-abbrev pub band_at : ℕ → Band
-band_at place = if nat_lt place 6 then L1 else if nat_lt place 13 then L2 else L5
-
--- the frequency by which the rolls of a code are counted, in Hz: that of the code of GPS with its place. Only phases of a
--- 1004 roll, which is of GPS: that of a code of another system tells nothing
+-- the frequency by which the rolls of a code are counted, in Hz: that of its carrier. Only phases of a 1004 or a 1012 roll
 abbrev pub rolling_frequency : AnyCode → ℕ
-rolling_frequency code = frequency_of (band_at (place_of code))
+rolling_frequency code = roll_frequency (carrier_of code)
 
 -- the last phase of a satellite and code at these epochs
 abbrev pub last_phase_of : List (EpochSetView SignalEntry) → ℕ → AnyCode → Option Track

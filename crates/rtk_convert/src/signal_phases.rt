@@ -75,7 +75,8 @@ impl SignalPhases {
         Ok(SignalPhases { blocks })
     }
 
-    /// Returns the digits of a cell. Its phase is the last one of its satellite and code from then on.
+    /// Returns the digits of a cell. Its phase is the last one of its satellite and code from then on. Rolls are
+    /// counted by the carrier of the code.
     pub(crate) fn step(&mut self, entry: &SignalEntry, epoch: GpsMs) -> Digits
         requires range { IsSignalInRange entry.now }
         requires later { IsLater (track_at self.old entry.now.satellite entry.now.code) epoch }
@@ -89,6 +90,12 @@ impl SignalPhases {
         let place = entry.satellite.index() - 1;
         let satellite = place % BLOCK + 1;
         let code = code_at(entry.code.place());
-        self.blocks[usize::from(place / BLOCK)].step(satellite, code, epoch, &entry.cell)
+        self.blocks[usize::from(place / BLOCK)].step_any(
+            satellite,
+            code,
+            entry.code,
+            epoch,
+            &entry.cell,
+        )
     }
 }

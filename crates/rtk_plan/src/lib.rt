@@ -10,7 +10,7 @@
 //! use rtk_obs::GpsMs;
 //! use rtk_plan::{Captures, SystemFlags, Wanted, plan_of};
 //! use rtk_rinex::CreationTime;
-//! use rtk_survey::{CaptureSurvey, Target, survey_capture};
+//! use rtk_survey::{CaptureSurvey, DatingSystems, Target, survey_capture};
 //! use std::alloc::{AllocError, Global};
 //!
 //! // Frames with a 1004 of station 2003: of 2024-05-17 12:00:00, and of two seconds later.
@@ -22,6 +22,7 @@
 //! fn survey_of(alloc: Global, bytes: &[u8], present: GpsMs) -> Option<CaptureSurvey> {
 //!     let target = Target {
 //!         station: None,
+//!         systems: DatingSystems::all(),
 //!         present,
 //!     };
 //!     let mut capture = MemSource::new(alloc, bytes, 512, After::End).ok()?;

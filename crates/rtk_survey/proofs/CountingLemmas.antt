@@ -20,7 +20,7 @@ use Rattle.rtk_message.specs.Systems.{number_of_type}
 use Rattle.rtk_survey.specs.BesideGps.{cells_beside, has_index, has_any_code}
 use Rattle.rtk_survey.specs.Chains.{clocks_of}
 use Rattle.rtk_survey.specs.Channels.{place_is_told}
-use Rattle.rtk_survey.specs.ClockLines.{clock_lines}
+use Rattle.rtk_survey.specs.UncheckedClocks.{systems_sent, all_clock_lines}
 use Rattle.rtk_survey.specs.Counting.{count_of}
 use Rattle.rtk_survey.specs.CountingLaws.{IsReadMessage, EachFrameIsCounted, EachMessageIsCounted, StandsIn, PartsStand, StationsStand, ProposalsStand, UntakenStand}
 use Rattle.rtk_survey.specs.EquipmentHistory.{equipment_of}
@@ -124,6 +124,7 @@ hit (any.Message (Arp1005 m)) = refl
 hit (any.Message (Arp1006 m)) = refl
 hit (any.Message (Msm1074 m)) = refl
 hit (any.Msm m) = hit-type m.system m.kind
+hit (any.Obs1012 m) = refl
 
 -- the sum of two counts of each number
 sum-both : (f g : ℕ → ℕ) (ns : List ℕ) → sum_by (λ n. f n + g n) ns ≡ sum_by f ns + sum_by g ns
@@ -214,7 +215,7 @@ proposals-stand name station ms d e held =
     ++ signal_lines (has_satellite (entries_in ms)) (has_code (entries_in ms)) (has_index (cells_beside ms)) (has_any_code (cells_beside ms))
     ++ system_epoch_lines (epochs_beside ms)
     ++ channel_line (place_is_told ms)
-    ++ clock_lines (clocks_of ms).offsets in
+    ++ all_clock_lines (proposed_date d) (systems_sent (has_code (entries_in ms)) (has_any_code (cells_beside ms))) (clocks_of ms).offsets in
     let whole = append-nil (station_lines name station ms d e) in
     subst (λ (epochs : MsmKind → ℕ). StandsIn (proposal epochs) (station_lines name station ms d e)) (epochs-are ms held) (lines, [], sym whole)
 

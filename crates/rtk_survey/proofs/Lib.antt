@@ -11,6 +11,7 @@ pub mod FrameLemmas
 pub mod FramePlaceLemmas
 pub mod FreshLemmas
 pub mod HeadLemmas
+pub mod LeapLemmas
 pub mod LineLemmas
 pub mod LineTellingLemmas
 pub mod ListLemmas
@@ -29,3 +30,4 @@ pub mod SystemLemmas
 pub mod SystemTellingLemmas
 pub mod TallyLemmas
 pub mod TargetLemmas
+pub mod VariantLemmas

@@ -52,18 +52,18 @@ list_line words list = words ++ or_hyphen list ++ 10 ∷ []
 -- ---- messages
 
 -- table
--- the messages that are read: 1004 to 1006, and MSM4 to MSM7 of all systems
+-- the messages that are read: 1004 to 1006, 1012, and MSM4 to MSM7 of all systems
 -- Source: RTCM 10403.3, DF002
 abbrev pub message_numbers : List ℕ
 message_numbers =
-    1004 ∷ 1005 ∷ 1006 ∷ 1074 ∷ 1075 ∷ 1076 ∷ 1077 ∷ 1084 ∷ 1085 ∷ 1086 ∷ 1087 ∷ 1094 ∷ 1095 ∷ 1096 ∷ 1097 ∷
+    1004 ∷ 1005 ∷ 1006 ∷ 1012 ∷ 1074 ∷ 1075 ∷ 1076 ∷ 1077 ∷ 1084 ∷ 1085 ∷ 1086 ∷ 1087 ∷ 1094 ∷ 1095 ∷ 1096 ∷ 1097 ∷
     1104 ∷ 1105 ∷ 1106 ∷ 1107 ∷ 1114 ∷ 1115 ∷ 1116 ∷ 1117 ∷ 1124 ∷ 1125 ∷ 1126 ∷ 1127 ∷ 1134 ∷ 1135 ∷ 1136 ∷ 1137 ∷ []
 
 -- table
 -- those of other systems than GPS
 abbrev pub beside_numbers : List ℕ
 beside_numbers =
-    1084 ∷ 1085 ∷ 1086 ∷ 1087 ∷ 1094 ∷ 1095 ∷ 1096 ∷ 1097 ∷ 1104 ∷ 1105 ∷ 1106 ∷ 1107 ∷
+    1012 ∷ 1084 ∷ 1085 ∷ 1086 ∷ 1087 ∷ 1094 ∷ 1095 ∷ 1096 ∷ 1097 ∷ 1104 ∷ 1105 ∷ 1106 ∷ 1107 ∷
     1114 ∷ 1115 ∷ 1116 ∷ 1117 ∷ 1124 ∷ 1125 ∷ 1126 ∷ 1127 ∷ 1134 ∷ 1135 ∷ 1136 ∷ 1137 ∷ []
 
 -- formula

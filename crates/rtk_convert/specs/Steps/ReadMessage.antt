@@ -9,7 +9,7 @@ use Rattle.rtk_message.specs.AnyDecoded.{IsValid, number_of}
 use Rattle.rtk_message.specs.Systems.{type_of_number}
 use Rattle.rtk_obs.specs.SatelliteIndex.{letter_of}
 use Rattle.rtk_collect.specs.Answer.{Class}
-use Rattle.rtk_convert.specs.Report.{is_taken}
+use Rattle.rtk_convert.specs.Report.{is_of_sbas, is_taken}
 use Rattle.rtk_setup.specs.Setup.{SetupView, taken_by}
 
 -- messages of this number are read
@@ -33,3 +33,7 @@ system_of_number number = if number == 1012 then Glonass else system_of_type (ty
 -- a message of this number, epoch and class is an observation of this system that was taken
 abbrev pub brings_by : ℕ → Option ℕ → Class → System → Bool
 brings_by number epoch class system = (is_some epoch && (letter_of (system_of_number number) == letter_of system)) && is_taken class
+
+-- a message of this class, which has satellites of SBAS or not, is an observation of this system that was taken
+abbrev pub sbas_by : Bool → Class → System → Bool
+sbas_by sbas class system = is_of_sbas sbas system && is_taken class
