@@ -8,7 +8,6 @@ use Rattle.std.proofs.lemmas.List.Elements.{All-nil, All-cons, All-append, All-h
 use Rattle.std.specs.List.{list_any}
 use Rattle.rtk_obs.specs.declared.any_code.AnyCode.{AnyCode}
 use Rattle.rtk_obs.specs.declared.any_code.AnyCode.TheVariants.{G1C}
-use Rattle.rtk_obs.specs.declared.cell.Cell.{Cell}
 use Rattle.rtk_obs.specs.declared.signal_cells.SignalEntry.{SignalEntry}
 use Rattle.rtk_obs.specs.declared.track.Track.{Track}
 use Rattle.rtk_obs.specs.AnyCode.{IsSignal, place_of}
@@ -81,10 +80,10 @@ entry-strength : (o : Option ℕ) → IfSome o IsGiven → IsStrengthOrNone o
 entry-strength None h = tt
 entry-strength (Some s) h = ((h.least, h.greatest), h.step)
 
-abbrev pub HasStrength : Option Cell → Type 0
+abbrev pub HasStrength : Option SignalEntry → Type 0
 HasStrength o = IfSome o (λ c. IsStrengthOrNone c.strength_millidbhz)
 
-strength-if : (b : Bool) (c : Cell) (o : Option Cell) → IsStrengthOrNone c.strength_millidbhz → HasStrength o → HasStrength (cond b (Some c) o)
+strength-if : (b : Bool) (c : SignalEntry) (o : Option SignalEntry) → IsStrengthOrNone c.strength_millidbhz → HasStrength o → HasStrength (cond b (Some c) o)
 strength-if true c o h k = h
 strength-if false c o h k = k
 
@@ -92,10 +91,10 @@ pub first-strength : (cells : List SignalEntry) (s : ℕ) (c : AnyCode) → All 
 first-strength [] s c h = tt
 first-strength (e ∷ cells) s c h =
     let head : IsSignalInRange e = All-head IsSignalInRange e cells h in
-    strength-if (is_signal s c e) e.cell (first_cell cells s c) (entry-strength e.cell.strength_millidbhz head.strength)
+    strength-if (is_signal s c e) e (first_cell cells s c) (entry-strength e.cell.strength_millidbhz head.strength)
     (first-strength cells s c (All-tail IsSignalInRange e cells h))
 
-pub observed-strength : (last : Option Track) (code : AnyCode) (epoch : ℕ) (o : Option Cell) → HasStrength o → IsStrengthOrNone (or_nothing (observed_after last code epoch o)).strength_millidbhz
+pub observed-strength : (last : Option Track) (code : AnyCode) (epoch : ℕ) (o : Option SignalEntry) → HasStrength o → IsStrengthOrNone (or_nothing (observed_after last code epoch o)).strength_millidbhz
 observed-strength last code epoch None h = tt
 observed-strength last code epoch (Some c) h = h
 

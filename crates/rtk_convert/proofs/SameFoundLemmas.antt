@@ -13,7 +13,6 @@ use Rattle.rtk_message.specs.declared.any_fault.AnyFault.{AnyFault}
 use Rattle.rtk_message.specs.declared.system.System.{System}
 use Rattle.rtk_message.specs.declared.system.System.TheVariants.{Gps, Glonass, Galileo, Beidou, Qzss, Sbas, Navic}
 use Rattle.rtk_message.specs.AnyDecoded.{number_of}
-use Rattle.rtk_obs.specs.declared.cell.Cell.{Cell}
 use Rattle.rtk_obs.specs.declared.any_code.AnyCode.{AnyCode}
 use Rattle.rtk_obs.specs.declared.track.Track.{Track}
 use Rattle.rtk_obs.specs.AnyCode.{IsSignal}
@@ -97,7 +96,7 @@ record-same listed e first second c =
     ap (text_of e.epoch) (rows_to-same (observed_at e first) (observed_at e second) listed 221 (omega arith)
     (λ s code is. ap (λ (t : Option Track). observed_after t code e.epoch (cell_at e.cells s code)) (c.phases s code is)))
 
-phase-step : (frequency : ℕ) (epoch : ℕ) (o : Option Cell) (xs ys : List EpochCell) → last_phase frequency xs ≡ last_phase frequency ys → last_phase frequency (and_below epoch o xs) ≡ last_phase frequency (and_below epoch o ys)
+phase-step : (frequency : ℕ) (epoch : ℕ) (o : Option SignalEntry) (xs ys : List EpochCell) → last_phase frequency xs ≡ last_phase frequency ys → last_phase frequency (and_below epoch o xs) ≡ last_phase frequency (and_below epoch o ys)
 phase-step frequency epoch None xs ys h = h
 phase-step frequency epoch (Some c) xs ys h = ap (λ (t : Option Track). last_after frequency t (epoch_cell epoch c)) h
 

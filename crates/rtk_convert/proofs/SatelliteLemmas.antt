@@ -6,7 +6,6 @@ use Rattle.std.proofs.lemmas.List.{append-nil}
 use Rattle.std.proofs.lemmas.Nat.{and_le_l, and_or_self, and_or_apart, pow_apart, pow_pos}
 use Rattle.std.proofs.Math.Seq.{get_or-append_seam}
 use Rattle.rtk_obs.specs.declared.any_code.AnyCode.{AnyCode}
-use Rattle.rtk_obs.specs.declared.cell.Cell.{Cell}
 use Rattle.rtk_obs.specs.declared.signal_cells.SignalEntry.{SignalEntry}
 use Rattle.rtk_obs.specs.declared.track.Track.{Track}
 use Rattle.rtk_obs.specs.AnyCode.{IsSignal, place_of}
@@ -65,7 +64,7 @@ module _ {L : Type 0} (HasRows : L → List SatelliteRow → Type 0) (HasLine : 
       → AreRowCodes codes s → e.satellite ≡ s → IsSignal e.satellite e.code → first_cell xs e.satellite e.code ≡ None → StepsOver HasRows HasLine epoch e codes tracks after lines now
       → ShowsRow HasLine old epoch xs s codes tracks lines → ShowsRow HasLine old epoch (xs ++ e ∷ []) s codes after now
   shows-more {old} {epoch} {xs} {s} {codes} {tracks} {lines} after now e own at he none step g =
-      let o : Observed = observed_with e.cell (digits_since (rolling_frequency e.code) (track_at tracks e.satellite e.code) (epoch_cell epoch e.cell)) in
+      let o : Observed = observed_with e (digits_since (rolling_frequency e.code) (track_at tracks e.satellite e.code) (epoch_cell epoch e.cell)) in
       let shown : (c : AnyCode) → IsSignal s c → shown_by old epoch (xs ++ e ∷ []) s c ≡ cond (is_at (place_of e.code) c) (Some o) (shown_by old epoch xs s c) =
       λ c hc. subst (λ (x : ℕ). shown_by old epoch (xs ++ e ∷ []) x c ≡ cond (is_at (place_of e.code) c) (Some o) (shown_by old epoch xs x c)) at
       (shown-more old epoch xs tracks e he none g.taken c (subst (λ (n : ℕ). IsSignal n c) (sym at) hc)) in
@@ -318,7 +317,7 @@ module _ (before : List (Option Track)) (epoch : ℕ) (ms : List SignalEntry) (i
     own : (c : AnyCode) → first_cell (slice_range ms i end ++ slice_range ls j last) n c ≡ first_cell (ms ++ ls) n c
     own c =
         first-append (slice_range ms i end) (slice_range ls j last) n c
-        ∙ ap (λ (o : Option Cell). or_later o (first_cell (slice_range ls j last) n c)) (first-range ms i end n c g.msm p from)
+        ∙ ap (λ (o : Option SignalEntry). or_later o (first_cell (slice_range ls j last) n c)) (first-range ms i end n c g.msm p from)
         ∙ ap (or_later (first_cell ms n c)) (first-range ls j last n c g.legacy q more)
         ∙ sym (first-append ms ls n c)
 

@@ -11,7 +11,6 @@ use Rattle.std.proofs.lemmas.Grind.{flat_map-append}
 use Rattle.rtk_message.specs.declared.system.System.{System}
 use Rattle.rtk_obs.specs.declared.any_code.AnyCode.{AnyCode}
 use Rattle.rtk_obs.specs.declared.signal_cells.SignalEntry.{SignalEntry}
-use Rattle.rtk_obs.specs.declared.cell.Cell.{Cell}
 use Rattle.rtk_obs.specs.declared.track.Track.{Track}
 use Rattle.rtk_obs.specs.AnyCode.{number_of}
 use Rattle.rtk_obs.specs.Rollover.{digits_since}
@@ -94,23 +93,23 @@ cell-strength cells s c h = first-strength (in_turn cells) s c (in-turn IsSignal
 
 -- ---- phases that have a meaning
 
-abbrev ShowsNoPhase : Option Cell → Type 0
+abbrev ShowsNoPhase : Option SignalEntry → Type 0
 ShowsNoPhase o = IfSome o (λ c. c.phase_millicycles ≡ None)
 
-no-phase-if : (b : Bool) (c : Cell) (o : Option Cell) → (b ≡ true → c.phase_millicycles ≡ None) → ShowsNoPhase o → ShowsNoPhase (cond b (Some c) o)
+no-phase-if : (b : Bool) (c : SignalEntry) (o : Option SignalEntry) → (b ≡ true → c.phase_millicycles ≡ None) → ShowsNoPhase o → ShowsNoPhase (cond b (Some c) o)
 no-phase-if true c o h k = h refl
 no-phase-if false c o h k = k
 
 first-phase : (setup : SetupView) (cells : List SignalEntry) (s : ℕ) (c : AnyCode) → has_phases (form_of_head setup.head) s ≡ false → All (HasPhaseBy setup) cells → ShowsNoPhase (first_cell cells s c)
 first-phase setup [] s c none h = tt
 first-phase setup (e ∷ cells) s c none h =
-    no-phase-if (is_signal s c e) e.cell (first_cell cells s c)
+    no-phase-if (is_signal s c e) e (first_cell cells s c)
     (λ is.
     let same : e.satellite ≡ s = eqb-true e.satellite s (and_parts (e.satellite == s) (number_of e.code == number_of c) is).0 in
     All-head (HasPhaseBy setup) e cells h (subst (λ (n : ℕ). has_phases (form_of_head setup.head) n ≡ false) (sym same) none))
     (first-phase setup cells s c none (All-tail (HasPhaseBy setup) e cells h))
 
-observed-phase : (last : Option Track) (code : AnyCode) (epoch : ℕ) (o : Option Cell) → ShowsNoPhase o → HasNoPhase (or_nothing (observed_after last code epoch o))
+observed-phase : (last : Option Track) (code : AnyCode) (epoch : ℕ) (o : Option SignalEntry) → ShowsNoPhase o → HasNoPhase (or_nothing (observed_after last code epoch o))
 observed-phase last code epoch None h = refl
 observed-phase last code epoch (Some c) h = ap (λ (p : Option ℤ). rolled_or_none p (digits_since (rolling_frequency code) last (epoch_cell epoch c)).rolls) h
 

@@ -46,17 +46,9 @@ impl MixedRecordLines {
         ensures lines { HoldsMixedLines result [] }
         ensures doppler { result.doppler ≡ false }
     {
-        MixedRecordLines::with_doppler(alloc, false)
-    }
-
-    /// Makes a text without satellites, whose lines show Doppler shifts or not. It takes no memory.
-    pub fn with_doppler(alloc: Global, doppler: bool) -> MixedRecordLines
-        ensures lines { HoldsMixedLines result [] }
-        ensures doppler { result.doppler ≡ doppler }
-    {
         MixedRecordLines {
             lines: RecordLines::new(alloc),
-            doppler,
+            doppler: false,
         }
     }
 
@@ -66,6 +58,15 @@ impl MixedRecordLines {
         ensures doppler { self.new.doppler ≡ self.old.doppler }
     {
         self.lines.restart();
+    }
+
+    /// Begins another record, without satellites, whose lines show Doppler shifts or not.
+    pub fn restart_with(&mut self, doppler: bool)
+        ensures lines { HoldsMixedLines self.new [] }
+        ensures doppler { self.new.doppler ≡ doppler }
+    {
+        self.lines.restart();
+        self.doppler = doppler;
     }
 
     /// Begins the line of a satellite with this number of codes, which show nothing yet. What was

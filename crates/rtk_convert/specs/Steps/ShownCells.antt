@@ -4,7 +4,6 @@ use Rattle.std.specs.Prelude.{◌≡◌, ◌≢◌, ◌==◌, ◌<◌, ◌≤◌
 use Rattle.std.specs.List.{list_any}
 use Rattle.rtk_obs.specs.declared.any_code.AnyCode.{AnyCode}
 use Rattle.rtk_obs.specs.declared.any_code.AnyCode.TheVariants.{G1C}
-use Rattle.rtk_obs.specs.declared.cell.Cell.{Cell}
 use Rattle.rtk_obs.specs.declared.signal_cells.SignalEntry.{SignalEntry}
 use Rattle.rtk_obs.specs.declared.track.Track.{Track}
 use Rattle.rtk_message.specs.declared.system.System.{System}
@@ -28,9 +27,9 @@ use Rattle.rtk_convert.specs.Steps.RowLines.{Keeps}
 abbrev pub AllBelow : List (Option Track) → ℕ → Type 0
 AllBelow tracks epoch = (satellite : ℕ) (code : AnyCode) → IsSignal satellite code → IsLater (track_at tracks satellite code) epoch
 
-abbrev pub track_after : Option Track → AnyCode → ℕ → Option Cell → Option Track
+abbrev pub track_after : Option Track → AnyCode → ℕ → Option SignalEntry → Option Track
 track_after last code epoch None = last
-track_after last code epoch (Some c) = last_after (rolling_frequency code) last (epoch_cell epoch c)
+track_after last code epoch (Some e) = last_after (rolling_frequency code) last (epoch_cell epoch e.cell)
 
 -- these cells of an epoch were taken: of each satellite and code the phase of the first cell is the
 -- last one
@@ -178,5 +177,5 @@ pub record StepsOver {L : Type 0} (HasRows : L → List SatelliteRow → Type 0)
   pub track : track_at after e.satellite e.code ≡ last_after (rolling_frequency e.code) (track_at tracks e.satellite e.code) (epoch_cell epoch e.cell)
   pub others : (s : ℕ) (c : AnyCode) → signal_place s c ≢ signal_place e.satellite e.code → track_at after s c ≡ track_at tracks s c
   pub row : (row : List Observed) → HasLine old row → IsFreeOf (place_of e.code) codes row
-      → HasLine new (with_place (place_of e.code) (observed_with e.cell (digits_since (rolling_frequency e.code) (track_at tracks e.satellite e.code) (epoch_cell epoch e.cell))) codes row)
+      → HasLine new (with_place (place_of e.code) (observed_with e (digits_since (rolling_frequency e.code) (track_at tracks e.satellite e.code) (epoch_cell epoch e.cell))) codes row)
   pub kept : Keeps HasRows old new

@@ -3,7 +3,6 @@ use Rattle.std.proofs.lemmas.List.{length-map}
 use Rattle.rtk_obs.specs.SatelliteIndex.{IsSatelliteIndex}
 use Rattle.rtk_obs.specs.SignalCells.{IsSignalInRange}
 use Rattle.rtk_obs.specs.declared.any_code.AnyCode.{AnyCode}
-use Rattle.rtk_obs.specs.declared.cell.Cell.{Cell}
 use Rattle.rtk_obs.specs.declared.signal_cells.SignalEntry.{SignalEntry}
 use Rattle.rtk_obs.specs.declared.track.Track.{Track}
 use Rattle.rtk_obs.specs.Tracks.{IsLater}
@@ -358,7 +357,7 @@ returns-clause-lines g c =
     λ below has. subst (λ (rows : List SatelliteRow). g.E.Lines.RowLines.HasRows c.satellites.lines rows)
     (last
     ∙ rows_to-same (shown_by old epoch (ms ++ ls)) (observed_at e below) c.args.listed.now 221 (omega arith)
-    (λ s k hs. ap (λ (o : Option Cell). observed_after (track_at old s k) k epoch o) (turn s k)
+    (λ s k hs. ap (λ (o : Option SignalEntry). observed_after (track_at old s k) k epoch o) (turn s k)
     ∙ ap (λ (o : Option Track). observed_after o k e.epoch (cell_at e.cells s k)) (has s k hs)))
     i.holds
 
@@ -383,7 +382,7 @@ returns-clause-phases g c =
     λ s k. ap (λ (xs : List _). first_cell (map f xs ++ ls) s k) c.msm_cells-msm.ensures.value
     ∙ turn-is f g.E.Entry.entries laws.values c.args.set.now.cells c.legacy_left-legacy.result.now (laws.left _ _ _ c.legacy_left-legacy.ensures.left) s k in
     λ below has s k hs. end.done s k hs (omega (arith, hs.0.1))
-    ∙ ap (λ (o : Option Cell). track_after (track_at old s k) k epoch o) (turn s k)
+    ∙ ap (λ (o : Option SignalEntry). track_after (track_at old s k) k epoch o) (turn s k)
     ∙ ap (λ (o : Option Track). track_after o k e.epoch (cell_at e.cells s k)) (has s k hs)
     ∙ track-below (cell_at e.cells s k) e.epoch k (cells_at_epochs below s k)
 
