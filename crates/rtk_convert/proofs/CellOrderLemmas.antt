@@ -1,6 +1,6 @@
 -- What the order of cells gives: those of a satellite stand together, and of one kind of message no
 -- two have one satellite and code.
-use Rattle.std.proofs.Common.{◌≡◌, ◌≢◌, ℕ, zero, suc, ◌+◌, ◌-◌, ◌*◌, ◌<◌, ◌≤◌, [], ◌∷◌, ◌++◌, List, length, take, drop, get_or, get_or-take, get_or-drop, length-drop, take-append-drop, slice_range, refl, sym, ap, subst, ◌∙◌, arith, true, false, Bool, nat_eq, cond, Option, Some, None, All, inl, inr}
+use Rattle.std.proofs.Common.{◌≡◌, ◌≢◌, ℕ, zero, suc, ◌+◌, ◌-◌, ◌*◌, ◌<◌, ◌≤◌, [], ◌∷◌, ◌++◌, List, length, take, drop, get_or, get_or-take, get_or-drop, length-drop, take-append-drop, slice_range, refl, sym, ap, subst, ◌∙◌, arith, true, false, Bool, nat_eq, cond, Option, Some, None, All, inl, inr, pos}
 use Rattle.std.specs.Prelude.{is_some}
 use Rattle.std.proofs.lemmas.Bool.{cases_order, cases_lt, and_parts, and_from, eqb-true, eq-eqb, false_from_ne_true}
 use Rattle.std.proofs.lemmas.List.{length-take-le, take_more}
@@ -24,6 +24,7 @@ abbrev pub any_cell : SignalEntry
 any_cell = record {
   satellite = 0;
   code = G1C;
+  doppler_millihertz = pos 0;
   cell = record { range_mm = None; phase_millicycles = None; strength_millidbhz = None; lock_time_ms = 0; half = false; source = Legacy; offset = None };
 }
 

@@ -1,5 +1,5 @@
 -- The cells of a satellite, one after another, and its row.
-use Rattle.std.proofs.Common.{◌≡◌, ◌≢◌, ℕ, ◌+◌, ◌-◌, ◌^◌, bit_and, bit_or, length-append, ◌<◌, ◌≤◌, [], ◌∷◌, ◌++◌, List, map, length, get_or, slice_range, refl, sym, ap, subst, ◌∙◌, append_assoc, arith, Option, None, Some, true, cond, inl, inr}
+use Rattle.std.proofs.Common.{◌≡◌, ◌≢◌, ℕ, ◌+◌, ◌-◌, ◌^◌, bit_and, bit_or, length-append, ◌<◌, ◌≤◌, [], ◌∷◌, ◌++◌, List, map, length, get_or, slice_range, refl, sym, ap, subst, ◌∙◌, append_assoc, arith, Option, None, Some, true, cond, inl, inr, Bool}
 use Rattle.std.specs.Prelude.{is_some, All}
 use Rattle.std.proofs.lemmas.Bool.{cases_lt}
 use Rattle.std.proofs.lemmas.List.{append-nil}
@@ -48,7 +48,7 @@ row-free old epoch xs s codes e own at he none =
     free-of s (shown_by old epoch xs s) e.code codes own (signal-at e at he)
     (ap (observed_after (track_at old s e.code) e.code epoch) (subst (λ (n : ℕ). first_cell xs n e.code ≡ None) at none))
 
-module _ {L : Type 0} (HasRows : L → List SatelliteRow → Type 0) (HasLine : L → List Observed → Type 0) where
+module _ {L : Type 0} (HasRows : L → Bool → List SatelliteRow → Type 0) (HasLine : L → List Observed → Type 0) where
   pub shows-repeat : {old : List (Option Track)} {epoch : ℕ} {xs : List SignalEntry} {s : ℕ} {codes : List AnyCode} {tracks : List (Option Track)} {lines : L} (e : SignalEntry)
       → AreRowCodes codes s → IsSignal e.satellite e.code → is_some (first_cell xs e.satellite e.code) ≡ true
       → ShowsRow HasLine old epoch xs s codes tracks lines → ShowsRow HasLine old epoch (xs ++ e ∷ []) s codes tracks lines
@@ -85,7 +85,7 @@ module _ {L : Type 0} (HasRows : L → List SatelliteRow → Type 0) (HasLine : 
         within = l;
         same = λ k d a b. absurd (omega arith);
         later = subst (λ (ys : List SignalEntry). MayStep first ys s epoch) none later;
-        kept = λ rows h. h;
+        kept = λ doppler rows h. h;
         shows = λ old g. subst (λ (ys : List SignalEntry). ShowsRow HasLine old epoch ys s codes first before) none g;
       }
 
@@ -136,7 +136,7 @@ pub codes-begin : (codes : ℕ) (earlier xs : List SignalEntry) (begin s : ℕ) 
 codes-begin codes earlier xs begin s g =
     subst (λ (ys : List SignalEntry). IsSetOfCodes codes ys s) (sym (ap (λ (ys : List SignalEntry). earlier ++ ys) (range-empty xs begin) ∙ append-nil earlier)) g
 
-module _ {L : Type 0} (HasRows : L → List SatelliteRow → Type 0) (HasLine : L → List Observed → Type 0) (epoch : ℕ) (earlier xs : List SignalEntry) (begin end s : ℕ) (codes : List AnyCode)
+module _ {L : Type 0} (HasRows : L → Bool → List SatelliteRow → Type 0) (HasLine : L → List Observed → Type 0) (epoch : ℕ) (earlier xs : List SignalEntry) (begin end s : ℕ) (codes : List AnyCode)
     (first : List (Option Track)) (before : L) (tracks : List (Option Track)) (lines : L) (e : SignalEntry)
     (g : TakesCells HasRows HasLine epoch earlier xs begin end s codes first before tracks lines) (own : AreRowCodes codes s) (ranges : All IsSignalInRange xs) (l : end < length xs)
     (here : (d : SignalEntry) → get_or xs end d ≡ e) (at : e.satellite ≡ s) where
@@ -213,7 +213,7 @@ module _ {L : Type 0} (HasRows : L → List SatelliteRow → Type 0) (HasLine : 
         within = omega arith;
         same = same-more xs begin end s g.same next-at;
         later = subst (λ (ys : List SignalEntry). MayStep after ys s epoch) next-is (may-more tracks after taken s epoch e step.others next-signal g.later);
-        kept = λ rows h. step.kept rows (g.kept rows h);
+        kept = λ doppler rows h. step.kept doppler rows (g.kept doppler rows h);
         shows = λ old h. subst (λ (ys : List SignalEntry). ShowsRow HasLine old epoch ys s codes after now) next-is (shows-more HasRows HasLine after now e own at next-signal none step (g.shows old h));
       }
 

@@ -4,6 +4,7 @@ use Rattle.std.specs.Prelude.{ℕ, zero, suc, Bool, false, ◌&&◌, ◌==◌, L
 use Rattle.std.specs.List.{list_any}
 use Rattle.std.specs.Ordering.{int_eq}
 use Rattle.rtk_obs.specs.declared.any_code.AnyCode.{AnyCode}
+use Rattle.rtk_obs.specs.declared.cell.Cell.{Cell}
 use Rattle.rtk_obs.specs.declared.cell.CellSource.TheVariants.{Legacy, Msm}
 use Rattle.rtk_obs.specs.declared.signal_cells.SignalEntry.{SignalEntry}
 use Rattle.rtk_obs.specs.declared.track.Track.{Track}
@@ -66,17 +67,20 @@ rolled_or_none (Some phase) rolls = rolled_phase phase rolls
 abbrev pub shift_or_none : ℤ → Option ℤ
 shift_or_none shift = if int_eq shift (pos 0) then None else Some shift
 
--- a cell with its digits: its phase has 1500 cycles added for each roll
-abbrev pub observed_with : SignalEntry → Digits → Observed
-observed_with e d =
+-- the values of a cell with its Doppler shift and its digits: its phase has 1500 cycles added for each roll
+abbrev pub observed_of : Cell → ℤ → Digits → Observed
+observed_of c shift d =
     record {
-      range_mm = e.cell.range_mm;
-      phase_millicycles = rolled_or_none e.cell.phase_millicycles d.rolls;
-      doppler_millihertz = shift_or_none e.doppler_millihertz;
-      strength_millidbhz = e.cell.strength_millidbhz;
+      range_mm = c.range_mm;
+      phase_millicycles = rolled_or_none c.phase_millicycles d.rolls;
+      doppler_millihertz = shift_or_none shift;
+      strength_millidbhz = c.strength_millidbhz;
       slip = d.slip;
       half = d.half;
     }
+
+abbrev pub observed_with : SignalEntry → Digits → Observed
+observed_with e d = observed_of e.cell e.doppler_millihertz d
 
 -- what the cell of a code shows at an epoch, after the last phase
 abbrev pub observed_after : Option Track → AnyCode → ℕ → Option SignalEntry → Option Observed
