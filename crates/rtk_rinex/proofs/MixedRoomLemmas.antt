@@ -1,5 +1,5 @@
 -- The lengths of the parts of a mixed header, and texts one after another.
-use Rattle.std.proofs.Common.{◌≡◌, ◌++◌, ◌+◌, ◌*◌, ◌/◌, ◌≤◌, ◌<◌, List, [], ◌∷◌, ℕ, append_assoc, length, length-append, length-drop, drop, take, codes, decimal, arith, refl, Bool, true, false, ◌==◌, if◌then◌else◌, ◌∙◌, inl, inr}
+use Rattle.std.proofs.Common.{◌≡◌, ◌++◌, ◌+◌, ◌*◌, ◌/◌, ◌≤◌, ◌<◌, List, [], ◌∷◌, ℕ, append_assoc, length, length-append, length-drop, drop, take, codes, decimal, arith, refl, ap, sym, subst, Bool, true, false, ◌==◌, if◌then◌else◌, ◌∙◌, inl, inr}
 use Rattle.std.proofs.lemmas.Bool.Decides.{leb_tells}
 use Rattle.std.proofs.lemmas.Fmt.{length-decimal-le}
 use Rattle.std.proofs.lemmas.List.{append-nil, length-take}
@@ -237,6 +237,18 @@ length-types_text false [] = refl
 length-types_text true [] = refl
 length-types_text false (c ∷ cs) = length-append (three_types c) (types_text false cs) ∙ omega (arith, length-three_types c, length-types_text false cs)
 length-types_text true (c ∷ cs) = length-append (four_types c) (types_text true cs) ∙ omega (arith, length-four_types c, length-types_text true cs)
+
+columns_fit : (doppler : Bool) (i : ℕ) → i < 16 → 4 * types_count doppler * i + 16 ≤ 256
+columns_fit false i h = omega arith
+columns_fit true i h = omega arith
+
+-- the types of the first codes leave room for those of one more
+pub room_for_types : (doppler : Bool) (i : ℕ) (cs : List AnyCode) → i < length cs → length cs ≤ 16 → length (types_text doppler (take i cs)) + 16 ≤ 256
+room_for_types doppler i cs lt few =
+    let n = length-take i cs in
+    let first : length (take i cs) ≡ i = omega (arith, n, lt) in
+    let size : length (types_text doppler (take i cs)) ≡ 4 * types_count doppler * i = length-types_text doppler (take i cs) ∙ ap (λ (k : ℕ). 4 * types_count doppler * k) first in
+    subst (λ (m : ℕ). m + 16 ≤ 256) (sym size) (columns_fit doppler i (omega (arith, lt, few)))
 
 pub types_lines-some : (doppler : Bool) (l : ℕ) (cs : List AnyCode) → 0 < length cs → system_types_lines doppler l cs ≡ types_lines_of doppler l (length cs) (types_text doppler cs)
 types_lines-some doppler l [] h = absurd (omega arith)

@@ -1,7 +1,6 @@
 //! The text of a header of any systems, a function for each part that differs from a header of GPS.
 
 ghost use Rattle.std.specs.Prelude.{◌≡◌, ◌+◌, ◌*◌, ◌≤◌, ◌<◌, [], ◌∷◌, ◌++◌, take, length, IfOk, codes, decimal, count_by, Some, is_some, if◌then◌else◌};
-ghost use Rattle.std.specs.Int.{IsInRange};
 ghost use Rattle.rtk_rinex.specs.Columns.{right};
 ghost use Rattle.rtk_rinex.specs.Header.{header_line, position_view};
 ghost use Rattle.rtk_rinex.specs.MixedHead.{IsMixedList};
@@ -90,12 +89,13 @@ fn four_types(code: AnyCode) -> [u8; 16]
     ]
 }
 
-// Returns how many observation types a code has in a file with Doppler shifts, or without them.
-pub(crate) fn types_count(doppler: bool) -> usize
-    ensures value { result ≡ types_count doppler }
-    ensures some { IsInRange 3 4 result }
+// Returns how many observation types these codes have in a file with Doppler shifts, or without them.
+fn count_of_types(doppler: bool, codes: usize) -> usize
+    requires { codes ≤ 16 }
+    ensures value { result ≡ types_count doppler * codes }
+    ensures few { result ≤ 64 }
 {
-    if doppler { 4 } else { 3 }
+    if doppler { 4 * codes } else { 3 * codes }
 }
 
 // Appends the observation types of a code.
@@ -153,7 +153,7 @@ pub(crate) fn put_types_of(
     if codes.len() == 0 {
         return;
     }
-    let count = types_count(doppler) * codes.len();
+    let count = count_of_types(doppler, codes.len());
     let types = types_text(doppler, codes);
     let text = types.as_slice();
     put_header_line(

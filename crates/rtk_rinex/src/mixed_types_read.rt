@@ -13,14 +13,19 @@ ghost use Rattle.rtk_rinex.specs.Steps.MixedHeaderRead.{AreAllOf, IsGroup, code_
 use crate::digits::{after, columns_at, front, is_same, number_at};
 use crate::header_check::read_name;
 use crate::header_text::put_unit_line;
-use crate::mixed_header_text::{
-    LONGEST_MIXED_HEADER, codes_of, put_types_of, types_count, version_letter,
-};
+use crate::mixed_header_text::{LONGEST_MIXED_HEADER, codes_of, put_types_of, version_letter};
 use arrayvec::ArrayVec;
 use rtk_obs::{ALL_ANY_CODES, AnyCode, any_code_laws};
 
 // The bytes of a line of a header.
 const LINE: usize = 81;
+
+// Returns of how many codes a number of observation types is.
+fn codes_of_types(types: u64, doppler: bool) -> u64
+    ensures { (n : ℕ) → types ≡ types_count doppler * n → result ≡ n }
+{
+    if doppler { types / 4 } else { types / 3 }
+}
 
 // Returns how many codes the first line of a system's types shows, at which a text begins, or 1 if it
 // shows no number that is good.
@@ -29,11 +34,11 @@ fn read_count(text: &[u8], doppler: bool, most: usize) -> usize
     ensures good { IsInRange 1 most result }
     ensures shown { (n : ℕ) → IsInRange 1 most n → number_at 3 3 text.now ≡ types_count doppler * n → result ≡ n }
 {
-    let count = number_at(text, 3, 3) as usize / types_count(doppler);
-    if count == 0 || count > most {
+    let count = codes_of_types(number_at(text, 3, 3), doppler);
+    if count == 0 || count > most as u64 {
         return 1;
     }
-    count
+    count as usize
 }
 
 // Returns the place of a code in a list of codes.
