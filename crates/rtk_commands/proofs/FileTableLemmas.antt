@@ -57,8 +57,8 @@ pub mixed-letter : (t : MixedTable) → letter_in (mixed_table_text t) ≡ versi
 unfolding mixed_header_text
 mixed-letter t =
     let made = reading_of t.head.made in
-    ap letter_in (glue-mixed (mixed_version_line (version_letter t.head.listed)) (made_line made) (marker_line t.head.marker) unknown_lines (position_lines t.site) (by_system system_types_lines t.head.listed)
-    unit_line (first_line (reading_of t.first)) (by_system phase_shift_line t.head.listed) (glonass_lines t.head.glonass) (header_line [] (codes "END OF HEADER")) (flat_map mixed_record_text t.epochs))
+    ap letter_in (glue-mixed (mixed_version_line (version_letter t.head.listed)) (made_line made) (marker_line t.head.marker) unknown_lines (position_lines t.site) (by_system (system_types_lines t.head.doppler) t.head.listed)
+    unit_line (first_line (reading_of t.first)) (by_system phase_shift_line t.head.listed) (glonass_lines t.head.glonass) (header_line [] (codes "END OF HEADER")) (flat_map (mixed_record_text t.head.doppler) t.epochs))
     ∙ letter-of_line (version_letter t.head.listed) _
 
 -- ---- which files a text can be

@@ -338,7 +338,7 @@ gps-file header records u good is =
         epochs = subst (λ (n : ℕ). All (IsTableEpoch n) u.epochs) (sym size) epochs;
         rise = good.rise;
       },
-      ap (λ (top : List ℕ). top ++ flat_map mixed_record_text u.epochs) (header h u.head u.site u.first of_gps is_head)
+      ap (λ (top : List ℕ). top ++ flat_map (mixed_record_text u.head.doppler) u.epochs) (header h u.head u.site u.first of_gps is_head)
           ∙ ap (λ (body : List ℕ). header_text h u.site u.first ++ body) (records-same records (length u.head.listed) u.epochs epochs),
     )
 
