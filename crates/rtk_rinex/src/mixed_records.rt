@@ -117,6 +117,7 @@ fn first_record<'a>(text: &'a [u8], form: &RecordForm) -> (MixedRows<'a>, &'a [u
         → IsRecordOf e result.0 × (result.1.now ≡ rest) }
     ensures whole { text.now ≡ result.0.text ++ result.1.now }
     ensures few { result.0.count ≤ 221 }
+    ensures form { result.0.form ≡ form.now }
 {
     let (stamp, lines) = read_stamp(text, form);
     let skipped = skip_rows(lines, stamp.count);
@@ -162,6 +163,13 @@ impl<'a> MixedRows<'a> {
         ensures { result.now ≡ self.now.text }
     {
         self.text
+    }
+
+    /// Returns whether the lines of the record show Doppler shifts.
+    pub fn has_doppler(&self) -> bool
+        ensures { result ≡ self.now.form.doppler }
+    {
+        self.form.has_doppler()
     }
 
     /// Returns how many rows are still to be read.
@@ -234,6 +242,7 @@ impl<'a> MixedRecords<'a> {
             ((self.old.text ≡ []) × (self.new ≡ self.old))
             (λ rows. self.old.text ≡ rows.text ++ self.new.text) }
         ensures few { IfSome result (λ rows. rows.count ≤ 221) }
+        ensures same_form { IfSome result (λ rows. rows.form ≡ self.old.form) }
         ensures less { IfSome result (λ rows. length self.new.text < length self.old.text) }
         ensures form { self.new.form ≡ self.old.form }
     {
