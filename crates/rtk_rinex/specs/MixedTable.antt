@@ -1,6 +1,6 @@
 -- Well-formed tables of any systems, and their text. A row has the index of its satellite among those of
 -- all systems.
-use Rattle.std.specs.Prelude.{◌≡◌, ◌≢◌, ◌<◌, nat_lt, ℕ, Bool, List, [], ◌++◌, length, flat_map, map, All, AllPairs, None, false, IsTrue}
+use Rattle.std.specs.Prelude.{◌≡◌, ◌≢◌, ◌<◌, ◌==◌, nat_lt, get_or, ℕ, Bool, List, [], ◌++◌, length, flat_map, map, All, AllPairs, None, false, IsTrue}
 use Rattle.std.specs.List.{filter}
 use Rattle.rtk_message.specs.declared.system.System.TheVariants.{Glonass}
 use Rattle.rtk_obs.specs.SatelliteIndex.{IsSatelliteIndex, system_at, bit_at, letter_of}
@@ -57,6 +57,18 @@ pub record IsMixedTable (t : MixedTable) : Type 0 where
 -- the text of a table: its header, then a record for each epoch
 abbrev pub mixed_table_text : MixedTable → List ℕ
 mixed_table_text t = mixed_header_text t.head t.site t.first ++ flat_map (mixed_record_text t.head.doppler) t.epochs
+
+-- ---- whether the text has Doppler shifts
+
+-- formula
+-- the third type of the first code of a file is that of a Doppler shift: column 16 of the tenth line (this project's
+-- order of lines)
+abbrev pub has_shift_type : List ℕ → Bool
+has_shift_type text = get_or text 744 0 == 68
+
+-- so a text tells whether the file has Doppler shifts
+abbrev pub TypesTellShifts : Type 0
+TypesTellShifts = (t : MixedTable) → IsMixedTable t → has_shift_type (mixed_table_text t) ≡ t.head.doppler
 
 -- ---- the file of a head and of epochs
 
