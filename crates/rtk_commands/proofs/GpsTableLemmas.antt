@@ -1,5 +1,5 @@
 -- A file of GPS alone that is written as one of any systems is a file of GPS.
-use Rattle.std.proofs.Common.{◌≡◌, ◌≢◌, ◌<◌, ◌≤◌, ◌==◌, ◌&&◌, ◌||◌, ℕ, Bool, true, false, true≢false, not, if◌then◌else◌, cond, Option, None, Some, List, [], ◌∷◌, ◌++◌, map, length, get_or, inl, inr, leb, IsTrue, refl, sym, ap, subst, ◌∙◌, arith}
+use Rattle.std.proofs.Common.{◌≡◌, ◌≢◌, ◌<◌, ◌≤◌, ◌==◌, ◌&&◌, ◌||◌, ℕ, Bool, true, false, true≢false, not, if◌then◌else◌, cond, Option, None, Some, List, [], ◌∷◌, ◌++◌, map, length, get_or, leb, IsTrue, refl, sym, ap, subst, ◌∙◌, arith}
 use Rattle.std.specs.Prelude.{All, AllPairs, flat_map}
 use Rattle.std.specs.List.{filter, list_any, list_all}
 use Rattle.std.proofs.lemmas.Bool.{eqb-true, leb-true}

@@ -18,7 +18,7 @@ use Rattle.rtk_obs.specs.Reading.{reading_of}
 use Rattle.rtk_rinex.specs.Record.{EpochTableView, observations, trim_end, is_present, has_observation, has_observation_or_doppler, is_shown, has_line, has_line_in, satellite_line, epoch_line, lines_of, record_text}
 use Rattle.rtk_rinex.specs.RecordLines.{RecordLinesView, KeepsLines, IsFreeIn}
 use Rattle.rtk_rinex.specs.MixedRecord.{MixedLinesView, HoldsMixedLines, KeepsMixedLines, mixed_satellite_line, mixed_lines_of, mixed_record_text}
-use Rattle.rtk_convert.specs.Steps.RowLines.{Keeps, HasRoom, HoldsGpsLines, HasGpsRows, HasMixedRows}
+use Rattle.rtk_convert.specs.Steps.RowLines.{Keeps, HasRoom, HasGpsRows, HasMixedRows}
 
 -- ---- room for a line more
 

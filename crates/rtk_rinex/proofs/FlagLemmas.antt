@@ -1,5 +1,5 @@
 -- The third observation type of the first code of a header shows whether the file has Doppler shifts.
-use Rattle.std.proofs.Common.{◌≡◌, ◌≢◌, ◌⊎◌, ℕ, zero, suc, ◌+◌, ◌*◌, ◌<◌, ◌≤◌, List, [], ◌∷◌, ◌++◌, length, take, drop, get_or, slice_index_or, codes, arith, refl, sym, ◌∙◌, ap, subst, append_assoc, length-append, inl, inr, Bool, true, false, ◌==◌}
+use Rattle.std.proofs.Common.{◌≡◌, ◌≢◌, ℕ, zero, suc, ◌+◌, ◌*◌, ◌<◌, ◌≤◌, List, [], ◌∷◌, ◌++◌, length, take, drop, get_or, codes, arith, refl, sym, ◌∙◌, ap, subst, append_assoc, length-append, inl, inr, Bool, true, false, ◌==◌}
 use Rattle.std.specs.Prelude.{All}
 use Rattle.std.proofs.Math.ListN.{get_or-append}
 use Rattle.std.proofs.lemmas.List.Elements.{All-nil, All-cons, All-head, All-tail}
@@ -7,7 +7,7 @@ use Rattle.rtk_obs.specs.declared.any_code.AnyCode.{AnyCode}
 use Rattle.rtk_obs.specs.AnyCode.{name_of}
 use Rattle.rtk_rinex.specs.Header.{header_line, types_label, continuation_line}
 use Rattle.rtk_rinex.specs.Lines.{HasNoEnd, text_of}
-use Rattle.rtk_rinex.specs.MixedHeader.{codes_of, code_types, types_count, types_text, types_lines_of, system_types_lines}
+use Rattle.rtk_rinex.specs.MixedHeader.{codes_of, code_types, types_count, types_text, system_types_lines}
 use Rattle.rtk_rinex.specs.Steps.MixedRoom.{codes_of_letter}
 use Rattle.rtk_rinex.specs.Steps.MixedHeaderRead.{IsGroup, shows_doppler, types_and_unit, IsListOf}
 use Rattle.rtk_rinex.proofs.GroupLemmas.{first_line, first_of, length-first, of_first, of_types_text}

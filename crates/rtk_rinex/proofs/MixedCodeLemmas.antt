@@ -1,5 +1,5 @@
 -- What a code shows in a file of any systems, with Doppler shifts (true) or without them, and codes one after another.
-use Rattle.std.proofs.Common.{◌≡◌, ◌≢◌, ℕ, zero, suc, ◌+◌, ◌-◌, ◌*◌, ◌<◌, ◌≤◌, Bool, true, false, ◌||◌, ◌&&◌, List, [], ◌∷◌, ◌++◌, length, take, drop, replicate, ℤ, Option, None, inl, inr, refl, sym, ◌∙◌, ap, arith, length-append, length-drop, append_assoc, flat_map}
+use Rattle.std.proofs.Common.{◌≡◌, ◌≢◌, ℕ, suc, ◌+◌, ◌-◌, ◌*◌, ◌≤◌, Bool, true, false, ◌||◌, ◌&&◌, List, [], ◌∷◌, ◌++◌, length, take, drop, replicate, ℤ, Option, None, inl, inr, refl, sym, ◌∙◌, ap, arith, length-append, length-drop, append_assoc, flat_map}
 use Rattle.std.specs.Prelude.{All}
 use Rattle.std.specs.List.{list_any}
 use Rattle.std.proofs.lemmas.Bool.Decides.{leb_tells}
@@ -8,7 +8,7 @@ use Rattle.std.proofs.lemmas.List.Elements.{All-nil, All-head, All-tail}
 use Rattle.rtk_rinex.specs.declared.epoch_table.Observed.{Observed}
 use Rattle.rtk_rinex.specs.Columns.{left}
 use Rattle.rtk_rinex.specs.Lines.{HasNoEnd}
-use Rattle.rtk_rinex.specs.Record.{is_present, observation, observations, observations_with_doppler, code_text, code_width, has_observation, has_observation_or_doppler, is_shown, lli_digit, strength_digit, strength_value}
+use Rattle.rtk_rinex.specs.Record.{is_present, observation, observations, observations_with_doppler, code_text, code_width, has_observation, is_shown, lli_digit, strength_digit, strength_value}
 use Rattle.rtk_rinex.specs.Table.{IsObserved, IsObservedWithDoppler, IsObservedIn}
 use Rattle.rtk_rinex.proofs.CellLemmas.{one_value, or-none, and-left, and-right, solid-value, solid-cell, no_more, left-nil, drop_more}
 use Rattle.rtk_rinex.proofs.DigitsLemmas.{take-exact, drop-exact}

@@ -1,5 +1,5 @@
 -- The records of a text of any systems, read one by one, and the rows of each.
-use Rattle.std.proofs.Common.{◌≡◌, ◌≢◌, ℕ, zero, suc, ◌-◌, ◌*◌, ◌<◌, Bool, false, Option, Some, None, List, [], ◌∷◌, ◌++◌, length, take, drop, flat_map, refl, sym, ◌∙◌, ap, arith, length-append}
+use Rattle.std.proofs.Common.{◌≡◌, ◌≢◌, ℕ, ◌-◌, ◌*◌, ◌<◌, Bool, false, Option, Some, None, List, [], ◌∷◌, ◌++◌, length, take, drop, flat_map, refl, sym, ◌∙◌, ap, arith, length-append}
 use Rattle.std.specs.Prelude.{All, ℤ}
 use Rattle.std.specs.Int.{IsInRange}
 use mathlib.Core.Logic.{∥∥₁_map}
@@ -22,7 +22,6 @@ use Rattle.rtk_rinex.specs.MixedTable.{MixedTable, IsMixedTable, IsMixedRow, IsM
 use Rattle.rtk_rinex.specs.MixedCheckLine.{IsMixedForm}
 use Rattle.rtk_rinex.specs.MixedCheckTable.{HoldsMixedTable}
 use Rattle.rtk_rinex.specs.MixedRecords.{MixedRecordsView, AreMixedLeft, IsMixedRecordsView, MixedRowsView, AreRowsLeft, IsRecordOf, IsNextRecordOf, IsNextRowOf}
-use Rattle.rtk_rinex.specs.Steps.CheckValues.{AreCells}
 use Rattle.rtk_rinex.specs.Steps.MixedReadRecords.{AreMixedCells, BeginsWithMixedRecord}
 use Rattle.rtk_rinex.proofs.DigitsLemmas.{take-exact, drop-exact}
 use Rattle.rtk_rinex.proofs.EpochLemmas.{length-line, line-columns}

@@ -1,5 +1,5 @@
 -- The tenth line of a file of any systems tells whether it has Doppler shifts: nine lines of 81 bytes stand before it.
-use Rattle.std.proofs.Common.{◌≡◌, ◌==◌, ◌+◌, ◌≤◌, ℕ, Bool, List, [], ◌∷◌, ◌++◌, length, get_or, get_or-append-add, codes, pos, append_assoc, length-append, arith, refl, sym, ap, ◌∙◌}
+use Rattle.std.proofs.Common.{◌≡◌, ◌==◌, ◌+◌, ◌≤◌, ℕ, List, [], ◌∷◌, ◌++◌, length, get_or, get_or-append-add, codes, pos, append_assoc, length-append, arith, refl, sym, ap, ◌∙◌}
 use Rattle.std.specs.Prelude.{flat_map}
 use Rattle.rtk_obs.specs.Reading.{reading_of}
 use Rattle.rtk_rinex.specs.Columns.{fixed}
@@ -7,7 +7,7 @@ use Rattle.rtk_rinex.specs.Header.{PositionView, IsPositionView, header_line, ma
 use Rattle.rtk_rinex.specs.MixedHead.{MixedHeadView, IsMixedHead}
 use Rattle.rtk_rinex.specs.MixedHeader.{version_letter, mixed_version_line, unknown_lines, by_system, system_types_lines, phase_shift_line, glonass_lines, mixed_header_text}
 use Rattle.rtk_rinex.specs.MixedRecord.{mixed_record_text}
-use Rattle.rtk_rinex.specs.MixedTable.{MixedTable, IsMixedTable, mixed_table_text, has_shift_type, TypesTellShifts}
+use Rattle.rtk_rinex.specs.MixedTable.{MixedTable, mixed_table_text, has_shift_type, TypesTellShifts}
 use Rattle.rtk_rinex.specs.Steps.MixedHeaderRead.{types_and_unit}
 use Rattle.rtk_rinex.proofs.FlagLemmas.{HasFlag, flag_after, types_flag}
 use Rattle.rtk_rinex.proofs.HeaderShownLemmas.{length-fixed, IsCoordinate-height}

@@ -1,7 +1,7 @@
-use Rattle.std.proofs.Common.{◌≡◌, ◌∙◌, ◌+◌, ◌-◌, ◌*◌, ◌≤◌, suc, zero, ℕ, List, take, drop, length, arith, ap, sym, subst}
+use Rattle.std.proofs.Common.{◌≡◌, ◌+◌, ◌-◌, ◌*◌, ◌≤◌, suc, ℕ, List, drop, arith, sym, subst}
 use Rattle.std.proofs.Math.Nat.{mul-le-mul}
 use Rattle.rtk_rinex.specs.Record.{code_width}
-use Rattle.rtk_rinex.specs.Steps.MixedReadRecords.{IsMixedCell, AreMixedCells}
+use Rattle.rtk_rinex.specs.Steps.MixedReadRecords.{IsMixedCell}
 use Rattle.rtk_rinex.proofs.ValuesLemmas.{clash}
 use Rattle.rtk_rinex.proofs.MixedRowLemmas.{mixed-cells-front, mixed-cells-back}
 use Rattle.rtk_rinex.proofs.MixedCodeLemmas.{code-at, next-place}

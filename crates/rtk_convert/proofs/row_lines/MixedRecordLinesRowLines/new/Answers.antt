@@ -1,4 +1,3 @@
-use Rattle.std.proofs.Common.{refl}
 use Rattle.rtk_convert.proofs.row_lines.MixedRecordLinesRowLines.new.Goals as goal
 
 pub returns : goal.returns

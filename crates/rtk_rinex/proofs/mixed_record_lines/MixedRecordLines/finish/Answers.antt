@@ -1,5 +1,4 @@
 use Rattle.std.proofs.Common.{◌≡◌, sym, subst, ap, ◌∙◌}
-use Rattle.rtk_rinex.specs.declared.epoch_table.SatelliteRow.{SatelliteRow}
 use Rattle.rtk_rinex.specs.MixedRecord.{MixedLinesView, HoldsMixedLines, mixed_record_text}
 use Rattle.rtk_rinex.proofs.MixedRecordLemmas.{mixed-record-of}
 use Rattle.rtk_rinex.proofs.mixed_record_lines.MixedRecordLines.finish.Goals as goal
