@@ -60,6 +60,7 @@ mod SystemLinesLemmas
 mod SystemOrderLemmas
 mod SystemsReadLemmas
 mod FlagLemmas
+mod ShiftTypeLemmas
 mod SlotsLinesLemmas
 mod MixedPartsLemmas
 mod GlonassReadLemmas

@@ -1,4 +1,4 @@
-use Rattle.std.proofs.Common.{length, ap}
+use Rattle.std.proofs.Common.{length, ap, false}
 use Rattle.rtk_rinex.proofs.RecordLinesLemmas.{gps-row-added}
 use Rattle.rtk_rinex.proofs.record_lines.RecordLines.close_line.Goals as goal
 

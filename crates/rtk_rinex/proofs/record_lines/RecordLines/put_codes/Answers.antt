@@ -1,4 +1,4 @@
-use Rattle.std.proofs.Common.{◌-◌, ◌++◌, List, length, replicate, take, get_or, refl, subst, ◌∙◌}
+use Rattle.std.proofs.Common.{◌-◌, ◌++◌, List, length, replicate, take, get_or, refl, subst, ◌∙◌, false}
 use Rattle.rtk_rinex.specs.declared.epoch_table.Observed.{Observed}
 use Rattle.rtk_rinex.specs.Record.{no_observation}
 use Rattle.rtk_rinex.specs.RecordLines.{HasOpenLine}

@@ -1,4 +1,4 @@
-use Rattle.std.proofs.Common.{◌-◌, ◌++◌, length, replicate, take}
+use Rattle.std.proofs.Common.{◌-◌, ◌++◌, length, replicate, take, false}
 use Rattle.rtk_rinex.specs.Record.{no_observation}
 use Rattle.rtk_rinex.specs.RecordLines.{HasOpenLine, KeepsLines}
 use Rattle.rtk_rinex.proofs.record_lines.RecordLines.put_codes.Given as goal
