@@ -25,8 +25,8 @@ use crate::words::AutoWords;
 use rtk_convert::{Setup, Station};
 use rtk_label::Label;
 use rtk_plan::{
-    Captures, Known, Plan, PlanFault, Refusal, Reported, Ways, WrittenFile, equipment_in_captures,
-    label_wanted, plan_of, put_label_command, what_is_known,
+    Captures, Known, Plan, PlanFault, Refusal, Reported, Ways, WrittenFile, dating_wanted,
+    equipment_in_captures, label_wanted, plan_of, put_label_command, what_is_known,
 };
 use rtk_rinex::CreationTime;
 use rtk_streams::{
@@ -343,6 +343,7 @@ fn begin<'a, R: Env + Clock + Files + Input + Eprint + AllocGlobal, W: Write>(
     let made = made_at(rt, words.made)?;
     let target = Target {
         station: words.wanted.station.map(Station::number),
+        systems: dating_wanted(&words.wanted),
         present: made.moment(),
     };
     let as_given = words.ways.links_as_given;

@@ -2,15 +2,11 @@
 use Rattle.std.specs.Prelude.{◌≡◌, ◌≢◌, ℕ, ◌<◌, Bool, true, List}
 use Rattle.std.specs.List.{list_any}
 use Rattle.rtk_survey.specs.declared.survey.CaptureSurvey.{CaptureSurvey}
-use Rattle.rtk_plan.specs.StationCaptures.{station_in, has_observation}
-
--- a capture has an observation of the station
-abbrev pub observes : ℕ → CaptureSurvey → Bool
-observes n s = has_observation (station_in n s)
+use Rattle.rtk_plan.specs.StationCaptures.{is_observed_in}
 
 -- some capture has one; the number of a station (DF003) has 12 bits
 abbrev pub IsObservedStation : List CaptureSurvey → ℕ → Type 0
-IsObservedStation ss n = (n < 4096) × (list_any (observes n) ss ≡ true)
+IsObservedStation ss n = (n < 4096) × (list_any (is_observed_in n) ss ≡ true)
 
 -- one station alone has observations
 pub record IsOnlyObserved (ss : List CaptureSurvey) (n : ℕ) : Type 0 where

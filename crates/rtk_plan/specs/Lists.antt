@@ -10,8 +10,7 @@ use Rattle.rtk_message.specs.Accepted.{accepts}
 use Rattle.rtk_message.specs.Systems.{number_of_kind}
 use Rattle.rtk_message.specs.ShellText.{sh_quoted}
 use Rattle.rtk_survey.specs.declared.survey.CaptureSurvey.{CaptureSurvey}
-use Rattle.rtk_plan.specs.ChosenStation.{observes}
-use Rattle.rtk_plan.specs.StationCaptures.{epochs_heard, station_in}
+use Rattle.rtk_plan.specs.StationCaptures.{epochs_heard, is_observed_in, station_in}
 use Rattle.rtk_plan.specs.Values.{held_in_captures, messages_in_captures, obs_1004_in_captures, others_in_captures, sbas_in_captures}
 use Rattle.rtk_obs.specs.declared.time.TheConstants.{LAST_MS}
 use Rattle.rtk_survey.specs.Telling.{moment_of}
@@ -166,7 +165,7 @@ epochs_text epochs = codes ": " ++ decimal epochs ++ codes " epochs\n"
 -- a station with observations in a capture
 abbrev pub station_line : CaptureSurvey → ℕ → List ℕ → List ℕ
 station_line s station name =
-    if observes station s then
+    if is_observed_in station s then
     codes " station " ++ decimal station ++ words_and_name (codes " in ") name ++ epochs_text (epochs_heard (station_in station s))
     else []
 

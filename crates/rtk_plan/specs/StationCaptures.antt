@@ -1,12 +1,13 @@
 -- What a capture tells of a station, by its survey (this project's rule).
 use Rattle.std.specs.Prelude.{ℕ, ◌+◌, ◌==◌, Bool, false, is_some, min, List, [], ◌∷◌, length, Option, None, Some, unwrap_or, if◌then◌else◌}
 use Rattle.std.specs.BTreeMap.{get}
-use Rattle.std.specs.List.{list_any}
 use Rattle.std.specs.Ordering.{nat_cmp}
 use Rattle.rtk_survey.specs.CaptureDates.{no_dates, counting, own_moment_of}
 use Rattle.rtk_survey.specs.Parting.{parted_frame}
+use Rattle.rtk_survey.specs.Targets.{all_dating, has_dated_observation}
 use Rattle.rtk_survey.specs.declared.capture_dates.CaptureDates.{CaptureDates}
 use Rattle.rtk_survey.specs.declared.date_message.UtcDate.{UtcDate}
+use Rattle.rtk_survey.specs.declared.dating_systems.DatingSystems.{DatingSystems}
 use Rattle.rtk_survey.specs.declared.reference_point.ReferencePoint.{ReferencePoint}
 use Rattle.rtk_survey.specs.declared.station.StationSurvey.{StationSurvey}
 use Rattle.rtk_survey.specs.declared.survey.CaptureSurvey.{CaptureSurvey}
@@ -34,13 +35,19 @@ abbrev pub far_point_of : Option StationSurvey → Option ReferencePoint
 far_point_of None = None
 far_point_of (Some t) = t.far_point
 
-abbrev pub is_marked : Bool → Bool
-is_marked mark = mark
+-- the systems that date a capture: those that it was surveyed for
+abbrev pub systems_for : Option TargetSurvey → DatingSystems
+systems_for None = all_dating
+systems_for (Some t) = t.dates.systems
 
--- some code has a value
-abbrev pub has_observation : Option StationSurvey → Bool
-has_observation None = false
-has_observation (Some t) = list_any is_marked t.signals.codes.marks
+-- some code of these systems has a value
+abbrev pub has_observation : DatingSystems → Option StationSurvey → Bool
+has_observation systems None = false
+has_observation systems (Some t) = has_dated_observation systems t
+
+-- the same of the systems that date the capture
+abbrev pub is_observed_in : ℕ → CaptureSurvey → Bool
+is_observed_in n s = has_observation (systems_for s.contents.target) (station_in n s)
 
 -- formula
 -- how many epochs the observation messages of the station have: one more than their time changes; the count

@@ -2,9 +2,10 @@
 
 ghost use Rattle.std.specs.Prelude.{◌≡◌, ℕ};
 ghost use Rattle.std.specs.List.{list_any};
-ghost use Rattle.rtk_plan.specs.ChosenStation.{observes, IsObservedStation, IsOnlyObserved, AreSeveralObserved};
+ghost use Rattle.rtk_plan.specs.ChosenStation.{IsObservedStation, IsOnlyObserved, AreSeveralObserved};
+ghost use Rattle.rtk_plan.specs.StationCaptures.{is_observed_in};
 
-use crate::station_capture::has_observation;
+use crate::station_capture::is_observed_in;
 use rtk_survey::CaptureSurvey;
 
 /// How many stations there are: DF003 has 12 bits.
@@ -21,18 +22,13 @@ pub enum OnlyStation {
     Several,
 }
 
-/// Has a capture an observation of the station?
-pub(crate) fn observes(station: u16, survey: &CaptureSurvey) -> bool
-    ensures { result ≡ observes station survey.now }
-{
-    has_observation(survey.contents.stations.get(&station))
-}
-
 /// Has some capture an observation of the station?
 pub(crate) fn is_observed(surveys: &[CaptureSurvey], station: u16) -> bool
-    ensures { result ≡ list_any (observes station) surveys.now }
+    ensures { result ≡ list_any (is_observed_in station) surveys.now }
 {
-    surveys.iter().any(|survey| observes(station, survey))
+    surveys
+        .iter()
+        .any(|survey| is_observed_in(station, survey))
 }
 
 /// The station that alone has observations in captures.

@@ -10,7 +10,7 @@
 //! use rtk_obs::GpsMs;
 //! use rtk_plan::{Captures, SystemFlags, Wanted, plan_of};
 //! use rtk_rinex::CreationTime;
-//! use rtk_survey::{CaptureSurvey, Target, survey_capture};
+//! use rtk_survey::{CaptureSurvey, DatingSystems, Target, survey_capture};
 //! use std::alloc::{AllocError, Global};
 //!
 //! // Frames with a 1004 of station 2003: of 2024-05-17 12:00:00, and of two seconds later.
@@ -22,6 +22,7 @@
 //! fn survey_of(alloc: Global, bytes: &[u8], present: GpsMs) -> Option<CaptureSurvey> {
 //!     let target = Target {
 //!         station: None,
+//!         systems: DatingSystems::all(),
 //!         present,
 //!     };
 //!     let mut capture = MemSource::new(alloc, bytes, 512, After::End).ok()?;
@@ -79,6 +80,7 @@ mod clock_lines;
 mod clock_offsets;
 mod count_lines;
 mod dating;
+mod dating_systems;
 mod few_phases;
 mod found_seconds;
 mod held_messages;
@@ -120,6 +122,7 @@ pub use capture_equipment::equipment_in_captures;
 pub use captures::Captures;
 pub use chosen_station::{OnlyStation, only_station};
 pub use count_lines::put_counts;
+pub use dating_systems::dating_wanted;
 pub use joining::{Ordered, in_order, links_of};
 pub use known_lines::{Known, put_file, put_known, what_is_known};
 pub use label_command::put_label_command;

@@ -6,10 +6,9 @@ ghost use Rattle.std.specs.Prelude.{◌≡◌, ◌≤◌, ◌++◌, OnOk};
 ghost use Rattle.rtk_obs.specs.declared.time.TheConstants.{LAST_MS};
 ghost use Rattle.rtk_plan.specs.Lists as spec;
 
-use crate::chosen_station::observes;
 use crate::said_command::{put_time, put_time_at};
 use crate::span_line::put_message;
-use crate::station_capture::epochs_heard;
+use crate::station_capture::{epochs_heard, is_observed_in};
 use rtk_message::{put_named, put_sh_quoted};
 use rtk_obs::{GpsMs, LAST_MS};
 use rtk_survey::{CaptureSurvey, DateMessage, Look, Placed, Told, UtcDate, moment_of};
@@ -126,7 +125,7 @@ pub(crate) fn put_station_line(
 ) -> Result<(), AllocError>
     ensures { OnOk result (lines.new.items ≡ lines.old.items ++ spec.station_line survey.now station name.now) }
 {
-    if !observes(station, survey) {
+    if !is_observed_in(station, survey) {
         return Ok(());
     }
     put_named(lines, b" station ", u64::from(station))?;

@@ -1,12 +1,12 @@
 //! What a capture tells of one station.
 
 ghost use Rattle.std.specs.Prelude.{◌≡◌, ◌==◌, map, IfOk};
-ghost use Rattle.std.specs.List.{list_any};
 ghost use Rattle.std.specs.Option.{option_copied};
 ghost use Rattle.rtk_plan.specs.StationCaptures as spec;
 
 use rtk_survey::{
-    CaptureSurvey, Look, ReferencePoint, Span, StationSurvey, Tellings, Told, UtcDate,
+    CaptureSurvey, DatingSystems, Look, ReferencePoint, Span, StationSurvey, TargetSurvey, Tellings,
+    Told, UtcDate,
 };
 use std::alloc::{AllocError, Global};
 
@@ -56,26 +56,32 @@ fn far_point_of(station: Option<&StationSurvey>) -> Option<ReferencePoint>
     station?.far_point
 }
 
-fn is_marked(mark: &bool) -> bool
-    ensures { result ≡ spec.is_marked mark.now }
+// The systems that date a capture.
+fn systems_for(target: &Option<TargetSurvey>) -> DatingSystems
+    ensures { result ≡ spec.systems_for target.now }
 {
-    *mark
+    match target {
+        Some(target) => target.dates.systems,
+        None => DatingSystems::all(),
+    }
 }
 
-fn have_mark(marks: &[bool]) -> bool
-    ensures { result ≡ list_any spec.is_marked marks.now }
-{
-    marks.iter().any(is_marked)
-}
-
-/// Has the station an observation?
-pub(crate) fn has_observation(station: Option<&StationSurvey>) -> bool
-    ensures { result ≡ spec.has_observation (option_copied station.entry) }
+// Has a station an observation of these systems?
+fn has_observation(systems: DatingSystems, station: Option<&StationSurvey>) -> bool
+    ensures { result ≡ spec.has_observation systems (option_copied station.entry) }
 {
     match station {
-        Some(station) => have_mark(&station.signals.codes.marks),
+        Some(station) => systems.have_observation(station),
         None => false,
     }
+}
+
+/// Has a station an observation of the systems that date the capture?
+pub(crate) fn is_observed_in(station: u16, survey: &CaptureSurvey) -> bool
+    ensures { result ≡ spec.is_observed_in station survey.now }
+{
+    let systems = systems_for(&survey.contents.target);
+    has_observation(systems, survey.contents.stations.get(&station))
 }
 
 /// How many epochs the observation messages of a station have: one more than their time changes.

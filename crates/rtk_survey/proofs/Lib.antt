@@ -1,5 +1,6 @@
 pub mod AlikeLemmas
 pub mod BitLemmas
+pub mod ChainLemmas
 pub mod ChannelLemmas
 pub mod ChannelLineLemmas
 pub mod CountingLemmas
@@ -11,6 +12,7 @@ pub mod FrameLemmas
 pub mod FramePlaceLemmas
 pub mod FreshLemmas
 pub mod HeadLemmas
+pub mod LeapLemmas
 pub mod LineLemmas
 pub mod LineTellingLemmas
 pub mod ListLemmas
@@ -29,3 +31,4 @@ pub mod SystemLemmas
 pub mod SystemTellingLemmas
 pub mod TallyLemmas
 pub mod TargetLemmas
+pub mod VariantLemmas

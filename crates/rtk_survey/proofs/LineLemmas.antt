@@ -12,7 +12,6 @@ use Rattle.rtk_message.specs.declared.any_message.AnyMessage.{AnyMessage}
 use Rattle.rtk_survey.specs.BesideGps.{cells_beside, has_index, has_any_code}
 use Rattle.rtk_survey.specs.Chains.{clocks_of, clocks_at}
 use Rattle.rtk_survey.specs.Channels.{place_is_told}
-use Rattle.rtk_survey.specs.ClockLines.{clock_lines}
 use Rattle.rtk_survey.specs.Counting.{count_of}
 use Rattle.rtk_survey.specs.Look.{look_of, look_name}
 use Rattle.rtk_survey.specs.Surveys.{look_if_empty}
@@ -27,6 +26,7 @@ use Rattle.std.specs.BTreeMap.{BTreeMap}
 use Rattle.rtk_survey.specs.Contents.{count_at, HasCodes, HasSignals, HasSystemSignals, IsStationOf, HasMsms, equipment_at, epochs_held, codes_held}
 use Rattle.rtk_survey.specs.Steps.Tables.{counts_text, untaken_text, look_lines, messages_held, system_epochs_held, place_is_counted}
 use Rattle.rtk_survey.specs.Tracing.{is_numbered, entries_in, has_satellite, has_code, times_of_week}
+use Rattle.rtk_survey.specs.UncheckedClocks.{systems_sent, all_clock_lines}
 use Rattle.rtk_survey.specs.declared.station_dates.StationDates.{StationDates}
 use Rattle.rtk_survey.specs.declared.msm_parts.MsmParts.{MsmParts}
 use Rattle.rtk_survey.specs.declared.signals.Codes.{Codes}
@@ -34,6 +34,7 @@ use Rattle.rtk_survey.specs.declared.signals.Signals.{Signals}
 use Rattle.rtk_survey.specs.declared.clock_chains.ClockSurvey.{ClockSurvey}
 use Rattle.rtk_survey.specs.declared.station.StationSurvey.{StationSurvey}
 use Rattle.rtk_survey.specs.declared.system_signals.SystemSignals.{SystemSignals}
+use Rattle.rtk_survey.specs.declared.systems_sent.SystemsSent.{SystemsSent}
 use Rattle.rtk_survey.proofs.ChannelLineLemmas.{channel-line-is}
 use Rattle.rtk_survey.proofs.ListLemmas.{lines-agree}
 use Rattle.rtk_survey.proofs.MsmLemmas.{codes-marked, epochs-are, codes-held-are}
@@ -179,6 +180,12 @@ signals-are s o ms stands others =
     ∙ ap (λ (t : List ℕ). lines (satellites_text (has_satellite es) ++ t) coded) b
     ∙ ap (λ (t : List ℕ). lines (satellites_text (has_satellite es) ++ indices_text (has_index cs)) t) (all-codes-are s.codes o ms stands.codes others)
 
+sent-are : (c : Codes) (s : SystemSignals) (ms : List AnyMessage) → HasCodes c (entries_in ms) → HasSystemSignals s (cells_beside ms)
+    → systems_sent (λ code. get_or c.marks (place_of code) false) (λ code. get_or s.codes (number_of code) false) ≡ systems_sent (has_code (entries_in ms)) (has_any_code (cells_beside ms))
+sent-are c s ms has others =
+    ap (λ (t : Code → Bool). systems_sent t (any_codes_held s)) (codes-marked c (entries_in ms) has)
+    ∙ ap (λ (t : AnyCode → Bool). systems_sent (has_code (entries_in ms)) t) (any-codes-marked s (cells_beside ms) others)
+
 -- ---- a station
 
 pub proposal-is : (name near : List ℕ) (number : ℕ) (p : MsmParts) (ms : List AnyMessage) → HasMsms p ms
@@ -214,7 +221,7 @@ lines_held name number s d e times =
     ++ signal_lines (λ n. get_or s.signals.satellites n false) (λ c. get_or s.signals.codes.marks (place_of c) false) (λ n. get_or s.system_signals.satellites n false) (λ c. get_or s.system_signals.codes (number_of c) false)
     ++ system_epoch_lines (system_epochs_held s)
     ++ channel_line (place_is_counted s.channels.items)
-    ++ clock_lines (clocks_at s.clocks).offsets
+    ++ all_clock_lines (proposed_date d) (systems_sent (λ c. get_or s.signals.codes.marks (place_of c) false) (λ c. get_or s.system_signals.codes (number_of c) false)) (clocks_at s.clocks).offsets
     ++ proposal_lines name (near_text (proposed_date d)) number (epochs_held s.msm) (codes_held s.msm)
 
 -- the lines of the counts of messages
@@ -239,15 +246,19 @@ station-lines-are name number s d e ms stands =
     let messages' : List ℕ = message_lines (messages_held s) in
     let signals' : List ℕ = signal_lines (λ n. get_or s.signals.satellites n false) (λ c. get_or s.signals.codes.marks (place_of c) false) (λ n. get_or s.system_signals.satellites n false) (λ c. get_or s.system_signals.codes (number_of c) false) in
     let channels : List ℕ = channel_line (place_is_told ms) in
-    let clocks : List ℕ = clock_lines (clocks_of ms).offsets in
+    let date = proposed_date d in
+    let sent : SystemsSent = systems_sent (has_code (entries_in ms)) (has_any_code (cells_beside ms)) in
+    let sent' : SystemsSent = systems_sent (λ c. get_or s.signals.codes.marks (place_of c) false) (λ c. get_or s.system_signals.codes (number_of c) false) in
+    let clocks : List ℕ = all_clock_lines date sent (clocks_of ms).offsets in
     let channels' : List ℕ = channel_line (place_is_counted s.channels.items) in
     let epochs' : List ℕ = system_epoch_lines (system_epochs_held s) in
     ap (λ (t : List ℕ). head ++ t ++ times ++ dates ++ signals ++ system_epoch_lines (epochs_beside ms) ++ channels ++ clocks ++ proposal) (sym (messages-agree s ms d e stands))
     ∙ ap (λ (t : List ℕ). head ++ messages' ++ times ++ dates ++ t ++ system_epoch_lines (epochs_beside ms) ++ channels ++ clocks ++ proposal) (sym (signals-are s.signals s.system_signals ms stands.signals stands.system_signals))
     ∙ ap (λ (t : ℕ → ℕ). head ++ messages' ++ times ++ dates ++ signals' ++ system_epoch_lines t ++ channels ++ clocks ++ proposal) (sym (epochs-beside-are s ms stands.system_msm))
     ∙ ap (λ (t : List ℕ). head ++ messages' ++ times ++ dates ++ signals' ++ epochs' ++ t ++ clocks ++ proposal) (sym (channel-line-is s.channels.items ms stands.channels))
-    ∙ ap (λ (x : ClockSurvey). head ++ messages' ++ times ++ dates ++ signals' ++ epochs' ++ channels' ++ clock_lines x.offsets ++ proposal) (sym stands.clocks)
-    ∙ ap (λ (t : List ℕ). head ++ messages' ++ times ++ dates ++ signals' ++ epochs' ++ channels' ++ clock_lines (clocks_at s.clocks).offsets ++ t) (sym (proposal-is name near number s.msm ms stands.msm))
+    ∙ ap (λ (x : ClockSurvey). head ++ messages' ++ times ++ dates ++ signals' ++ epochs' ++ channels' ++ all_clock_lines date sent x.offsets ++ proposal) (sym stands.clocks)
+    ∙ ap (λ (x : SystemsSent). head ++ messages' ++ times ++ dates ++ signals' ++ epochs' ++ channels' ++ all_clock_lines date x (clocks_at s.clocks).offsets ++ proposal) (sym (sent-are s.signals.codes s.system_signals ms stands.signals.codes stands.system_signals))
+    ∙ ap (λ (t : List ℕ). head ++ messages' ++ times ++ dates ++ signals' ++ epochs' ++ channels' ++ all_clock_lines date sent' (clocks_at s.clocks).offsets ++ t) (sym (proposal-is name near number s.msm ms stands.msm))
 
 -- ---- a file without a frame
 

@@ -34,3 +34,4 @@ pub mod SystemTellings
 pub mod Targets
 pub mod Telling
 pub mod Tracing
+pub mod UncheckedClocks

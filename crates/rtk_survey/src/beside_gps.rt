@@ -10,7 +10,7 @@ ghost use Rattle.rtk_survey.specs.BesideGps as spec;
 ghost use Rattle.rtk_survey.specs.Tracing.{is_beside_gps};
 
 use arrayvec::ArrayVec;
-use rtk_message::{Accepted, AnyMessage, Msm, System};
+use rtk_message::{AnyMessage, Msm, System};
 use rtk_obs::{Channels, SignalEntry, WEEK_MS, put_signal_entries};
 
 const DAY_MS: u64 = 86_400_000;
@@ -24,11 +24,15 @@ const MOSCOW_MS: u64 = 10_800_000;
 /// The clock of GLONASS has 3 bits of the day (DF416) before 27 bits of the time of day (DF034).
 const TIME_OF_DAY: u32 = 1 << 27;
 
-/// Is it an MSM of another system than GPS?
+/// Is it a message of another system than GPS?
 pub fn is_beside_gps(message: &AnyMessage) -> bool
     ensures { result ≡ is_beside_gps message.now }
 {
-    !Accepted::GPS.accepts(message.number())
+    match message {
+        AnyMessage::Message(_) => false,
+        AnyMessage::Msm(message) => is_other_system(message.system),
+        AnyMessage::Obs1012(_) => true,
+    }
 }
 
 // ---- times

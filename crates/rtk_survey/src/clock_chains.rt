@@ -210,8 +210,8 @@ fn count_offset(list: &mut ArrayVec<ClockOffset, MOST_OFFSETS>, ahead: u32)
 }
 
 impl ClockOffsets {
-    // No chain ended.
-    fn new() -> ClockOffsets
+    /// No chain ended.
+    pub(crate) fn new() -> ClockOffsets
         ensures { result ≡ spec.no_offsets }
     {
         ClockOffsets {
@@ -335,14 +335,21 @@ impl ClockSurvey {
         let Some(clock) = clock_of(message) else {
             return;
         };
-        self.open_with(clock);
-        if !more_follow(message) {
-            self.end_chain();
+        if more_follow(message) {
+            self.open_with(clock);
+            return;
         }
+        // A chain of one clock compares none.
+        if self.waiting.is_empty() {
+            return;
+        }
+        self.open_with(clock);
+        self.end_chain();
     }
 }
 
-/// A message more; the first one makes the entry.
+/// A message more. The first one that other messages follow makes the entry, since a chain of one message
+/// compares no clock.
 pub(crate) fn take_clock(
     entries: &mut Vec<ClockSurvey>,
     message: &AnyMessage,
@@ -350,6 +357,9 @@ pub(crate) fn take_clock(
     ensures { OnOk result (spec.clocks_at entries.new ≡ spec.with_clock_of message.now (spec.clocks_at entries.old)) }
 {
     if entries.is_empty() {
+        if !more_follow(message) {
+            return Ok(());
+        }
         entries.push(ClockSurvey::new())?;
     }
     entries[0].take(message);

@@ -182,7 +182,7 @@ impl Contents {
         self.system_signals.mark_entries(signals);
         count_beside(&mut self.beside, message)?;
         take_message(alloc, &mut self.stations, message, entries, &codes, signals)?;
-        take_target_message(alloc, &mut self.target, message, entries, frame)
+        take_target_message(alloc, &mut self.target, message, entries, signals, frame)
     }
 
     /// A frame more, whose payload is no message that is read. It may tell a date, an antenna or a

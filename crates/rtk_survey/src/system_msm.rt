@@ -40,8 +40,8 @@ fn note_told_time(epochs: &mut Epochs, message: &AnyMessage)
     }
 }
 
-// Has a message with these cells a value?
-fn gives_value(_message: &AnyMessage, entries: &[SignalEntry]) -> bool
+/// Has a message with these cells of other systems than GPS a value?
+pub(crate) fn gives_value(_message: &AnyMessage, entries: &[SignalEntry]) -> bool
     requires { entries.now ≡ cells_beside_gps _message.now }
     ensures { result ≡ spec.gives_value_beside _message.now }
 {
