@@ -30,8 +30,9 @@ use Rattle.rtk_survey.specs.FrameEquipment.{equipment_among, is_mentioned, told_
 use Rattle.rtk_survey.specs.NumberLaws.{IsHeld}
 use Rattle.rtk_survey.specs.Proposal.{epochs_in, times_with_value, epochs_with_value, entries_with}
 use Rattle.rtk_survey.specs.ReadFrames.{messages_read, ReadFrame, ReadsFrames, read_frame, with_message, with_fault, bytes_in, messages_in, faults_in, messages_from}
-use Rattle.rtk_survey.specs.Summary.{all_numbers, size_lines, epochs_beside, station_lines, lines_if_any, stations_text, weeks_text, system_weeks_text, unread_lines, summary_text}
-use Rattle.rtk_survey.specs.SummaryText.{number_line, counted_line, numbered_line, message_numbers, message_lines, system_epoch_lines, channel_line, time_lines, look_line, near_text, signal_lines, proposal_lines, all_codes_text, nothing_line, untaken_numbers}
+use Rattle.rtk_survey.specs.NextCommand.{slot_items, station_proposal}
+use Rattle.rtk_survey.specs.Summary.{all_numbers, size_lines, epochs_beside, taken_beside, slots_beside, fields_told, station_lines, lines_if_any, stations_text, weeks_text, system_weeks_text, unread_lines, summary_text}
+use Rattle.rtk_survey.specs.SummaryText.{number_line, counted_line, numbered_line, message_numbers, message_lines, system_epoch_lines, channel_line, time_lines, look_line, near_text, signal_lines, all_codes_text, nothing_line, untaken_numbers}
 use Rattle.rtk_survey.specs.SystemTellings.{system_messages_in}
 use Rattle.rtk_survey.specs.declared.station_dates.StationDates.{StationDates}
 use Rattle.rtk_survey.specs.Tracing.{is_numbered, is_other, is_short, is_outside_week, is_no_number, is_too_many_cells, times_of_week, entries_in, has_satellite, has_code}
@@ -117,14 +118,14 @@ hit-type Navic Msm5 = refl
 hit-type Navic Msm6 = refl
 hit-type Navic Msm7 = refl
 
-hit : (m : AnyMessage) → IsReadMessage m → hits (number_of m) ≡ 1
+hit : (m : AnyMessage) → hits (number_of m) ≡ 1
 unfolding hits
-hit (any.Message (Obs1004 m)) read = refl
-hit (any.Message (Arp1005 m)) read = refl
-hit (any.Message (Arp1006 m)) read = refl
-hit (any.Message (Msm1074 m)) read = refl
-hit (any.Msm m) read = hit-type m.system m.kind
-hit (any.Obs1012 m) read = absurd cc
+hit (any.Message (Obs1004 m)) = refl
+hit (any.Message (Arp1005 m)) = refl
+hit (any.Message (Arp1006 m)) = refl
+hit (any.Message (Msm1074 m)) = refl
+hit (any.Msm m) = hit-type m.system m.kind
+hit (any.Obs1012 m) = refl
 
 -- the sum of two counts of each number
 sum-both : (f g : ℕ → ℕ) (ns : List ℕ) → sum_by (λ n. f n + g n) ns ≡ sum_by f ns + sum_by g ns
@@ -138,15 +139,15 @@ sum-both f g (n ∷ ns) =
 
 pub messages-counted : EachMessageIsCounted
 unfolding hits
-messages-counted [] read = refl
-messages-counted (m ∷ ms) read =
+messages-counted [] = refl
+messages-counted (m ∷ ms) =
     let here : ℕ → ℕ = λ n. cond (is_numbered n m) 1 0 in
     let there : ℕ → ℕ = λ n. count_by (is_numbered n) ms in
     let each : ◌≡◌ {A = ℕ → ℕ} (λ n. count_by (is_numbered n) (m ∷ ms)) (λ n. here n + there n) = fun_ext (λ n. sum_by-cons (λ (x : AnyMessage). cond (is_numbered n x) 1 0) m ms) in
     let split : sum_by (λ n. count_by (is_numbered n) (m ∷ ms)) message_numbers ≡ sum_by here message_numbers + sum_by there message_numbers =
     ap (λ (f : ℕ → ℕ). sum_by f message_numbers) each ∙ sum-both here there message_numbers in
-    let one : sum_by here message_numbers ≡ 1 = hit m read.0 in
-    let rest = messages-counted ms read.1 in
+    let one : sum_by here message_numbers ≡ 1 = hit m in
+    let rest = messages-counted ms in
     omega (arith, split, one, rest)
 
 -- ---- what stands in the text
@@ -206,7 +207,7 @@ epochs-are ms held = fun_ext (λ kind. let few = held kind in omega (arith, few)
 pub proposals-stand : ProposalsStand
 unfolding station_lines
 proposals-stand name station ms d e held =
-    let proposal : (MsmKind → ℕ) → List ℕ = λ epochs. proposal_lines name (near_text (proposed_date d)) station epochs (λ kind. has_code (entries_with kind ms)) in
+    let proposal : (MsmKind → ℕ) → List ℕ = λ epochs. station_proposal name (near_text (proposed_date d)) station epochs (λ kind. has_code (entries_with kind ms)) (epochs_beside ms) (taken_beside (proposed_date d) ms) (slot_items (slots_beside ms) (fields_told ms)) in
     let lines : List ℕ =
     number_line (codes "station ") station
     ++ message_lines (λ n. count_of (is_numbered n) ms)

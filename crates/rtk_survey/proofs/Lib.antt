@@ -1,6 +1,5 @@
 pub mod AlikeLemmas
 pub mod BitLemmas
-pub mod ChainLemmas
 pub mod ChannelLemmas
 pub mod ChannelLineLemmas
 pub mod CountingLemmas
@@ -19,6 +18,7 @@ pub mod ListLemmas
 pub mod MapLemmas
 pub mod MsmLemmas
 pub mod NamedLemmas
+pub mod NextLemmas
 pub mod PhaseLemmas
 pub mod PlacedLemmas
 pub mod PublicLaws

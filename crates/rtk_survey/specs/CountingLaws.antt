@@ -18,8 +18,9 @@ use Rattle.rtk_survey.specs.FrameEquipment.{equipment_among}
 use Rattle.rtk_survey.specs.NumberLaws.{IsHeld}
 use Rattle.rtk_survey.specs.Proposal.{epochs_in, times_with_value, entries_with}
 use Rattle.rtk_survey.specs.ReadFrames.{messages_read, ReadFrame, bytes_in, messages_in, faults_in, messages_from}
-use Rattle.rtk_survey.specs.Summary.{station_lines, stations_text, weeks_text, unread_lines, summary_text, AreFramesOf}
-use Rattle.rtk_survey.specs.SummaryText.{numbered_line, message_numbers, near_text, proposal_lines, untaken_numbers}
+use Rattle.rtk_survey.specs.NextCommand.{slot_items, station_proposal}
+use Rattle.rtk_survey.specs.Summary.{epochs_beside, taken_beside, slots_beside, fields_told, station_lines, stations_text, weeks_text, unread_lines, summary_text, AreFramesOf}
+use Rattle.rtk_survey.specs.SummaryText.{numbered_line, message_numbers, near_text, untaken_numbers}
 use Rattle.rtk_survey.specs.Tracing.{is_numbered, is_other, times_of_week, changes_in, entries_in, has_code}
 use Rattle.rtk_survey.specs.declared.station_dates.StationDates.{StationDates}
 
@@ -39,9 +40,9 @@ pub record FramesAreCounted (bytes : List ℕ) (fs : List ReadFrame) : Type 0 wh
 abbrev pub EachFrameIsCounted : Type 0
 EachFrameIsCounted = (bytes : List ℕ) (fs : List ReadFrame) → AreFramesOf bytes fs → FramesAreCounted bytes fs
 
--- each message that is read is counted under one of the numbers that have a line
+-- each message is counted under one of the numbers that have a line
 abbrev pub EachMessageIsCounted : Type 0
-EachMessageIsCounted = (ms : List AnyMessage) → AllByRecursion IsReadMessage ms → sum_by (λ n. count_by (is_numbered n) ms) message_numbers ≡ length ms
+EachMessageIsCounted = (ms : List AnyMessage) → sum_by (λ n. count_by (is_numbered n) ms) message_numbers ≡ length ms
 
 -- ---- all are taken alike, whatever came before
 
@@ -97,7 +98,8 @@ StationsStand =
 abbrev pub ProposalsStand : Type 0
 ProposalsStand =
     (name : List ℕ) (station : ℕ) (ms : List AnyMessage) (d : StationDates) (e : Equipment) → ((kind : MsmKind) → IsHeld (epochs_in (times_with_value kind ms)))
-    → StandsIn (proposal_lines name (near_text (proposed_date d)) station (λ kind. epochs_in (times_with_value kind ms)) (λ kind. has_code (entries_with kind ms)))
+    → StandsIn (station_proposal name (near_text (proposed_date d)) station (λ kind. epochs_in (times_with_value kind ms)) (λ kind. has_code (entries_with kind ms))
+    (epochs_beside ms) (taken_beside (proposed_date d) ms) (slot_items (slots_beside ms) (fields_told ms)))
     (station_lines name station ms d e)
 
 -- in the lines of what is not read those of GPS observations, by the numbers of their messages

@@ -3,15 +3,17 @@
 ghost use Rattle.std.specs.Prelude.{◌≡◌, ◌/◌, ◌%◌, ◌^◌, ◌<◌, [], if◌then◌else◌};
 ghost use Rattle.rtk_message.specs.AnyDecoded.{IsValid};
 ghost use Rattle.rtk_message.specs.MsmForm.{IsValid as IsValidMsm};
+ghost use Rattle.rtk_message.specs.Obs1012.{IsValid as IsValid1012};
 ghost use Rattle.rtk_obs.specs.Clocks.{beidou_tow};
+ghost use Rattle.rtk_obs.specs.GlonassCells.{entries_of_1012};
 ghost use Rattle.rtk_obs.specs.GlonassTime.{glonass_tow};
 ghost use Rattle.rtk_obs.specs.SignalCells.{signal_entries};
 ghost use Rattle.rtk_survey.specs.BesideGps as spec;
 ghost use Rattle.rtk_survey.specs.Tracing.{is_beside_gps};
 
 use arrayvec::ArrayVec;
-use rtk_message::{AnyMessage, Msm, System};
-use rtk_obs::{Channels, SignalEntry, WEEK_MS, put_signal_entries};
+use rtk_message::{AnyMessage, Msm, Obs1012, System};
+use rtk_obs::{Channels, SignalEntry, WEEK_MS, put_entries_1012, put_signal_entries};
 
 const DAY_MS: u64 = 86_400_000;
 
@@ -63,13 +65,15 @@ pub fn told_time(system: System, clock: u32) -> u32
     }
 }
 
-/// The time of week that an MSM tells (`told_time`). A 1074, or a message of another number, has none here.
+/// The time of week that a 1012 or an MSM tells (`told_time`). A 1074, or a message of another number, has none
+/// here.
 pub(crate) fn told_time_of(message: &AnyMessage) -> Option<u32>
     ensures { result ≡ spec.told_time_of message.now }
 {
     match message {
-        AnyMessage::Message(_) | AnyMessage::Obs1012(_) => None,
+        AnyMessage::Message(_) => None,
         AnyMessage::Msm(message) => Some(told_time(message.system, message.header.tow)),
+        AnyMessage::Obs1012(message) => Some(told_time(System::Glonass, message.clock())),
     }
 }
 
@@ -102,13 +106,23 @@ fn put_cells_of_other(message: &Msm, found: &mut ArrayVec<SignalEntry, 64>)
     }
 }
 
+// Puts the cells of a 1012 over a list.
+fn put_cells_1012(message: &Obs1012, found: &mut ArrayVec<SignalEntry, 64>)
+    requires { IsValid1012 message.now }
+    ensures { found.new.items ≡ entries_of_1012 spec.no_channels message.now.satellites }
+{
+    let channels = Channels::new();
+    put_entries_1012(message, &channels, found);
+}
+
 /// Puts the cells of a message of another system than GPS over a list. Another message has none.
 pub(crate) fn put_cells_beside_gps(message: &AnyMessage, found: &mut ArrayVec<SignalEntry, 64>)
     requires { IsValid message.now }
     ensures { found.new.items ≡ spec.cells_beside_gps message.now }
 {
     match message {
-        AnyMessage::Message(_) | AnyMessage::Obs1012(_) => found.clear(),
+        AnyMessage::Message(_) => found.clear(),
         AnyMessage::Msm(message) => put_cells_of_other(message, found),
+        AnyMessage::Obs1012(message) => put_cells_1012(message, found),
     }
 }

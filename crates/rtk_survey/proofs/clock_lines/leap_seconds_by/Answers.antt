@@ -1,4 +1,4 @@
-use Rattle.std.proofs.Common.{ap}
+use Rattle.std.proofs.Common.{ap, ◌∙◌}
 use Rattle.rtk_survey.specs.ClockLines.{leap_seconds_by}
 use Rattle.rtk_survey.proofs.LeapLemmas.{last-row}
 use Rattle.rtk_survey.proofs.clock_lines.leap_seconds_by.Goals as goal
