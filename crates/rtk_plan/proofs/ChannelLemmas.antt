@@ -10,7 +10,7 @@ use Rattle.rtk_rinex.specs.MixedHead.{GlonassView, has_glonass}
 use Rattle.rtk_setup.specs.declared.system_kinds.SystemKinds.{SystemKinds}
 use Rattle.rtk_survey.specs.declared.survey.CaptureSurvey.{CaptureSurvey}
 use Rattle.rtk_plan.specs.AlikeChannels.{is_alike}
-use Rattle.rtk_plan.specs.SlotChannels.{count_told, IsMostTold, IsToldField, IsChannelTold, channel_if, is_slot_given, AreOwnChannels, chosen_channel, IsChannelFound, AreChannelsFound, AreChannelsChosen, AreSecondsChosen, IsGlonassOf, IsGlonassFound}
+use Rattle.rtk_plan.specs.SlotChannels.{count_told, IsMostTold, IsToldField, IsToldChannel, channel_if, is_slot_given, AreOwnChannels, chosen_channel, IsChannelFound, AreChannelsFound, AreChannelsChosen, AreSecondsChosen, IsGlonassOf, IsGlonassFound}
 use Rattle.rtk_plan.specs.Steps.ToldFields.{most_told_with}
 use Rattle.rtk_plan.specs.declared.slot_channels.MostTold.{MostTold}
 
@@ -100,7 +100,7 @@ one-field counts fields (Some f) (Some g) is also = elim (cases_order f g) [
   | inr (inr behind) ↦ let less = is.least g behind in let most = also.most f is.few in absurd (omega (arith, less, most))
 ]
 
-one-told : (ss : List CaptureSurvey) (n : ℕ) (kind : MsmKind) (source : Option ℕ) (slot : ℕ) (a b : Option ℤ) → IsChannelTold ss n kind source slot a → IsChannelTold ss n kind source slot b → a ≡ b
+one-told : (ss : List CaptureSurvey) (n : ℕ) (kind : MsmKind) (source : Option ℕ) (slot : ℕ) (a b : Option ℤ) → IsToldChannel ss n kind source slot a → IsToldChannel ss n kind source slot b → a ≡ b
 one-told ss n kind source slot a b is also =
     is.2 ∙ ap (λ (o : Option ℕ). channel_if (is_slot_given ss n kind slot) o) (one-field (count_told ss source slot) 14 is.0 also.0 is.1 also.1) ∙ sym also.2
 

@@ -40,12 +40,12 @@ abbrev pub is_ahead_in_capture : ℕ → ℕ → ℕ → CaptureSurvey → Bool
 is_ahead_in_capture n behind ahead s = are_ahead_if_any behind ahead (offsets_in_capture n Glonass s)
 
 -- what 1013 tell of leap seconds (DF054), if they do
-abbrev pub is_alone : ℕ → LeapRange → Bool
-is_alone seconds r = r.least == seconds && r.greatest == seconds
+abbrev pub is_range_alone : ℕ → LeapRange → Bool
+is_range_alone seconds r = r.least == seconds && r.greatest == seconds
 
 abbrev pub is_told_alone : ℕ → Option LeapRange → Bool
 is_told_alone seconds None = true
-is_told_alone seconds (Some r) = is_alone seconds r
+is_told_alone seconds (Some r) = is_range_alone seconds r
 
 -- the leap seconds that the 1013 of a station in a capture tell, if they do
 abbrev pub leap_in_capture : ℕ → CaptureSurvey → Option LeapRange

@@ -29,7 +29,7 @@ use Rattle.rtk_plan.specs.Reported.{late_of}
 use Rattle.rtk_plan.specs.SpanLine.{span_line}
 use Rattle.rtk_plan.specs.StationCaptures.{dates_in, told_in, passed_over_in}
 use Rattle.rtk_plan.specs.TextsLeftOut.{texts_left_out}
-use Rattle.rtk_plan.specs.ToldChannels.{channel_lines}
+use Rattle.rtk_plan.specs.ToldChannels.{told_channel_lines}
 use Rattle.rtk_plan.specs.UncheckedSystems.{unchecked_system_lines}
 use Rattle.rtk_plan.specs.WrittenFile.{written_span, gap_lines}
 use Rattle.rtk_plan.specs.declared.known_lines.Known.{Known}
@@ -135,7 +135,7 @@ lines_before_late names ss plan told =
     ++ all_other_dates names plan.setup.station plan.setup.near ss
     ++ clock_lines_of names ss plan
     ++ few_phases_lines ss plan.setup.station plan.setup.kinds.gps plan.setup.head.listed
-    ++ channel_lines ss plan.setup.station plan.setup.kinds.glonass plan.own_channels plan.setup.head.glonass
+    ++ told_channel_lines ss plan.setup.station plan.setup.kinds.glonass plan.own_channels plan.setup.head.glonass
     ++ texts_left_out told
     ++ stray_lines names plan.span.until plan.strays.items
 

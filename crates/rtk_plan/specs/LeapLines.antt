@@ -5,7 +5,7 @@ use Rattle.rtk_rinex.specs.MixedHead.{GlonassView}
 use Rattle.rtk_survey.specs.declared.survey.CaptureSurvey.{CaptureSurvey}
 use Rattle.rtk_survey.specs.declared.system_tellings.LeapRange.{LeapRange}
 use Rattle.rtk_plan.specs.CaptureNames.{capture_name, lines_by}
-use Rattle.rtk_plan.specs.FoundSeconds.{is_alone, leap_in_capture}
+use Rattle.rtk_plan.specs.FoundSeconds.{is_range_alone, leap_in_capture}
 use Rattle.rtk_plan.specs.Lists.{name_line}
 
 -- formula
@@ -24,7 +24,7 @@ leap_words_of name r = codes " other-leap-seconds " ++ decimal r.least ++ greate
 
 -- the line of a capture, if a 1013 tells other leap seconds than these
 abbrev pub other_leap_range : ℕ → List ℕ → LeapRange → List ℕ
-other_leap_range seconds name r = if is_alone seconds r then [] else leap_words_of name r
+other_leap_range seconds name r = if is_range_alone seconds r then [] else leap_words_of name r
 
 abbrev pub other_leap_line : ℕ → List ℕ → Option LeapRange → List ℕ
 other_leap_line seconds name None = []

@@ -8,11 +8,11 @@ abbrev pub is_satellite_mark : Bool → Bool
 is_satellite_mark mark = mark
 
 -- table
-abbrev pub satellite_count : SatelliteMarks → System → ℕ
-satellite_count m Gps = count_by is_satellite_mark m.gps
-satellite_count m Glonass = count_by is_satellite_mark m.glonass
-satellite_count m Galileo = count_by is_satellite_mark m.galileo
-satellite_count m Beidou = count_by is_satellite_mark m.beidou
-satellite_count m Qzss = count_by is_satellite_mark m.qzss
-satellite_count m Sbas = count_by is_satellite_mark m.sbas
-satellite_count m Navic = count_by is_satellite_mark m.navic
+abbrev pub marked_count : SatelliteMarks → System → ℕ
+marked_count m Gps = count_by is_satellite_mark m.gps
+marked_count m Glonass = count_by is_satellite_mark m.glonass
+marked_count m Galileo = count_by is_satellite_mark m.galileo
+marked_count m Beidou = count_by is_satellite_mark m.beidou
+marked_count m Qzss = count_by is_satellite_mark m.qzss
+marked_count m Sbas = count_by is_satellite_mark m.sbas
+marked_count m Navic = count_by is_satellite_mark m.navic

@@ -86,13 +86,13 @@ channel_if true (Some field) = Some (channel_of_field field)
 -- constant
 -- the channel that these messages tell most often of a slot, by the fields 0 to 13: none, if no satellite has a value
 -- there or if none is told
-abbrev pub IsChannelTold : List CaptureSurvey → ℕ → MsmKind → Option ℕ → ℕ → Option ℤ → Type 0
-IsChannelTold ss n kind source slot channel =
+abbrev pub IsToldChannel : List CaptureSurvey → ℕ → MsmKind → Option ℕ → ℕ → Option ℤ → Type 0
+IsToldChannel ss n kind source slot channel =
     (told : Option ℕ) × IsToldField (count_told ss source slot) 14 told × (channel ≡ channel_if (is_slot_given ss n kind slot) told)
 
 -- each slot has the channel that messages of the station tell
 abbrev pub HasOwnChannels : List CaptureSurvey → ℕ → MsmKind → List (Option ℤ) → Type 0
-HasOwnChannels ss n kind channels = (slot : ℕ) → IsSlot slot → IsChannelTold ss n kind (Some n) slot (channel_at channels slot)
+HasOwnChannels ss n kind channels = (slot : ℕ) → IsSlot slot → IsToldChannel ss n kind (Some n) slot (channel_at channels slot)
 
 pub record AreOwnChannels (ss : List CaptureSurvey) (n : ℕ) (kind : MsmKind) (channels : List (Option ℤ)) : Type 0 where
   pub good : AreChannels channels
@@ -110,7 +110,7 @@ chosen_channel false own other = channel_or own other
 -- the channel of a slot, by those that messages of the station tell and by that of 1020
 abbrev pub IsChannelFound : List CaptureSurvey → ℕ → MsmKind → List (Option ℤ) → ℕ → Option ℤ → Type 0
 IsChannelFound ss n kind own slot channel =
-    (other : Option ℤ) × IsChannelTold ss n kind None slot other × (channel ≡ chosen_channel (is_alike own slot) (channel_at own slot) other)
+    (other : Option ℤ) × IsToldChannel ss n kind None slot other × (channel ≡ chosen_channel (is_alike own slot) (channel_at own slot) other)
 
 -- other slots than this one keep their channels: before, after
 abbrev pub KeepsOtherSlots : ℕ → List (Option ℤ) → List (Option ℤ) → Type 0

@@ -18,14 +18,14 @@ channel_fields = 0 ∷ 1 ∷ 2 ∷ 3 ∷ 4 ∷ 5 ∷ 6 ∷ 7 ∷ 8 ∷ 9 ∷ 10 
 
 -- formula
 -- the satellite of a slot, as in R09
-abbrev pub slot_name : ℕ → List ℕ
-slot_name slot = codes " R" ++ last_digits 2 slot
+abbrev pub satellite_of_slot : ℕ → List ℕ
+satellite_of_slot slot = codes " R" ++ last_digits 2 slot
 
 -- ---- one channel of many slots
 
 -- formula
 abbrev pub alike_name : List (Option ℤ) → Option ℤ → ℕ → List ℕ
-alike_name own channel slot = if is_same_channel (channel_in_slot own slot) channel then slot_name slot else []
+alike_name own channel slot = if is_same_channel (channel_in_slot own slot) channel then satellite_of_slot slot else []
 
 -- formula
 -- a channel, and the slots of the constellation that have it
@@ -60,7 +60,7 @@ told_channel ss n slot field = if nat_lt field 14 && nat_lt 0 (own_count ss n sl
 -- formula
 -- a slot, and the channels that messages tell of it
 unfoldable pub several_words : List CaptureSurvey → ℕ → ℕ → List ℕ
-several_words ss n slot = codes " several-channels" ++ slot_name slot ++ flat_map (told_channel ss n slot) channel_fields ++ codes "\n"
+several_words ss n slot = codes " several-channels" ++ satellite_of_slot slot ++ flat_map (told_channel ss n slot) channel_fields ++ codes "\n"
 
 -- a slot has a value, and messages of the station tell several channels of it
 abbrev pub has_several : List CaptureSurvey → ℕ → MsmKind → ℕ → Bool
@@ -75,6 +75,6 @@ several_lines ss n kind = flat_map (several_line ss n kind) all_slots
 -- ---- all of them
 
 -- what messages tell of channels, and the slots without one, if this is told of GLONASS
-abbrev pub channel_lines : List CaptureSurvey → ℕ → MsmKind → List (Option ℤ) → Option GlonassView → List ℕ
-channel_lines ss n kind own None = []
-channel_lines ss n kind own (Some g) = alike_lines own ++ several_lines ss n kind ++ no_channel_line ss n kind g.channels
+abbrev pub told_channel_lines : List CaptureSurvey → ℕ → MsmKind → List (Option ℤ) → Option GlonassView → List ℕ
+told_channel_lines ss n kind own None = []
+told_channel_lines ss n kind own (Some g) = alike_lines own ++ several_lines ss n kind ++ no_channel_line ss n kind g.channels

@@ -99,7 +99,7 @@ fn is_ahead_in_capture(
 
 /// Are no other leap seconds told than these?
 pub(crate) fn is_alone(seconds: u64, range: &LeapRange) -> bool
-    ensures { result ≡ spec.is_alone seconds range.now }
+    ensures { result ≡ spec.is_range_alone seconds range.now }
 {
     u64::from(range.least) == seconds && u64::from(range.greatest) == seconds
 }

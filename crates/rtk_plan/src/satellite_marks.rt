@@ -50,7 +50,7 @@ impl SatelliteMarks {
 
     /// How many satellites of a system are marked.
     pub(crate) fn count(&self, system: System) -> usize
-        ensures { result ≡ spec.satellite_count self.now system }
+        ensures { result ≡ spec.marked_count self.now system }
     {
         match system {
             System::Gps => count_marks(&self.gps),

@@ -185,7 +185,7 @@ fn channel_told(
     slot: u8,
 ) -> Option<Channel>
     requires { IsSlot slot }
-    ensures { spec.IsChannelTold surveys.now station kind source slot result }
+    ensures { spec.IsToldChannel surveys.now station kind source slot result }
 {
     let field = told_field(surveys, source, slot);
     channel_if(is_slot_given(surveys, station, kind, slot), field)

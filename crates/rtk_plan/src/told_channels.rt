@@ -22,7 +22,7 @@ use std::alloc::AllocError;
 const FIELDS: [u8; 14] = [0, 1, 2, 3, 4, 5, 6, 7, 8, 9, 10, 11, 12, 13];
 
 fn put_slot_name(lines: &mut Vec<u8>, slot: u8) -> Result<(), AllocError>
-    ensures { OnOk result (lines.new.items ≡ lines.old.items ++ spec.slot_name slot) }
+    ensures { OnOk result (lines.new.items ≡ lines.old.items ++ spec.satellite_of_slot slot) }
 {
     lines.extend_from_slice(b" R")?;
     lines.extend_from_slice(&two_digits(slot))
@@ -224,7 +224,7 @@ fn put_channels_of(
     own: &Channels,
     glonass: Glonass,
 ) -> Result<(), AllocError>
-    ensures { OnOk result (lines.new.items ≡ lines.old.items ++ spec.channel_lines surveys.now station kind own.now (Some glonass)) }
+    ensures { OnOk result (lines.new.items ≡ lines.old.items ++ spec.told_channel_lines surveys.now station kind own.now (Some glonass)) }
 {
     put_alike_among(lines, own, &FIELDS)?;
     put_several_among(lines, surveys, station, kind, &SLOTS)?;
@@ -240,7 +240,7 @@ fn put_channels_if(
     own: &Channels,
     glonass: Option<Glonass>,
 ) -> Result<(), AllocError>
-    ensures { OnOk result (lines.new.items ≡ lines.old.items ++ spec.channel_lines surveys.now station kind own.now glonass) }
+    ensures { OnOk result (lines.new.items ≡ lines.old.items ++ spec.told_channel_lines surveys.now station kind own.now glonass) }
 {
     match glonass {
         Some(glonass) => put_channels_of(lines, surveys, station, kind, own, glonass),
@@ -255,7 +255,7 @@ pub(crate) fn put_channels_in(
     plan: &Plan,
 ) -> Result<(), AllocError>
     ensures { OnOk result (lines.new.items ≡ lines.old.items
-        ++ spec.channel_lines surveys.now plan.now.setup.station plan.now.setup.kinds.glonass plan.now.own_channels plan.now.setup.head.glonass) }
+        ++ spec.told_channel_lines surveys.now plan.now.setup.station plan.now.setup.kinds.glonass plan.now.own_channels plan.now.setup.head.glonass) }
 {
     let setup = &plan.setup;
     let kind = setup.kinds().glonass;

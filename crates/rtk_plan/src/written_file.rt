@@ -4,7 +4,7 @@
 ghost use Rattle.std.specs.Prelude.{◌≡◌, ◌<◌, ◌++◌, flat_map, OnOk};
 ghost use Rattle.rtk_survey.specs.Counting.{count_of};
 ghost use Rattle.rtk_message.specs.declared.system.System.TheVariants.{Gps};
-ghost use Rattle.rtk_plan.specs.SatelliteMarks.{satellite_count};
+ghost use Rattle.rtk_plan.specs.SatelliteMarks.{marked_count};
 ghost use Rattle.rtk_plan.specs.WrittenFile as spec;
 
 use crate::said_command::put_time;
@@ -211,14 +211,14 @@ impl WrittenFile {
 
     /// How many satellites of a system it has.
     pub fn satellites_of(&self, system: System) -> usize
-        ensures { result ≡ satellite_count self.now.satellites system }
+        ensures { result ≡ marked_count self.now.satellites system }
     {
         self.satellites.count(system)
     }
 
     /// How many satellites of GPS it has.
     pub fn satellites(&self) -> usize
-        ensures { result ≡ satellite_count self.now.satellites Gps }
+        ensures { result ≡ marked_count self.now.satellites Gps }
     {
         self.satellites_of(System::Gps)
     }

@@ -1,13 +1,13 @@
 use Rattle.std.proofs.Common.{◌++◌, List, ℕ, ap, ◌∙◌, codes}
 use Rattle.std.specs.Prelude.{flat_map}
-use Rattle.rtk_plan.specs.ToldChannels.{slot_name, channel_fields, told_channel, several_words}
+use Rattle.rtk_plan.specs.ToldChannels.{satellite_of_slot, channel_fields, told_channel, several_words}
 use Rattle.rtk_plan.proofs.PutLemmas.{four-parts}
 use Rattle.rtk_plan.proofs.told_channels.put_several_words.Goals as goal
 
 pub returns : goal.returns
 unfolding several_words
 returns c =
-    let name : List ℕ = slot_name c.args.slot in
+    let name : List ℕ = satellite_of_slot c.args.slot in
     let channels : List ℕ = flat_map (told_channel c.args.surveys.now c.args.station c.args.slot) channel_fields in
     let last : List ℕ = codes "\n" in
     c.in_ok-extend_from_slice-2.ensures.items
