@@ -46,7 +46,7 @@ alike_lines own = flat_map (alike_line_of own) channel_fields
 -- ---- several channels of one slot
 
 -- 1 if messages of the station tell this channel of a slot
-abbrev pub count_if_told : List CaptureSurvey → ℕ → ℕ → ℕ → ℕ
+unfoldable pub count_if_told : List CaptureSurvey → ℕ → ℕ → ℕ → ℕ
 count_if_told ss n slot field = if nat_lt 0 (own_count ss n slot field) then 1 else 0
 
 -- how many channels they tell of a slot

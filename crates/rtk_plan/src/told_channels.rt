@@ -101,6 +101,7 @@ fn put_alike_among(lines: &mut Vec<u8>, own: &Channels, fields: &[u8]) -> Result
 
 // ---- several channels of one slot
 
+#[tactic(auto, unfolding(crate::specs::ToldChannels::count_if_told))]
 fn count_if_told(surveys: &[CaptureSurvey], station: u16, slot: u8, field: u8) -> u64
     ensures { result ≡ spec.count_if_told surveys.now station slot field }
 {
