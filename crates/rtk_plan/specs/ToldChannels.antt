@@ -37,7 +37,7 @@ alike_words own channel =
 abbrev pub alike_line : List (Option ℤ) → ℤ → List ℕ
 alike_line own channel = if are_too_many (slots_with_channel own (Some channel)) then alike_words own channel else []
 
-abbrev pub alike_line_of : List (Option ℤ) → ℕ → List ℕ
+unfoldable pub alike_line_of : List (Option ℤ) → ℕ → List ℕ
 alike_line_of own field = if nat_lt field 14 then alike_line own (channel_of_field field) else []
 
 abbrev pub alike_lines : List (Option ℤ) → List ℕ

@@ -88,6 +88,7 @@ fn put_alike_line(lines: &mut Vec<u8>, own: &Channels, channel: Channel) -> Resu
     }
 }
 
+#[tactic(auto, unfolding(crate::specs::ToldChannels::alike_line_of))]
 fn put_alike_line_of(lines: &mut Vec<u8>, own: &Channels, field: u8) -> Result<(), AllocError>
     ensures { OnOk result (lines.new.items ≡ lines.old.items ++ spec.alike_line_of own.now field) }
 {
