@@ -1,8 +1,0 @@
-use Rattle.std.proofs.Common.{◌≡◌, ◌++◌, drop, length}
-use Rattle.rtk_chart.specs.SvgPath.{steps_from}
-use Rattle.rtk_chart.proofs.svg_steps.put_steps.Given as goal
-
-abbrev pub invariant-loop-bin : goal.invariant-loop-bin
-invariant-loop-bin l =
-    l.fn.text.items ++ steps_from l.most (length l.bins) 0 0 l.bins
-    ≡ l.text.items ++ steps_from l.most (length l.bins) l.bin l.was (drop l.bin l.bins)

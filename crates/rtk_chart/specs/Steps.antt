@@ -1,5 +1,0 @@
--- Definitions that only private clauses use.
-pub mod Added
-pub mod Pictures
-pub mod Shown
-pub mod Standing

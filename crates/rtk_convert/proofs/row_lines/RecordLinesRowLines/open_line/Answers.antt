@@ -1,5 +1,0 @@
-use Rattle.rtk_convert.proofs.RowLinesLemmas.{gps-room}
-use Rattle.rtk_convert.proofs.row_lines.RecordLinesRowLines.open_line.Goals as goal
-
-pub open_line-requires-clause-room : goal.open_line-requires-clause-room
-open_line-requires-clause-room c = gps-room c.args.self.now c.requires.room

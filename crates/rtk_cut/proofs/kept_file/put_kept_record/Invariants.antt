@@ -1,8 +1,0 @@
-use Rattle.rtk_cut.proofs.KeptFileLemmas.{HasKeptLines}
-use Rattle.rtk_cut.proofs.kept_file.put_kept_record.Given as goal
-
-abbrev pub invariant-loop-satellite : goal.invariant-loop-satellite
-invariant-loop-satellite l = HasKeptLines l.kept l.read l.rows l.lines
-
-abbrev pub decreases-loop-satellite : goal.decreases-loop-satellite
-decreases-loop-satellite l = l.rows.count

@@ -1,6 +1,0 @@
-use Rattle.std.proofs.Common.{ℕ, ◌<◌, slice_index_or}
-use Rattle.std.specs.Int.{IsInRange}
-use Rattle.rtk_label.proofs.fields.are_digits.Given as goal
-
-abbrev pub invariant-loop-byte : goal.invariant-loop-byte
-invariant-loop-byte l = (k d : ℕ) → k < l.byte-index → IsInRange 48 57 (slice_index_or l.text k d)

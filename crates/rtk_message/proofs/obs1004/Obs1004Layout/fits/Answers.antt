@@ -1,5 +1,0 @@
-use Rattle.std.proofs.Common.{rules}
-use Rattle.rtk_message.proofs.obs1004.Obs1004Layout.fits.Goals as goal
-
-pub returns : goal.returns
-returns c = search rules depth 5 fits 300

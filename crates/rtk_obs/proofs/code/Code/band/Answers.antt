@@ -1,5 +1,0 @@
-use Rattle.std.proofs.Common.{rules}
-use Rattle.rtk_obs.proofs.code.Code.band.Goals as goal
-
-pub returns-in_default : goal.returns-in_default
-returns-in_default c = search rules depth 5 fits 300

@@ -1,4 +1,0 @@
--- Definitions that only private clauses use.
-pub mod LegacyFields
-pub mod MsmRows
-pub mod Marks

@@ -1,8 +1,0 @@
-mod HeadLemmas
-mod LinkLemmas
-mod OnePlanLemmas
-mod PutLemmas
-mod SumLemmas
-mod TakenLemmas
-mod ToldLabelLemmas
-mod WalkLemmas

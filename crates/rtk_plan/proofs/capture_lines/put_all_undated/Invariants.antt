@@ -1,9 +1,0 @@
-use Rattle.std.proofs.Common.{◌≡◌, ◌++◌, drop}
-use Rattle.rtk_plan.specs.CaptureNames.{capture_name, lines_by}
-use Rattle.rtk_plan.specs.KnownLines.{undated_line_if}
-use Rattle.rtk_plan.proofs.capture_lines.put_all_undated.Given as goal
-
--- the lines so far and those of the captures that are left are those of all
-abbrev pub invariant-loop-at : goal.invariant-loop-at
-invariant-loop-at l =
-    l.lines.items ++ lines_by (λ at c. undated_line_if c (capture_name l.captures.names.now at)) l.at (drop l.at (l.told)) ≡ l.fn.lines.items ++ lines_by (λ at c. undated_line_if c (capture_name l.captures.names.now at)) 0 (l.told)

@@ -1,2 +1,0 @@
--- Definitions that only private clauses use.
-pub mod OnlyBelow

@@ -1,7 +1,0 @@
-use Rattle.rtk_quality.proofs.LineLemmas.{gap-is}
-use Rattle.rtk_quality.proofs.station_lines.put_gap_line.Goals as goal
-
-pub returns : goal.returns
-returns c =
-    gap-is c.args.form c.args.gap.now c.args.text.now.items c.put_start.new.text.items c.put_moment.new.text.items c.put_moment-2.new.text.items c.put_count.new.text.items
-    c.put_end.new.text.items c.in_ok-put_start.ensures c.in_ok-put_moment.ensures c.in_ok-put_moment-2.ensures c.in_ok-put_count.ensures c.in_ok-put_end.ensures

@@ -1,8 +1,0 @@
-use Rattle.std.proofs.Common.{rules}
-use Rattle.rtk_rinex.proofs.epoch_table.EpochTable.restart.Goals as goal
-
-pub invariant_of-self : goal.invariant_of-self
-invariant_of-self c = search rules depth 5 fits 300
-
-pub returns : goal.returns
-returns c = search rules depth 5 fits 300

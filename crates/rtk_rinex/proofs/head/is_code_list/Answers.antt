@@ -1,6 +1,0 @@
-use Rattle.std.proofs.Common.{rules}
-use Rattle.rtk_rinex.proofs.HeaderLemmas.{unlike-more}
-use Rattle.rtk_rinex.proofs.head.is_code_list.Goals as goal
-
-pub loop-i-preserved : goal.loop-i-preserved
-loop-i-preserved c = unlike-more c.args.listed.now c.loop-i.i c.loop-i.invariant (c.is_new.ensures.0 (search rules))

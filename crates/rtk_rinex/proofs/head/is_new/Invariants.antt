@@ -1,6 +1,0 @@
-use Rattle.std.proofs.Common.{◌≢◌, ℕ, ◌<◌, slice_index_or}
-use Rattle.rtk_obs.specs.declared.code.Code.{Code}
-use Rattle.rtk_rinex.proofs.head.is_new.Given as goal
-
-abbrev pub invariant-loop-i : goal.invariant-loop-i
-invariant-loop-i l = (k : ℕ) (d : Code) → k < l.i → slice_index_or l.listed k d ≢ slice_index_or l.listed l.at d

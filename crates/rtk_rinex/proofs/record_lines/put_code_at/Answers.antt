@@ -1,7 +1,0 @@
-use Rattle.std.proofs.Common.{◌≡◌, ◌+◌, ◌-◌, refl, arith}
-use Rattle.rtk_rinex.proofs.record_lines.put_code_at.Goals as goal
-
-pub returns : goal.returns
-returns c =
-    let size : c.args.at + 48 - c.args.at ≡ 48 = omega arith in
-    rw (size, c.put_columns.ensures) refl

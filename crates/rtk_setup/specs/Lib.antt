@@ -1,3 +1,0 @@
-pub mod Setup
-pub mod SetupFault
-pub mod Counts

@@ -1,3 +1,0 @@
--- Definitions that only private clauses use.
-pub mod ReadLimits
-pub mod Interrupts

@@ -1,8 +1,0 @@
--- Lemmas that proofs of other crates cite.
-
-pub use Rattle.rtk_survey.proofs.CutLemmas.{head-more, take-none, take-again}
-pub use Rattle.rtk_survey.proofs.FreshLemmas.{as-many}
-pub use Rattle.rtk_survey.proofs.ListLemmas.{put-more}
-pub use Rattle.rtk_survey.proofs.LineLemmas.{code-kept, code-left}
-pub use Rattle.rtk_survey.proofs.MsmLemmas.{codes-marked, epochs-are, stands-of}
-pub use Rattle.rtk_survey.proofs.ReadLemmas.{count-rises, refilled, length-first}

@@ -1,7 +1,0 @@
-use Rattle.std.proofs.Common.{◌≡◌, take}
-use Rattle.std.specs.List.{sum_by}
-use Rattle.rtk_survey.specs.Counting.{shown_count}
-use Rattle.rtk_survey.proofs.clock_lines.compared_clocks.Given as goal
-
-abbrev pub invariant-loop-offset : goal.invariant-loop-offset
-invariant-loop-offset l = l.count ≡ shown_count (sum_by (λ o. o.count) (take l.offset-index l.offsets))

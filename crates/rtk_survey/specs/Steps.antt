@@ -1,4 +1,0 @@
--- Definitions that only private clauses use.
-pub mod Fields
-pub mod Looking
-pub mod Tables

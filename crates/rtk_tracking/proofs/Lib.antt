@@ -1,7 +1,0 @@
--- The facts that proofs of other crates cite
-pub mod PublicLaws
-mod AbsenceLemmas
-mod BitLemmas
-mod StepLemmas
-mod RecordLemmas
-mod ObservationLemmas

@@ -1,6 +1,0 @@
-pub mod Epochs
-pub mod Extremes
-pub mod Interval
-pub mod Laws
-pub mod Passes
-pub mod Standing
