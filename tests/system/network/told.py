@@ -18,6 +18,7 @@ from rtcm2rinex_network.ends import Again, Refused  # noqa: E402
 from rtcm2rinex_network.program import Program, Ran  # noqa: E402
 from rtcm2rinex_network.summaries import told_of  # noqa: E402
 from rtcm2rinex_network.table import read_row  # noqa: E402
+from tally import tally  # noqa: E402
 
 R, C = "1C,R1C", "1C,C2I"
 WRONG = "clock C +14.000 257 of 257"
@@ -96,13 +97,4 @@ def results() -> Iterator[tuple[str, str, str]]:
         yield name, told(words, own, beside, known), due
 
 
-def main() -> int:
-    found = list(results())
-    for name, got, due in found:
-        print(f"ok {name}" if got == due else f"FAILED {name}: {got}, and not {due}")
-    failed = sum(got != due for _, got, due in found)
-    print(f"{len(found) - failed} passed, {failed} failed")
-    return failed
-
-
-sys.exit(main())
+sys.exit(tally(results()))
