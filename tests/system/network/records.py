@@ -20,6 +20,7 @@ from rtcm2rinex_network.comparison import Unlike, differences, lost_first_slips 
 from rtcm2rinex_network.ends import Again, Refused  # noqa: E402
 from rtcm2rinex_network.program import Program, Ran  # noqa: E402
 from rtcm2rinex_network.rinex import codes_with_values, counts_of_systems, most_frequent_step, read_header  # noqa: E402
+from tally import tally  # noqa: E402
 
 TYPES = ["G    6 C1C L1C S1C C2W L2W S2W", "R    3 C2P L2P S2P", "E    6 C8X L8X S8X", "       C1C L1C S1C"]
 HEADER = "".join(f"{it:60}SYS / # / OBS TYPES\n" for it in TYPES) + " " * 60 + "END OF HEADER\n"
@@ -149,12 +150,7 @@ def rows(folder: Path) -> Iterator[tuple[str, object, object]]:
 
 def main() -> int:
     with tempfile.TemporaryDirectory() as folder:
-        found = list(rows(Path(folder)))
-    for name, got, due in found:
-        print(f"ok {name}" if got == due else f"FAILED {name}: {got}, and not {due}")
-    failed = sum(got != due for _, got, due in found)
-    print(f"{len(found) - failed} passed, {failed} failed")
-    return failed
+        return tally(rows(Path(folder)))
 
 
 sys.exit(main())

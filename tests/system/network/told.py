@@ -18,6 +18,7 @@ from rtcm2rinex_network.ends import Again, Refused  # noqa: E402
 from rtcm2rinex_network.program import Program, Ran  # noqa: E402
 from rtcm2rinex_network.summaries import told_of  # noqa: E402
 from rtcm2rinex_network.table import read_row  # noqa: E402
+from tally import tally  # noqa: E402
 
 R, C = "1C,R1C", "1C,C2I"
 WRONG = "clock C +14.000 257 of 257"
@@ -45,6 +46,9 @@ ROWS: list[tuple[str, str, list[str], list[str], dict[int, int], str]] = [
     ("as often as it is right", C, ["clock C +14.000 2 of 4"], [], {}, C),
     ("in most captures", C, ["clock C +14.000 11 of 11", "epochs 1127 10"], [], {}, "1C C +14.000 11 of 21"),
     ("in a few captures", C, ["clock C +14.000 10 of 10", "epochs 1124 1; epochs 1127 9"], [], {}, C),
+    *((f"which an MSM of {it[0]} tells", f"1C,{it}", [f"clock {it[0]} +14.000 9 of 9", f"epochs {msm} 9"], [], {}, f"1C,{it}")
+        for it, msm in [("E1C", 1097), ("S1C", 1107), ("J1C", 1117), ("C2I", 1127), ("I5A", 1137)]),
+    ("and one of GLONASS", R, ["channels 9:5; clock R +14.000 9 of 9", "epochs 1087 9"], [], {}, "1C,R1C 9:5"),
     ("by several offsets", C, ["clock C +14.000 5 of 5", "clock C +13.000 6 of 6"], [], {}, "1C C +13.000 6 of 11"),
     ("of which the most frequent is small", C, ["clock C +14.000 5 of 5", "clock C +0.001 6 of 6"], [], {}, C),
     ("before the span alone", C, ["epochs 1127 1"], [WRONG], {}, C),
@@ -96,13 +100,4 @@ def results() -> Iterator[tuple[str, str, str]]:
         yield name, told(words, own, beside, known), due
 
 
-def main() -> int:
-    found = list(results())
-    for name, got, due in found:
-        print(f"ok {name}" if got == due else f"FAILED {name}: {got}, and not {due}")
-    failed = sum(got != due for _, got, due in found)
-    print(f"{len(found) - failed} passed, {failed} failed")
-    return failed
-
-
-sys.exit(main())
+sys.exit(tally(results()))
