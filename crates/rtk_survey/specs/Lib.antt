@@ -16,6 +16,7 @@ pub mod FrameDates
 pub mod FrameEquipment
 pub mod FramePlaces
 pub mod Look
+pub mod NextCommand
 pub mod NumberLaws
 pub mod Parting
 pub mod Phases
@@ -35,3 +36,4 @@ pub mod Targets
 pub mod Telling
 pub mod Tracing
 pub mod UncheckedClocks
+pub mod WrongClocks

@@ -260,10 +260,10 @@ near_text (Some d) = date_time_text d
 
 -- formula
 -- the words of the command behind its moment
-abbrev pub words_text : List ℕ → ℕ → MsmKind → List ℕ → List ℕ
-words_text name station named names =
+abbrev pub words_text : List ℕ → ℕ → List ℕ → List ℕ → List ℕ
+words_text name station options names =
     codes " --made \"$(date -u +%FT%T)\" --marker " ++ last_digits 4 station
-    ++ codes " --codes" ++ names ++ msm_option named ++ codes " " ++ sh_quoted name ++ 10 ∷ []
+    ++ codes " --codes" ++ names ++ options ++ codes " " ++ sh_quoted name ++ 10 ∷ []
 
 -- constant
 -- the name means standard input
@@ -279,19 +279,20 @@ auto_line name station =
     codes " auto rtcm2rinex auto --station " ++ decimal station ++ codes " -o " ++ last_digits 4 station ++ codes ".rnx " ++ sh_quoted name ++ 10 ∷ []
 
 -- formula
--- the command that converts the station in the file of this name with this MSM, near this moment, and
+-- the command that converts the station in the file of this name with these options, near this moment, and
 -- the one that finds its options, if there is one; without codes there is neither
-abbrev pub next_lines : List ℕ → List ℕ → ℕ → MsmKind → List ℕ → List ℕ
-next_lines name near station named [] = []
-next_lines name near station named (x ∷ xs) =
-    codes " next rtcm2rinex convert --station " ++ decimal station ++ codes " --near " ++ near ++ words_text name station named (x ∷ xs) ++ auto_line name station
+abbrev pub next_lines : List ℕ → List ℕ → ℕ → List ℕ → List ℕ → List ℕ
+next_lines name near station options [] = []
+next_lines name near station options (x ∷ xs) =
+    codes " next rtcm2rinex convert --station " ++ decimal station ++ codes " --near " ++ near ++ words_text name station options (x ∷ xs) ++ auto_line name station
 
 -- formula
--- the commands, and before them the second frequency and the MSM that they leave out
-unfoldable pub proposal_lines : List ℕ → List ℕ → ℕ → (MsmKind → ℕ) → (MsmKind → Code → Bool) → List ℕ
-proposal_lines name near station epochs code =
+-- the commands, and before them the second frequency and the MSM of GPS that they leave out; the codes of other systems
+-- that they take, and their options by the MSM of GPS
+unfoldable pub proposal_lines : List ℕ → List ℕ → ℕ → (MsmKind → ℕ) → (MsmKind → Code → Bool) → (AnyCode → Bool) → (MsmKind → List ℕ) → List ℕ
+proposal_lines name near station epochs code other options =
     second_frequency_line (code (proposed epochs)) ++ other_msm_lines epochs (proposed epochs)
-    ++ next_lines name near station (proposed epochs) (codes_text (code (proposed epochs)))
+    ++ next_lines name near station (options (proposed epochs)) (all_codes_text (code (proposed epochs)) other)
 
 -- formula
 -- no station has a code

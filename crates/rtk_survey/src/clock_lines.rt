@@ -89,14 +89,14 @@ pub fn told_offset(offsets: &[ClockOffset]) -> Option<ClockOffset>
 
 // ---- GLONASS, whose clocks tell UTC
 
-fn leap_seconds_by(date: UtcDate) -> u8
+pub(crate) fn leap_seconds_by(date: UtcDate) -> u8
     ensures { result ≡ spec.leap_seconds_by (moment_of date) }
 {
     leap_seconds_at(moment_of(date))
 }
 
 #[tactic(auto, unfolding(crate::specs::ClockLines::gps_ahead_with))]
-fn gps_ahead_with(leap_seconds: u8, ahead: u32) -> u32
+pub(crate) fn gps_ahead_with(leap_seconds: u8, ahead: u32) -> u32
     ensures { result ≡ spec.gps_ahead_with leap_seconds ahead }
 {
     ((u64::from(ahead) + 1000 * u64::from(leap_seconds)) % WEEK_MS) as u32
@@ -111,8 +111,8 @@ fn gps_offset(leap_seconds: u8, offset: ClockOffset) -> ClockOffset
     }
 }
 
-// The offset that is told of clocks of GLONASS, as of clocks of GPS time.
-fn told_gps(leap_seconds: u8, offsets: &[ClockOffset]) -> Option<ClockOffset>
+/// The offset that is told of clocks of GLONASS, as of clocks of GPS time.
+pub(crate) fn told_gps(leap_seconds: u8, offsets: &[ClockOffset]) -> Option<ClockOffset>
     ensures { result ≡ spec.told_gps leap_seconds offsets.now }
 {
     let mut told = None;

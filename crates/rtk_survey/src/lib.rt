@@ -59,6 +59,7 @@ mod lines;
 mod look;
 mod message_lines;
 mod msm_parts;
+mod next_command;
 mod parting;
 mod phases;
 mod placing;
@@ -87,6 +88,7 @@ mod tellings;
 mod times_of_week;
 mod unchecked_clocks;
 mod unread;
+mod wrong_clocks;
 
 pub use beside_gps::{is_beside_gps, told_time};
 pub use capture_dates::CaptureDates;

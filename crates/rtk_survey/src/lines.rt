@@ -163,14 +163,7 @@ fn put_station(
         &sent,
         station.clocks.as_slice(),
     )?;
-    put_proposal(
-        alloc,
-        lines,
-        name,
-        station.dates.proposed_date(),
-        number,
-        &station.msm,
-    )?;
+    put_proposal(alloc, lines, name, number, station)?;
     Ok(())
 }
 
