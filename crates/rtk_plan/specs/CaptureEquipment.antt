@@ -12,7 +12,8 @@ use Rattle.rtk_survey.specs.declared.survey.CaptureSurvey.{CaptureSurvey}
 use Rattle.rtk_survey.specs.declared.target.EquipmentTimes.{EquipmentTimes}
 use Rattle.rtk_survey.specs.declared.target.TargetSurvey.{TargetSurvey}
 use Rattle.rtk_plan.specs.Joining.{in_order}
-use Rattle.rtk_plan.specs.StationCaptures.{is_station, dates_in, station_in}
+use Rattle.rtk_survey.specs.Contents.{station_in}
+use Rattle.rtk_plan.specs.StationCaptures.{is_station, dates_in}
 use Rattle.rtk_plan.specs.declared.capture_equipment.Part.{Part}
 use Rattle.rtk_plan.specs.declared.capture_equipment.Part.TheVariants.{Antenna, Receiver}
 use Rattle.rtk_plan.specs.declared.joining.Ordered.{Ordered}

@@ -13,7 +13,7 @@ use Rattle.rtk_survey.specs.declared.clock_chains.ClockOffset.{ClockOffset}
 use Rattle.rtk_survey.specs.declared.clock_chains.ClockSurvey.{ClockSurvey}
 use Rattle.rtk_survey.specs.declared.station.StationSurvey.{StationSurvey}
 use Rattle.rtk_survey.specs.declared.survey.CaptureSurvey.{CaptureSurvey}
-use Rattle.rtk_plan.specs.StationCaptures.{station_in}
+use Rattle.rtk_survey.specs.Contents.{station_in}
 use Rattle.rtk_plan.specs.SystemFlags.{flag_of}
 use Rattle.rtk_plan.specs.declared.system_flags.SystemFlags.{SystemFlags}
 

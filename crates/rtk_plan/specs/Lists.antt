@@ -10,7 +10,8 @@ use Rattle.rtk_message.specs.Accepted.{accepts}
 use Rattle.rtk_message.specs.Systems.{number_of_kind}
 use Rattle.rtk_message.specs.ShellText.{sh_quoted}
 use Rattle.rtk_survey.specs.declared.survey.CaptureSurvey.{CaptureSurvey}
-use Rattle.rtk_plan.specs.StationCaptures.{epochs_heard, is_observed_in, station_in}
+use Rattle.rtk_survey.specs.Contents.{station_in}
+use Rattle.rtk_plan.specs.StationCaptures.{epochs_heard, is_observed_in}
 use Rattle.rtk_plan.specs.Values.{held_in_captures, messages_in_captures, obs_1004_in_captures, others_in_captures, sbas_in_captures}
 use Rattle.rtk_obs.specs.declared.time.TheConstants.{LAST_MS}
 use Rattle.rtk_survey.specs.Telling.{moment_of}

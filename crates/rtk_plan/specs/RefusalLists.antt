@@ -9,7 +9,8 @@ use Rattle.rtk_survey.specs.declared.tellings.Told.{Told}
 use Rattle.rtk_plan.specs.CaptureNames.{capture_name, lines_by}
 use Rattle.rtk_plan.specs.Kept.{is_heard}
 use Rattle.rtk_plan.specs.Lists.{capture_line, name_line, station_line, to_come_line, date_line, reach_line}
-use Rattle.rtk_plan.specs.StationCaptures.{station_in, epochs_heard, told_in, to_come_in}
+use Rattle.rtk_survey.specs.Contents.{station_in}
+use Rattle.rtk_plan.specs.StationCaptures.{epochs_heard, told_in, to_come_in}
 use Rattle.rtk_plan.specs.declared.station_capture.StationCapture.{StationCapture}
 
 -- each capture, with what it looks like if it has no frame

@@ -18,7 +18,7 @@ use Rattle.rtk_survey.specs.declared.station.StationSurvey.{StationSurvey}
 use Rattle.rtk_survey.specs.declared.survey.CaptureSurvey.{CaptureSurvey}
 use Rattle.rtk_survey.specs.declared.system_msm.SystemMsm.{SystemMsm}
 use Rattle.rtk_plan.specs.AlikeChannels.{is_alike}
-use Rattle.rtk_plan.specs.StationCaptures.{station_in}
+use Rattle.rtk_survey.specs.Contents.{station_in}
 
 -- ---- slots that have a value
 

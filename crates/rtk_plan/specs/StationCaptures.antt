@@ -1,7 +1,6 @@
 -- What a capture tells of a station, by its survey (this project's rule).
 use Rattle.std.specs.Prelude.{ℕ, ◌+◌, ◌==◌, Bool, false, is_some, min, List, [], ◌∷◌, length, Option, None, Some, unwrap_or, if◌then◌else◌}
-use Rattle.std.specs.BTreeMap.{get}
-use Rattle.std.specs.Ordering.{nat_cmp}
+use Rattle.rtk_survey.specs.Contents.{station_in}
 use Rattle.rtk_survey.specs.CaptureDates.{no_dates, counting, own_moment_of}
 use Rattle.rtk_survey.specs.Parting.{parted_frame}
 use Rattle.rtk_survey.specs.Targets.{all_dating, has_dated_observation}
@@ -16,9 +15,6 @@ use Rattle.rtk_survey.specs.declared.tellings.Told.{Told}
 use Rattle.rtk_plan.specs.declared.station_capture.StationCapture.{StationCapture}
 
 -- ---- a station that was heard
-
-abbrev pub station_in : ℕ → CaptureSurvey → Option StationSurvey
-station_in n s = get nat_cmp s.contents.stations n
 
 -- a message of the station came: with observations or a position, or one that tells a date, an antenna or a
 -- receiver; only such a station has a survey

@@ -14,7 +14,7 @@ use Rattle.rtk_setup.specs.Setup.{lists_system}
 use Rattle.rtk_survey.specs.declared.station.StationSurvey.{StationSurvey}
 use Rattle.rtk_survey.specs.declared.survey.CaptureSurvey.{CaptureSurvey}
 use Rattle.rtk_plan.specs.ClockOffsets.{clocks_compared}
-use Rattle.rtk_plan.specs.StationCaptures.{station_in}
+use Rattle.rtk_survey.specs.Contents.{station_in}
 use Rattle.rtk_plan.specs.SystemMsms.{systems_in_order}
 use Rattle.rtk_plan.specs.Values.{is_gps_system}
 

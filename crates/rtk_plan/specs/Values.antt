@@ -12,7 +12,7 @@ use Rattle.rtk_obs.specs.declared.any_code.AnyCode.{AnyCode}
 use Rattle.rtk_obs.specs.AnyCode.{system_of, place_of, number_of, all_any_codes}
 use Rattle.rtk_setup.specs.Setup.{kind_of}
 use Rattle.rtk_setup.specs.declared.system_kinds.SystemKinds.{SystemKinds}
-use Rattle.rtk_survey.specs.Contents.{count_at, msm_part, others_held}
+use Rattle.rtk_survey.specs.Contents.{count_at, msm_part, others_held, station_in}
 use Rattle.rtk_survey.specs.Counting.{shown_count}
 use Rattle.rtk_survey.specs.Proposal.{proposed}
 use Rattle.rtk_survey.specs.declared.epochs.Epochs.{Epochs}
@@ -20,7 +20,6 @@ use Rattle.rtk_survey.specs.declared.station.StationSurvey.{StationSurvey}
 use Rattle.rtk_survey.specs.declared.survey.CaptureSurvey.{CaptureSurvey}
 use Rattle.rtk_survey.specs.declared.system_msm.SystemMsm.{SystemMsm}
 use Rattle.rtk_survey.specs.declared.unread.Unread.{Unread}
-use Rattle.rtk_plan.specs.StationCaptures.{station_in}
 use Rattle.rtk_plan.specs.SystemFlags.{flag_of}
 use Rattle.rtk_plan.specs.declared.system_flags.SystemFlags.{SystemFlags}
 

@@ -1,7 +1,7 @@
 use Rattle.std.proofs.Common.{◌≡◌, take}
 use Rattle.std.specs.List.{sum_by}
 use Rattle.rtk_survey.specs.Counting.{shown_count}
-use Rattle.rtk_plan.specs.StationCaptures.{station_in}
+use Rattle.rtk_survey.specs.Contents.{station_in}
 use Rattle.rtk_plan.specs.Values.{sbas_of_station}
 use Rattle.rtk_plan.proofs.held_messages.sbas_in_captures.Given as goal
 

@@ -2,7 +2,7 @@ use Rattle.std.proofs.Common.{◌≡◌, take}
 use Rattle.std.specs.List.{sum_by}
 use Rattle.rtk_survey.specs.Counting.{shown_count}
 use Rattle.rtk_plan.specs.SlotChannels.{fields_of_station}
-use Rattle.rtk_plan.specs.StationCaptures.{station_in}
+use Rattle.rtk_survey.specs.Contents.{station_in}
 use Rattle.rtk_plan.proofs.slot_channels.own_count.Given as goal
 
 abbrev pub invariant-loop-survey : goal.invariant-loop-survey
