@@ -10,7 +10,7 @@ use Rattle.rtk_obs.specs.AnyCode.{system_of, codes_before, number_of, all_any_co
 use Rattle.rtk_rinex.specs.MixedHead.{AreInOrder, GlonassView, IsMixedList, IsMixedHeadFault, TellsGlonass}
 use Rattle.rtk_rinex.specs.declared.mixed_head_fault.MixedHeadFault.{MixedHeadFault}
 use Rattle.rtk_rinex.specs.declared.mixed_head_fault.MixedHeadFault.TheVariants.{Codes, Glonass as NotTold}
-use Rattle.rtk_plan.proofs.WalkLemmas.{cut-at}
+use Rattle.rtk_survey.proofs.PublicLaws.{cut-at}
 
 -- ---- codes one after another
 

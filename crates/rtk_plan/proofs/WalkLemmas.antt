@@ -1,6 +1,5 @@
 -- Two lists that are walked together.
 use Rattle.std.proofs.Common.{◌≡◌, ◌≢◌, ◌<◌, ◌≤◌, ◌+◌, ◌==◌, ◌||◌, ℕ, zero, suc, min, Bool, true, false, List, [], ◌∷◌, ◌++◌, length, map, take, drop, get_or, append_assoc, append-nil, Option, refl, sym, ap, ◌∙◌, eq-eqb, ne_eqb, add-one, arith}
-use Rattle.std.proofs.Math.Seq.{drop-cons}
 use Rattle.std.proofs.lemmas.Grind.{flat_map-append}
 use Rattle.std.proofs.lemmas.List.{map-append, take_more}
 use Rattle.std.proofs.lemmas.List.FromFn.{filter_of_map_range_with_len_more}
@@ -8,6 +7,7 @@ use Rattle.std.specs.Prelude.{filter, flat_map, if◌then◌else◌}
 use Rattle.std.specs.List.{range_with_len}
 use Rattle.std.specs.declared.vec.Vec.{Vec}
 use Rattle.rtk_message.specs.declared.accepted.Accepted.{Accepted}
+use Rattle.rtk_survey.proofs.PublicLaws.{cut-at}
 use Rattle.rtk_survey.specs.declared.survey.CaptureSurvey.{CaptureSurvey}
 use Rattle.rtk_survey.specs.declared.placing.Placed.{Placed}
 use Rattle.rtk_plan.specs.Reach.{is_out_of_reach}
@@ -18,9 +18,6 @@ use Rattle.rtk_plan.specs.Lists.{unread_line, unread_lines_from}
 use Rattle.rtk_plan.specs.Plan.{some_out_of_reach}
 use Rattle.rtk_plan.specs.CaptureNames.{lines_by}
 use Rattle.rtk_plan.specs.Stray.{greatest_before, greater_of, greatest_of_others}
-
-pub cut-at : {X : Type 0} (xs : List X) (i : ℕ) (d : X) → i < length xs → drop i xs ≡ get_or xs i d ∷ drop (i + 1) xs
-cut-at xs i d lt = drop-cons xs i d lt ∙ ap (λ (k : ℕ). get_or xs i d ∷ drop k xs) (sym (add-one i))
 
 -- ---- the captures of a link
 

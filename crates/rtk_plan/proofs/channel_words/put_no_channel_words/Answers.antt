@@ -1,7 +1,7 @@
 use Rattle.std.proofs.Common.{◌++◌, List, ℕ, ap, ◌∙◌, codes}
 use Rattle.std.specs.Prelude.{flat_map}
 use Rattle.rtk_plan.specs.ChannelWords.{all_slots, lacking_name, no_channel_words}
-use Rattle.rtk_plan.proofs.PutLemmas.{three-parts}
+use Rattle.rtk_survey.proofs.PublicLaws.{three-parts}
 use Rattle.rtk_plan.proofs.channel_words.put_no_channel_words.Goals as goal
 
 pub returns : goal.returns

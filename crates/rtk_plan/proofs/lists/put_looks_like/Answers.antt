@@ -1,7 +1,7 @@
 use Rattle.std.proofs.Common.{ℕ, List, ◌++◌, ap, ◌∙◌, codes}
 use Rattle.rtk_survey.specs.Look.{look_name}
 use Rattle.rtk_plan.specs.Lists.{unpacker, unpacking}
-use Rattle.rtk_plan.proofs.PutLemmas.{three-parts}
+use Rattle.rtk_survey.proofs.PublicLaws.{three-parts}
 use Rattle.rtk_plan.proofs.lists.put_looks_like.Goals as goal
 
 pub returns : goal.returns

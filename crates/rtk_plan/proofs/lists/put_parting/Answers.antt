@@ -1,6 +1,6 @@
 use Rattle.std.proofs.Common.{◌++◌, ℕ, List, refl, ap, ◌∙◌, codes, decimal}
 use Rattle.rtk_plan.specs.Lists.{words_and_name, part_command}
-use Rattle.rtk_plan.proofs.PutLemmas.{then-put}
+use Rattle.rtk_survey.proofs.PublicLaws.{then-put}
 use Rattle.rtk_plan.proofs.lists.put_parting.Goals as goal
 
 pub returns : goal.returns

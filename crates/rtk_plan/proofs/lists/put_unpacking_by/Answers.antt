@@ -1,6 +1,6 @@
 use Rattle.std.proofs.Common.{◌++◌, ap, ◌∙◌, codes}
 use Rattle.rtk_plan.specs.Lists.{words_and_name}
-use Rattle.rtk_plan.proofs.PutLemmas.{five-parts}
+use Rattle.rtk_survey.proofs.PublicLaws.{five-parts}
 use Rattle.rtk_plan.proofs.lists.put_unpacking_by.Goals as goal
 
 pub returns : goal.returns

@@ -1,6 +1,6 @@
 use Rattle.std.proofs.Common.{◌++◌, ap, ◌∙◌}
 use Rattle.rtk_plan.specs.Lists.{unread_gps, unread_glonass_to_sbas, unread_qzss_to_navic, all_unread}
-use Rattle.rtk_plan.proofs.PutLemmas.{three-parts}
+use Rattle.rtk_survey.proofs.PublicLaws.{three-parts}
 use Rattle.rtk_plan.proofs.message_lines.put_unread.Goals as goal
 
 pub returns : goal.returns

@@ -1,6 +1,6 @@
 use Rattle.std.proofs.Common.{◌++◌, ap, ◌∙◌, codes}
 use Rattle.rtk_plan.specs.Lists.{unread_lines_from, unread_glonass_to_sbas}
-use Rattle.rtk_plan.proofs.PutLemmas.{four-parts}
+use Rattle.rtk_survey.proofs.PublicLaws.{four-parts}
 use Rattle.rtk_plan.proofs.message_lines.put_unread_glonass_to_sbas.Goals as goal
 
 pub returns : goal.returns

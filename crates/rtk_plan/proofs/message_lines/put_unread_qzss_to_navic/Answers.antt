@@ -1,6 +1,6 @@
 use Rattle.std.proofs.Common.{◌++◌, ap, ◌∙◌, codes}
 use Rattle.rtk_plan.specs.Lists.{unread_lines_from, unread_qzss_to_navic}
-use Rattle.rtk_plan.proofs.PutLemmas.{three-parts}
+use Rattle.rtk_survey.proofs.PublicLaws.{three-parts}
 use Rattle.rtk_plan.proofs.message_lines.put_unread_qzss_to_navic.Goals as goal
 
 pub returns : goal.returns

@@ -3,7 +3,7 @@ use Rattle.std.specs.Prelude.{flat_map}
 use Rattle.rtk_plan.specs.AlikeChannels.{constellation_slots}
 use Rattle.rtk_plan.specs.ChannelWords.{said_channel}
 use Rattle.rtk_plan.specs.ToldChannels.{alike_name, alike_words}
-use Rattle.rtk_plan.proofs.PutLemmas.{four-parts}
+use Rattle.rtk_survey.proofs.PublicLaws.{four-parts}
 use Rattle.rtk_plan.proofs.told_channels.put_alike_words.Goals as goal
 
 pub returns : goal.returns

@@ -1,7 +1,7 @@
 use Rattle.std.proofs.Common.{◌++◌, List, ℕ, ℤ, Option, ap, ◌∙◌}
 use Rattle.rtk_plan.specs.ChannelWords.{no_channel_line}
 use Rattle.rtk_plan.specs.ToldChannels.{alike_lines, several_lines}
-use Rattle.rtk_plan.proofs.PutLemmas.{three-parts}
+use Rattle.rtk_survey.proofs.PublicLaws.{three-parts}
 use Rattle.rtk_plan.proofs.told_channels.put_channels_of.Goals as goal
 
 pub returns : goal.returns

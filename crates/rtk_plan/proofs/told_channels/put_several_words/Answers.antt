@@ -1,7 +1,7 @@
 use Rattle.std.proofs.Common.{◌++◌, List, ℕ, ap, ◌∙◌, codes}
 use Rattle.std.specs.Prelude.{flat_map}
 use Rattle.rtk_plan.specs.ToldChannels.{satellite_of_slot, channel_fields, told_channel, several_words}
-use Rattle.rtk_plan.proofs.PutLemmas.{four-parts}
+use Rattle.rtk_survey.proofs.PublicLaws.{four-parts}
 use Rattle.rtk_plan.proofs.told_channels.put_several_words.Goals as goal
 
 pub returns : goal.returns
