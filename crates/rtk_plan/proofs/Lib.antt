@@ -1,9 +1,6 @@
-mod ChannelLemmas
 mod CodeLemmas
-mod LinkLemmas
 mod OnePlanLemmas
 mod RefusedLemmas
 mod SumLemmas
 mod TakenLemmas
 mod ToldLabelLemmas
-mod WalkLemmas

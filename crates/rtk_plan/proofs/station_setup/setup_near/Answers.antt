@@ -1,8 +1,8 @@
 use Rattle.std.proofs.Common.{◌≡◌, None}
 use Rattle.rtk_plan.specs.Causes.{FindsNoCode, IsSetupCause}
-use Rattle.rtk_plan.specs.Linking.{places_of}
-use Rattle.rtk_plan.specs.declared.refusal.Refusal.{Refusal}
-use Rattle.rtk_plan.specs.declared.refusal.Refusal.TheVariants.{NoCode}
+use Rattle.rtk_captures.specs.Linking.{places_of}
+use Rattle.rtk_captures.specs.declared.refusal.Refusal.{Refusal}
+use Rattle.rtk_captures.specs.declared.refusal.Refusal.TheVariants.{NoCode}
 use Rattle.rtk_plan.proofs.RefusedLemmas.{exit-also, no-code-found}
 use Rattle.rtk_plan.proofs.station_setup.setup_near.Goals as goal
 

@@ -1,0 +1,3 @@
+mod ChannelLemmas
+mod CodeLemmas
+mod MessageLineLemmas
