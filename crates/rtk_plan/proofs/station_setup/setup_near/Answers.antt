@@ -5,11 +5,6 @@ use Rattle.rtk_setup.specs.Setup.{SetupView}
 use Rattle.rtk_setup.specs.declared.system_kinds.SystemKinds.{SystemKinds}
 use Rattle.rtk_survey.specs.declared.survey.CaptureSurvey.{CaptureSurvey}
 use Rattle.rtk_plan.specs.Causes.{FindsNoCode, IsSetupCause}
-<<<<<<< HEAD
-use Rattle.rtk_captures.specs.Linking.{places_of}
-use Rattle.rtk_captures.specs.declared.refusal.Refusal.{Refusal}
-use Rattle.rtk_captures.specs.declared.refusal.Refusal.TheVariants.{NoCode}
-=======
 use Rattle.rtk_captures.specs.Linking.{places_of}
 use Rattle.rtk_plan.specs.Plan.{IsChosenStation, kinds_found, AreCodesChosen, AreLeapSecondsOf, marker_chosen, IsSetupFor}
 use Rattle.rtk_captures.specs.Dating.{captures_of, IsNearOf}
@@ -18,7 +13,6 @@ use Rattle.rtk_systems.specs.SystemMsms.{kinds_listed}
 use Rattle.rtk_captures.specs.declared.refusal.Refusal.{Refusal}
 use Rattle.rtk_captures.specs.declared.refusal.Refusal.TheVariants.{NoCode}
 use Rattle.rtk_plan.specs.declared.wanted.Wanted.{Wanted}
->>>>>>> dce1dcde074c5533ec814182e5d68de7ca8a81fd
 use Rattle.rtk_plan.proofs.RefusedLemmas.{exit-also, no-code-found}
 use Rattle.rtk_plan.proofs.station_setup.setup_near.Goals as goal
 
