@@ -13,7 +13,8 @@ use Rattle.rtk_survey.specs.declared.placing.Placed.{Placed}
 use Rattle.rtk_plan.specs.Reach.{is_out_of_reach}
 use Rattle.rtk_plan.specs.declared.station_capture.StationCapture.{StationCapture}
 use Rattle.rtk_plan.specs.declared.joining.Ordered.{Ordered}
-use Rattle.rtk_plan.specs.Linking.{places_of, captures_of_link, is_nonempty}
+use Rattle.rtk_survey.specs.Surveys.{places_of}
+use Rattle.rtk_plan.specs.Linking.{captures_of_link, is_nonempty}
 use Rattle.rtk_plan.specs.Lists.{unread_line, unread_lines_from}
 use Rattle.rtk_plan.specs.Plan.{some_out_of_reach}
 use Rattle.rtk_plan.specs.CaptureNames.{lines_by}

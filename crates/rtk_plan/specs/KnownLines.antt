@@ -22,7 +22,7 @@ use Rattle.rtk_plan.specs.CaptureNames.{capture_name, lines_by}
 use Rattle.rtk_plan.specs.ClockOffsets.{told_clock_lines}
 use Rattle.rtk_plan.specs.FewPhases.{has_few_phases}
 use Rattle.rtk_plan.specs.LeapLines.{other_leap_lines}
-use Rattle.rtk_plan.specs.Linking.{places_of}
+use Rattle.rtk_survey.specs.Surveys.{places_of}
 use Rattle.rtk_plan.specs.Lists.{date_line, undated_line, stray_line, capture_line, name_line, obs_1004_line, msm_lines, doppler_line, sbas_line, all_unread}
 use Rattle.rtk_plan.specs.Positions.{no_position_line}
 use Rattle.rtk_plan.specs.Reported.{late_of}

@@ -4,7 +4,8 @@ ghost use Rattle.std.specs.Prelude.{◌≡◌, ◌<◌, ◌≤◌, None, Some, [
 ghost use Rattle.std.specs.List.{list_any};
 ghost use Rattle.rtk_plan.specs.Causes.{IfRefused, IsStationCause, IsEmptyCause, IsCaptureCause, IsCauseOf, has_frames};
 ghost use Rattle.rtk_plan.specs.Kept.{empty_captures};
-ghost use Rattle.rtk_plan.specs.Linking.{places_of, AreLinksOf};
+ghost use Rattle.rtk_survey.specs.Surveys.{places_of};
+ghost use Rattle.rtk_plan.specs.Linking.{AreLinksOf};
 ghost use Rattle.rtk_plan.specs.Positions.{some_are_far};
 ghost use Rattle.rtk_plan.specs.Plan.{IsChosenStation, captures_of, ArePlaced, AreStrays, IsSpanOf, IsInReach, IsSetupFor, systems_asked};
 ghost use Rattle.rtk_plan.specs.SlotChannels.{AreSecondsChosen, AreOwnChannels};

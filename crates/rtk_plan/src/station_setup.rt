@@ -5,7 +5,7 @@ ghost use Rattle.std.specs.Option.{ForSome};
 ghost use Rattle.rtk_obs.specs.CivilText.{last_digits};
 ghost use Rattle.rtk_rinex.specs.MixedHead.{IsGlonassView, IsMixedList, TellsGlonass, has_glonass};
 ghost use Rattle.rtk_plan.specs.Causes.{IfRefused, FindsNoCode, IsSetupCause};
-ghost use Rattle.rtk_plan.specs.Linking.{places_of};
+ghost use Rattle.rtk_survey.specs.Surveys.{places_of};
 ghost use Rattle.rtk_plan.specs.Plan.{IsChosenStation, kinds_found, AreSystemsTaken, AreCodesChosen, systems_asked, marker_chosen, captures_of, IsNearOf, IsSpanOf, IsSetupFor};
 ghost use Rattle.rtk_plan.specs.SlotChannels.{AreChannelsChosen, AreOwnChannels, AreSecondsChosen, IsGlonassOf, IsGlonassFound};
 ghost use Rattle.rtk_plan.specs.SystemMsms as msms;

@@ -2,7 +2,8 @@ use Rattle.std.proofs.Common.{◌≡◌, ℕ, Bool, List, inl, sym, ap, subst}
 use Rattle.rtk_obs.specs.Dating.{IsReference}
 use Rattle.rtk_survey.specs.declared.survey.CaptureSurvey.{CaptureSurvey}
 use Rattle.rtk_plan.specs.Causes.{IsSetupCause, AreTooMany, IsCaptureCause}
-use Rattle.rtk_plan.specs.Linking.{places_of, AreLinksOf}
+use Rattle.rtk_survey.specs.Surveys.{places_of}
+use Rattle.rtk_plan.specs.Linking.{AreLinksOf}
 use Rattle.rtk_plan.specs.Plan.{IsNearOf}
 use Rattle.rtk_plan.specs.declared.refusal.Refusal.{Refusal}
 use Rattle.rtk_plan.specs.declared.refusal.Refusal.TheVariants.{NoCode, OutsideDates}
