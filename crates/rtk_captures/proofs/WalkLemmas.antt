@@ -11,7 +11,8 @@ use Rattle.rtk_survey.specs.declared.placing.Placed.{Placed}
 use Rattle.rtk_captures.specs.Reach.{is_out_of_reach}
 use Rattle.rtk_captures.specs.declared.station_capture.StationCapture.{StationCapture}
 use Rattle.rtk_captures.specs.declared.joining.Ordered.{Ordered}
-use Rattle.rtk_captures.specs.Linking.{places_of, captures_of_link, is_nonempty}
+use Rattle.rtk_survey.specs.Surveys.{places_of}
+use Rattle.rtk_captures.specs.Linking.{captures_of_link, is_nonempty}
 use Rattle.rtk_captures.specs.Dating.{some_out_of_reach}
 use Rattle.rtk_captures.specs.CaptureNames.{lines_by}
 use Rattle.rtk_captures.specs.Stray.{greatest_before, greater_of, greatest_of_others}

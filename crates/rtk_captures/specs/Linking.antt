@@ -2,17 +2,12 @@
 -- places of its captures.
 use Rattle.std.specs.Prelude.{◌≡◌, ℕ, ◌-◌, ◌==◌, slice_get, Bool, true, false, not, List, [], ◌∷◌, length, map, filter, flat_map, Option, None, Some, if◌then◌else◌}
 use Rattle.std.specs.List.{range_with_len}
-use Rattle.std.specs.declared.vec.Vec.{Vec}
 use Rattle.rtk_survey.specs.declared.placing.Placed.{Placed}
 use Rattle.rtk_captures.specs.Joining.{in_order, links_of}
 use Rattle.rtk_captures.specs.declared.station_capture.StationCapture.{StationCapture}
 use Rattle.rtk_captures.specs.declared.joining.Ordered.{Ordered}
 use Rattle.rtk_captures.specs.Kept.{is_heard_at, kept_captures}
 use Rattle.rtk_captures.specs.Dating.{ArePlaced}
-
--- links as lists of places
-abbrev pub places_of : {A : Type 0} → List (Vec ℕ A) → List (List ℕ)
-places_of links = map (λ link. link.items) links
 
 -- ---- captures that follow one another are joined
 

@@ -3,6 +3,7 @@
 ghost use Rattle.std.specs.Prelude.{◌≡◌, ◌<◌, ◌≤◌, ◌++◌, length, map, IfOk, IfErr, IsOk, OnOk};
 ghost use Rattle.rtk_captures.specs.CaptureCauses.{IfRefused, AreTooMany};
 ghost use Rattle.rtk_captures.specs.Linking as spec;
+ghost use Rattle.rtk_survey.specs.Surveys.{places_of};
 
 use crate::captures::StationCaptures;
 use crate::joining::{Ordered, in_order, links_of};
@@ -57,7 +58,7 @@ fn is_nonempty(places: &[usize]) -> bool
 
 // The captures of each link. They come in the order in which they are taken.
 fn joined_links(alloc: Global, ordered: &[Ordered]) -> Result<Vec<Vec<usize>>, AllocError>
-    ensures { IfOk result (λ links. spec.places_of links.items ≡ spec.joined_links ordered.now) }
+    ensures { IfOk result (λ links. places_of links.items ≡ spec.joined_links ordered.now) }
 {
     let numbers = links_of(alloc, ordered)?;
     let mut links = Vec::new(alloc);
@@ -89,7 +90,7 @@ fn put_place(places: &mut Vec<usize>, place: Option<usize>) -> Result<(), AllocE
 
 // The last capture of each link.
 fn last_captures(alloc: Global, links: &[Vec<usize>]) -> Result<Vec<usize>, AllocError>
-    ensures { IfOk result (λ places. places.items ≡ spec.last_captures (spec.places_of links.now)) }
+    ensures { IfOk result (λ places. places.items ≡ spec.last_captures (places_of links.now)) }
 {
     let mut places = Vec::new(alloc);
     for link in links {
@@ -105,7 +106,7 @@ pub fn limit_links(
     links: &[Vec<usize>],
 ) -> Result<(), PlanFault>
     ensures few { IsOk result → length links.now ≤ 16 }
-    ensures refused { IfErr result (IfRefused (AreTooMany (spec.places_of links.now))) }
+    ensures refused { IfErr result (IfRefused (AreTooMany (places_of links.now))) }
 {
     if links.len() <= MOST_LINKS {
         return Ok(());
@@ -124,7 +125,7 @@ pub fn links_found(
     captures: &[StationCapture],
     placed: &[Option<Placed>],
 ) -> Result<Vec<Vec<usize>>, AllocError>
-    ensures { IfOk result (λ links. spec.places_of links.items ≡ spec.links_found captures.now placed.now) }
+    ensures { IfOk result (λ links. places_of links.items ≡ spec.links_found captures.now placed.now) }
 {
     let ordered = in_order(alloc, placed)?;
     let kept = kept_in_order(alloc, captures, ordered.as_slice())?;
@@ -133,7 +134,7 @@ pub fn links_found(
 
 // A link for each of some captures.
 fn links_of_one(alloc: Global, places: &[usize]) -> Result<Vec<Vec<usize>>, AllocError>
-    ensures { IfOk result (λ links. spec.places_of links.items ≡ map spec.one_place places.now) }
+    ensures { IfOk result (λ links. places_of links.items ≡ map spec.one_place places.now) }
 {
     let mut links = Vec::new(alloc);
     for place in places {
@@ -147,7 +148,7 @@ pub fn links_as_given(
     alloc: Global,
     captures: &[StationCapture],
 ) -> Result<Vec<Vec<usize>>, AllocError>
-    ensures { IfOk result (λ links. spec.places_of links.items ≡ spec.links_as_given captures.now) }
+    ensures { IfOk result (λ links. places_of links.items ≡ spec.links_as_given captures.now) }
 {
     let places = kept_captures(alloc, captures)?;
     links_of_one(alloc, places.as_slice())

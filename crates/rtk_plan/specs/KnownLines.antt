@@ -22,7 +22,7 @@ use Rattle.rtk_captures.specs.CaptureNames.{capture_name, lines_by}
 use Rattle.rtk_systems.specs.ClockOffsets.{told_clock_lines}
 use Rattle.rtk_plan.specs.FewPhases.{has_few_phases}
 use Rattle.rtk_plan.specs.LeapLines.{other_leap_lines}
-use Rattle.rtk_captures.specs.Linking.{places_of}
+use Rattle.rtk_survey.specs.Surveys.{places_of}
 use Rattle.rtk_captures.specs.Lists.{date_line, undated_line, stray_line, capture_line, name_line}
 use Rattle.rtk_systems.specs.MessageLines.{obs_1004_line, msm_lines, doppler_line, sbas_line, all_unread}
 use Rattle.rtk_captures.specs.Positions.{no_position_line}

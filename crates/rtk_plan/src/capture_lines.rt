@@ -5,7 +5,7 @@
 
 ghost use Rattle.std.specs.Prelude.{◌≡◌, ◌++◌, OnOk};
 ghost use Rattle.rtk_plan.specs.KnownLines as spec;
-ghost use Rattle.rtk_captures.specs.Linking.{places_of};
+ghost use Rattle.rtk_survey.specs.Surveys.{places_of};
 ghost use Rattle.rtk_captures.specs.StationCaptures.{dates_in};
 
 use crate::planning::Plan;

@@ -6,7 +6,7 @@ ghost use Rattle.rtk_obs.specs.CivilText.{last_digits};
 ghost use Rattle.rtk_rinex.specs.MixedHead.{IsGlonassView, IsMixedList, TellsGlonass, has_glonass};
 ghost use Rattle.rtk_captures.specs.CaptureCauses.{IfRefused};
 ghost use Rattle.rtk_plan.specs.Causes.{FindsNoCode, IsSetupCause};
-ghost use Rattle.rtk_captures.specs.Linking.{places_of};
+ghost use Rattle.rtk_survey.specs.Surveys.{places_of};
 ghost use Rattle.rtk_plan.specs.Plan.{IsChosenStation, kinds_found, AreSystemsTaken, AreCodesChosen, systems_asked, marker_chosen, IsSetupFor};
 ghost use Rattle.rtk_captures.specs.Dating.{captures_of, IsNearOf, IsSpanOf};
 ghost use Rattle.rtk_systems.specs.SlotChannels.{AreChannelsChosen, AreOwnChannels, AreSecondsChosen, IsGlonassOf, IsGlonassFound};

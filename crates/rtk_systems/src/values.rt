@@ -4,7 +4,7 @@ ghost use Rattle.std.specs.Prelude.{◌≡◌, slice_get, IfOk};
 ghost use Rattle.std.specs.List.{list_any};
 ghost use Rattle.std.specs.Option.{option_copied};
 ghost use Rattle.rtk_survey.specs.Proposal as proposal;
-ghost use Rattle.rtk_captures.specs.Linking.{places_of};
+ghost use Rattle.rtk_survey.specs.Surveys.{places_of};
 ghost use Rattle.rtk_systems.specs.Values as spec;
 
 use crate::system_flags::SystemFlags;

@@ -1,7 +1,8 @@
 use Rattle.std.proofs.Common.{◌≡◌, map}
 use Rattle.std.specs.Prelude.{filter}
 use Rattle.std.specs.List.{range_with_len}
-use Rattle.rtk_captures.specs.Linking.{places_of, captures_of_link, is_nonempty}
+use Rattle.rtk_survey.specs.Surveys.{places_of}
+use Rattle.rtk_captures.specs.Linking.{captures_of_link, is_nonempty}
 use Rattle.rtk_captures.proofs.linking.joined_links.Given as goal
 
 -- the links so far

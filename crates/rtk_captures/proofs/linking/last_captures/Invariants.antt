@@ -1,6 +1,7 @@
 use Rattle.std.proofs.Common.{◌≡◌, ◌++◌, drop}
 use Rattle.std.specs.Prelude.{flat_map}
-use Rattle.rtk_captures.specs.Linking.{places_of, last_places}
+use Rattle.rtk_survey.specs.Surveys.{places_of}
+use Rattle.rtk_captures.specs.Linking.{last_places}
 use Rattle.rtk_captures.proofs.linking.last_captures.Given as goal
 
 -- the captures so far and those of the links that are left are those of all

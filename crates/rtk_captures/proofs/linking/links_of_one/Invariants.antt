@@ -1,5 +1,6 @@
 use Rattle.std.proofs.Common.{◌≡◌, map, take}
-use Rattle.rtk_captures.specs.Linking.{places_of, one_place}
+use Rattle.rtk_survey.specs.Surveys.{places_of}
+use Rattle.rtk_captures.specs.Linking.{one_place}
 use Rattle.rtk_captures.proofs.linking.links_of_one.Given as goal
 
 abbrev pub invariant-loop-place : goal.invariant-loop-place

@@ -3,7 +3,8 @@ use Rattle.rtk_obs.specs.Dating.{IsReference}
 use Rattle.rtk_survey.specs.declared.survey.CaptureSurvey.{CaptureSurvey}
 use Rattle.rtk_plan.specs.Causes.{IsSetupCause, IsCaptureCause}
 use Rattle.rtk_captures.specs.CaptureCauses.{AreTooMany}
-use Rattle.rtk_captures.specs.Linking.{places_of, AreLinksOf}
+use Rattle.rtk_survey.specs.Surveys.{places_of}
+use Rattle.rtk_captures.specs.Linking.{AreLinksOf}
 use Rattle.rtk_captures.specs.Dating.{IsNearOf}
 use Rattle.rtk_captures.specs.declared.refusal.Refusal.{Refusal}
 use Rattle.rtk_captures.specs.declared.refusal.Refusal.TheVariants.{NoCode, OutsideDates}

@@ -5,7 +5,7 @@ use Rattle.rtk_setup.specs.Setup.{SetupView}
 use Rattle.rtk_setup.specs.declared.system_kinds.SystemKinds.{SystemKinds}
 use Rattle.rtk_survey.specs.declared.survey.CaptureSurvey.{CaptureSurvey}
 use Rattle.rtk_plan.specs.Causes.{FindsNoCode, IsSetupCause}
-use Rattle.rtk_captures.specs.Linking.{places_of}
+use Rattle.rtk_survey.specs.Surveys.{places_of}
 use Rattle.rtk_plan.specs.Plan.{IsChosenStation, kinds_found, AreCodesChosen, AreLeapSecondsOf, marker_chosen, IsSetupFor}
 use Rattle.rtk_captures.specs.Dating.{captures_of, IsNearOf}
 use Rattle.rtk_systems.specs.SlotChannels.{IsGlonassFound}

@@ -1,5 +1,5 @@
 use Rattle.std.proofs.Common.{◌≡◌, drop}
-use Rattle.rtk_captures.specs.Linking.{places_of}
+use Rattle.rtk_survey.specs.Surveys.{places_of}
 use Rattle.rtk_systems.specs.Values.{most_after}
 use Rattle.rtk_systems.proofs.values.most_epochs_of.Given as goal
 
