@@ -25,7 +25,7 @@ use Rattle.rtk_captures.specs.declared.span_line.DatedSpan.{DatedSpan}
 use Rattle.rtk_captures.specs.declared.station_capture.StationCapture.{StationCapture}
 use Rattle.rtk_systems.specs.declared.system_flags.SystemFlags.{SystemFlags}
 use Rattle.rtk_plan.specs.declared.wanted.Wanted.{Wanted}
-use Rattle.rtk_systems.proofs.ChannelLemmas.{one-glonass, one-row, one-seconds}
+use Rattle.rtk_systems.proofs.PublicLaws.{one-glonass, one-row, one-seconds}
 
 one-some : {A : Type 0} (o : Option A) (a b : A) → o ≡ Some a → o ≡ Some b → a ≡ b
 one-some o a b is also = let same : Some a ≡ Some b = sym is ∙ also in cc
