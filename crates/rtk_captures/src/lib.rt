@@ -4,6 +4,37 @@
 //!
 //! Nothing here asks what systems a station sends: rtk_systems does, and rtk_plan makes a conversion of both.
 //!
+//! ```rust
+//! use rtk_captures::{in_order, links_of};
+//! use rtk_survey::Placed;
+//! use std::alloc::{AllocError, Global};
+//!
+//! // Captures of half an hour, of the whole hour, and of its second half. The last one begins where the first one has ended,
+//! // so both are of one link.
+//! fn example(alloc: Global) -> Result<bool, AllocError> {
+//!     let captures = [
+//!         Some(Placed {
+//!             first: 0,
+//!             from: 0,
+//!             until: 1_799_000,
+//!         }),
+//!         Some(Placed {
+//!             first: 0,
+//!             from: 0,
+//!             until: 3_599_000,
+//!         }),
+//!         Some(Placed {
+//!             first: 1_800_000,
+//!             from: 1_800_000,
+//!             until: 3_599_000,
+//!         }),
+//!     ];
+//!     let ordered = in_order(alloc, &captures)?;
+//!     let links = links_of(alloc, ordered.as_slice())?;
+//!     Ok(links.as_slice() == [0, 1, 0].as_slice())
+//! }
+//! ```
+//!
 //! Its tests: tests/values/src/plan.rt.in, tests/program/auto.sh and tests/model
 #![tactic(auto)]
 

@@ -4,6 +4,30 @@
 //!
 //! Nothing here asks when captures are: rtk_captures does, and rtk_plan makes a conversion of both.
 //!
+//! ```rust
+//! use rtk_frame::{After, MemSource};
+//! use rtk_message::MsmKind;
+//! use rtk_obs::AnyCode;
+//! use rtk_setup::SystemKinds;
+//! use rtk_survey::survey_capture;
+//! use rtk_systems::{SystemFlags, codes_in_captures};
+//! use std::alloc::{AllocError, Global};
+//!
+//! // A frame with a 1004 of station 2003, with values of one satellite in C/A code.
+//! const CAPTURE: &[u8] = b"\xD3\x00\x18\x3E\xC7\xD3\x71\x4B\xE8\x00\x10\x14\x98\x96\x80\
+//!     \x00\x00\x01\x51\xAD\x30\x19\x00\x00\x00\x2C\x60\xD0\xFE\x53";
+//!
+//! fn example(alloc: Global) -> Result<bool, AllocError> {
+//!     let mut capture = MemSource::new(alloc, CAPTURE, 512, After::End)?;
+//!     let Ok(survey) = survey_capture(alloc, &mut capture, None, 100) else {
+//!         return Ok(false);
+//!     };
+//!     let kinds = SystemKinds::all(MsmKind::Msm4);
+//!     let codes = codes_in_captures(alloc, &[survey], 2003, SystemFlags::ALL, kinds)?;
+//!     Ok(codes.as_slice() == [AnyCode::G1C].as_slice())
+//! }
+//! ```
+//!
 //! Its tests: tests/values/src/plan/systems.rt.in, tests/program/systems.sh and tests/model
 #![tactic(auto)]
 
