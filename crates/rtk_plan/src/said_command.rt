@@ -5,6 +5,7 @@
 ghost use Rattle.std.specs.Prelude.{◌≡◌, ◌≤◌, ◌++◌, OnOk};
 ghost use Rattle.rtk_plan.specs.SaidCommand as spec;
 
+use rtk_captures::put_time;
 use rtk_message::{put_named, put_sh_quoted};
 use rtk_obs::AnyCode;
 use rtk_rinex::MixedHead;
