@@ -1,10 +1,6 @@
-mod ChannelLemmas
 mod CodeLemmas
-mod LinkLemmas
 mod OnePlanLemmas
-mod PutLemmas
 mod RefusedLemmas
 mod SumLemmas
 mod TakenLemmas
 mod ToldLabelLemmas
-mod WalkLemmas

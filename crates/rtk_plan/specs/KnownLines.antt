@@ -18,26 +18,27 @@ use Rattle.rtk_survey.specs.declared.equipment.Equipment.{Equipment}
 use Rattle.rtk_survey.specs.declared.span.Span.{Span}
 use Rattle.rtk_survey.specs.declared.survey.CaptureSurvey.{CaptureSurvey}
 use Rattle.rtk_survey.specs.declared.tellings.Told.{Told}
-use Rattle.rtk_plan.specs.CaptureNames.{capture_name, lines_by}
-use Rattle.rtk_plan.specs.ClockOffsets.{told_clock_lines}
+use Rattle.rtk_captures.specs.CaptureNames.{capture_name, lines_by}
+use Rattle.rtk_systems.specs.ClockOffsets.{told_clock_lines}
 use Rattle.rtk_plan.specs.FewPhases.{has_few_phases}
 use Rattle.rtk_plan.specs.LeapLines.{other_leap_lines}
-use Rattle.rtk_plan.specs.Linking.{places_of}
-use Rattle.rtk_plan.specs.Lists.{date_line, undated_line, stray_line, capture_line, name_line, obs_1004_line, msm_lines, doppler_line, sbas_line, all_unread}
-use Rattle.rtk_plan.specs.Positions.{no_position_line}
+use Rattle.rtk_survey.specs.Surveys.{places_of}
+use Rattle.rtk_captures.specs.Lists.{date_line, undated_line, stray_line, capture_line, name_line}
+use Rattle.rtk_systems.specs.MessageLines.{obs_1004_line, msm_lines, doppler_line, sbas_line, all_unread}
+use Rattle.rtk_captures.specs.Positions.{no_position_line}
 use Rattle.rtk_plan.specs.Reported.{late_of}
-use Rattle.rtk_plan.specs.SpanLine.{span_line}
-use Rattle.rtk_plan.specs.StationCaptures.{dates_in, told_in, passed_over_in}
+use Rattle.rtk_captures.specs.SpanLine.{span_line}
+use Rattle.rtk_captures.specs.StationCaptures.{dates_in, told_in, passed_over_in}
 use Rattle.rtk_plan.specs.TextsLeftOut.{texts_left_out}
-use Rattle.rtk_plan.specs.ToldChannels.{told_channel_lines}
-use Rattle.rtk_plan.specs.UncheckedSystems.{unchecked_system_lines}
+use Rattle.rtk_systems.specs.ToldChannels.{told_channel_lines}
+use Rattle.rtk_systems.specs.UncheckedSystems.{unchecked_system_lines}
 use Rattle.rtk_plan.specs.WrittenFile.{written_span, gap_lines}
 use Rattle.rtk_plan.specs.declared.known_lines.Known.{Known}
 use Rattle.rtk_plan.specs.declared.planning.Plan.{Plan}
 use Rattle.rtk_plan.specs.declared.reported.Reported.{Reported}
-use Rattle.rtk_plan.specs.declared.span_line.DateSource.{DateSource}
-use Rattle.rtk_plan.specs.declared.span_line.DateSource.TheVariants.{Words, Station, OtherStation, Ephemerides}
-use Rattle.rtk_plan.specs.declared.station_capture.StationCapture.{StationCapture}
+use Rattle.rtk_captures.specs.declared.span_line.DateSource.{DateSource}
+use Rattle.rtk_captures.specs.declared.span_line.DateSource.TheVariants.{Words, Station, OtherStation, Ephemerides}
+use Rattle.rtk_captures.specs.declared.station_capture.StationCapture.{StationCapture}
 use Rattle.rtk_plan.specs.declared.written_file.Step.{Step}
 use Rattle.rtk_plan.specs.declared.written_file.WrittenFile.{WrittenFile}
 

@@ -4,25 +4,24 @@
 
 ghost use Rattle.std.specs.Prelude.{◌≡◌, ◌++◌, IfOk, OnOk};
 ghost use Rattle.rtk_plan.specs.KnownLines as spec;
-ghost use Rattle.rtk_plan.specs.Linking.{places_of};
+ghost use Rattle.rtk_survey.specs.Surveys.{places_of};
+ghost use Rattle.rtk_systems.specs.ToldChannels.{told_channel_lines};
 
 use crate::capture_lines::{put_epochs, put_other_dates, put_skipped, put_strays, put_undated};
-use crate::captures::Captures;
-use crate::clock_lines::put_told_clocks;
 use crate::leap_lines::put_other_leap_in;
-use crate::message_lines::{put_doppler, put_msms, put_obs_1004, put_sbas, put_unread};
 use crate::phase_lines::put_few_phases_in;
 use crate::planning::Plan;
-use crate::positions::put_no_position;
 use crate::reported::Reported;
-use crate::span_line::{DateSource, DatedSpan, put_span};
 use crate::texts_left_out::put_texts_left_out;
-use crate::told_channels::put_channels_in;
-use crate::unchecked_systems::put_unchecked;
 use crate::written_file::{Step, WrittenFile};
+use rtk_captures::{Captures, DateSource, DatedSpan, put_no_position, put_span};
 use rtk_message::{Accepted, put_named};
 use rtk_setup::{Counts, Setup};
 use rtk_survey::{CaptureSurvey, Equipment};
+use rtk_systems::{
+    put_channel_lines, put_doppler, put_msms, put_obs_1004, put_sbas, put_told_clocks,
+    put_unchecked, put_unread,
+};
 use std::alloc::{AllocError, Global};
 
 // Appends how many late messages came on a link with a stray epoch.
@@ -140,6 +139,29 @@ fn put_clocks_in(
     )?;
     put_unchecked(lines, setup, surveys, station)?;
     put_other_leap_in(lines, captures, setup)?;
+    Ok(())
+}
+
+// Appends what messages tell of channels of GLONASS, and the slots that have a value and no channel.
+fn put_channels_in(
+    lines: &mut Vec<u8>,
+    surveys: &[CaptureSurvey],
+    plan: &Plan,
+) -> Result<(), AllocError>
+    ensures { OnOk result (lines.new.items ≡ lines.old.items
+        ++ told_channel_lines surveys.now plan.now.setup.station plan.now.setup.kinds.glonass plan.now.own_channels plan.now.setup.head.glonass) }
+{
+    let setup = &plan.setup;
+    let kind = setup.kinds().glonass;
+    let own = &plan.own_channels;
+    put_channel_lines(
+        lines,
+        surveys,
+        setup.station(),
+        kind,
+        own,
+        setup.head().glonass(),
+    )?;
     Ok(())
 }
 

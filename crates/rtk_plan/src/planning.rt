@@ -2,30 +2,29 @@
 
 ghost use Rattle.std.specs.Prelude.{◌≡◌, ◌<◌, ◌≤◌, None, Some, [], true, false, length, IfOk, IfErr, IsOk};
 ghost use Rattle.std.specs.List.{list_any};
-ghost use Rattle.rtk_plan.specs.Causes.{IfRefused, IsStationCause, IsEmptyCause, IsCaptureCause, IsCauseOf, has_frames};
-ghost use Rattle.rtk_plan.specs.Kept.{empty_captures};
-ghost use Rattle.rtk_plan.specs.Linking.{places_of, AreLinksOf};
-ghost use Rattle.rtk_plan.specs.Positions.{some_are_far};
-ghost use Rattle.rtk_plan.specs.Plan.{IsChosenStation, captures_of, ArePlaced, AreStrays, IsSpanOf, IsInReach, IsSetupFor, systems_asked};
-ghost use Rattle.rtk_plan.specs.SlotChannels.{AreSecondsChosen, AreOwnChannels};
+ghost use Rattle.rtk_captures.specs.CaptureCauses.{IfRefused, IsStationCause, IsEmptyCause};
+ghost use Rattle.rtk_plan.specs.Causes.{IsCaptureCause, IsCauseOf, has_frames};
+ghost use Rattle.rtk_captures.specs.Kept.{empty_captures};
+ghost use Rattle.rtk_survey.specs.Surveys.{places_of};
+ghost use Rattle.rtk_captures.specs.Linking.{AreLinksOf};
+ghost use Rattle.rtk_captures.specs.Positions.{some_are_far};
+ghost use Rattle.rtk_plan.specs.Plan.{IsChosenStation, IsSetupFor, systems_asked};
+ghost use Rattle.rtk_captures.specs.Dating.{captures_of, ArePlaced, AreStrays, IsSpanOf, IsInReach};
+ghost use Rattle.rtk_systems.specs.SlotChannels.{AreSecondsChosen, AreOwnChannels};
 
-use crate::captures::{Captures, StationCaptures, list_held};
-use crate::chosen_station::{OnlyStation, is_observed, only_station};
-use crate::dating::date_captures;
-use crate::kept::empty_captures;
-use crate::linking::{limit_links, links_as_given, links_found};
-use crate::positions::agree_on_position;
-use crate::refusal::{PlanFault, Refusal, refused};
 use crate::setup_seconds::seconds_of;
-use crate::span_line::DatedSpan;
-use crate::station_capture::{StationCapture, captures_of};
 use crate::station_setup::{own_channels_in, setup_near, systems_asked};
-use crate::system_flags::SystemFlags;
 use crate::wanted::Wanted;
+use rtk_captures::{
+    Captures, DatedSpan, OnlyStation, PlanFault, Refusal, StationCapture, StationCaptures,
+    agree_on_position, captures_of, date_captures, empty_captures, is_observed, limit_links,
+    links_as_given, links_found, only_station, refused,
+};
 use rtk_obs::Channels;
 use rtk_rinex::CreationTime;
 use rtk_setup::{Reference, Setup, Station};
 use rtk_survey::{CaptureSurvey, Placed};
+use rtk_systems::{SystemFlags, list_held};
 use std::alloc::{AllocError, Global};
 
 /// What a conversion of captures is told.

@@ -4,29 +4,28 @@ ghost use Rattle.std.specs.Prelude.{◌≡◌, ◌<◌, ◌≤◌, None, [], fal
 ghost use Rattle.std.specs.Option.{ForSome};
 ghost use Rattle.rtk_obs.specs.CivilText.{last_digits};
 ghost use Rattle.rtk_rinex.specs.MixedHead.{IsGlonassView, IsMixedList, TellsGlonass, has_glonass};
-ghost use Rattle.rtk_plan.specs.Causes.{IfRefused, FindsNoCode, IsSetupCause};
-ghost use Rattle.rtk_plan.specs.Linking.{places_of};
-ghost use Rattle.rtk_plan.specs.Plan.{IsChosenStation, kinds_found, AreSystemsTaken, AreCodesChosen, systems_asked, marker_chosen, captures_of, IsNearOf, IsSpanOf, IsSetupFor};
-ghost use Rattle.rtk_plan.specs.SlotChannels.{AreChannelsChosen, AreOwnChannels, AreSecondsChosen, IsGlonassOf, IsGlonassFound};
-ghost use Rattle.rtk_plan.specs.SystemMsms as msms;
+ghost use Rattle.rtk_captures.specs.CaptureCauses.{IfRefused};
+ghost use Rattle.rtk_plan.specs.Causes.{FindsNoCode, IsSetupCause};
+ghost use Rattle.rtk_survey.specs.Surveys.{places_of};
+ghost use Rattle.rtk_plan.specs.Plan.{IsChosenStation, kinds_found, AreSystemsTaken, AreCodesChosen, systems_asked, marker_chosen, IsSetupFor};
+ghost use Rattle.rtk_captures.specs.Dating.{captures_of, IsNearOf, IsSpanOf};
+ghost use Rattle.rtk_systems.specs.SlotChannels.{AreChannelsChosen, AreOwnChannels, AreSecondsChosen, IsGlonassOf, IsGlonassFound};
+ghost use Rattle.rtk_systems.specs.SystemMsms as msms;
 ghost use Rattle.rtk_plan.specs.Plan.{codes_chosen};
-ghost use Rattle.rtk_plan.specs.Values.{codes_in_captures};
+ghost use Rattle.rtk_systems.specs.Values.{codes_in_captures};
 
-use crate::captures::list_held;
-use crate::clock_offsets::systems_with_clocks;
-use crate::refusal::{PlanFault, Refusal, refused};
 use crate::setup_seconds::{has_glonass, seconds_chosen, seconds_of_setup};
-use crate::slot_channels::{channels_found, own_channels};
-use crate::span_line::DatedSpan;
-use crate::system_flags::SystemFlags;
-use crate::system_msms::kinds_listed;
-use crate::values::{codes_in_captures, kinds_in_links};
 use crate::wanted::Wanted;
+use rtk_captures::{DatedSpan, PlanFault, Refusal, refused};
 use rtk_message::{MsmKind, System};
 use rtk_obs::{AnyCode, Channels, GpsMs};
 use rtk_rinex::{CreationTime, Glonass, Marker, MixedHead};
 use rtk_setup::{LeapSeconds, Reference, Setup, Station, SystemKinds, Window};
 use rtk_survey::CaptureSurvey;
+use rtk_systems::{
+    SystemFlags, channels_found, codes_in_captures, kinds_in_links, kinds_listed, list_held,
+    own_channels, systems_with_clocks,
+};
 use std::alloc::{AllocError, Global};
 
 // ---- the systems

@@ -1,8 +1,8 @@
 use Rattle.std.proofs.Common.{◌++◌, ℕ, List, ap, ◌∙◌}
 use Rattle.rtk_plan.specs.KnownLines.{undated_lines, all_other_dates, clock_lines_of, few_phases_lines, stray_lines, lines_before_late}
 use Rattle.rtk_plan.specs.TextsLeftOut.{texts_left_out}
-use Rattle.rtk_plan.specs.ToldChannels.{told_channel_lines}
-use Rattle.rtk_plan.proofs.PutLemmas.{seven-parts}
+use Rattle.rtk_systems.specs.ToldChannels.{told_channel_lines}
+use Rattle.rtk_survey.proofs.PublicLaws.{seven-parts}
 use Rattle.rtk_plan.proofs.known_lines.put_first_lines.Goals as goal
 
 pub returns : goal.returns

@@ -1,6 +1,6 @@
 use Rattle.std.proofs.Common.{◌++◌, ℕ, List, ap, ◌∙◌, append_assoc}
 use Rattle.rtk_plan.specs.KnownLines.{skipped_lines, epochs_lines, not_taken, lines_behind_late}
-use Rattle.rtk_plan.specs.Linking.{places_of}
+use Rattle.rtk_survey.specs.Surveys.{places_of}
 use Rattle.rtk_plan.proofs.known_lines.put_last_lines.Goals as goal
 
 pub returns : goal.returns

@@ -1,7 +1,7 @@
 use Rattle.std.proofs.Common.{◌++◌, ap, ◌∙◌}
 use Rattle.rtk_plan.specs.KnownLines.{not_taken_by}
-use Rattle.rtk_plan.specs.Lists.{obs_1004_line, msm_lines, doppler_line, sbas_line, all_unread}
-use Rattle.rtk_plan.proofs.PutLemmas.{five-parts}
+use Rattle.rtk_systems.specs.MessageLines.{obs_1004_line, msm_lines, doppler_line, sbas_line, all_unread}
+use Rattle.rtk_survey.proofs.PublicLaws.{five-parts}
 use Rattle.rtk_plan.proofs.known_lines.put_not_taken.Goals as goal
 
 pub returns : goal.returns

@@ -1,12 +1,14 @@
 use Rattle.std.proofs.Common.{◌≡◌, ℕ, Bool, List, inl, sym, ap, subst}
 use Rattle.rtk_obs.specs.Dating.{IsReference}
 use Rattle.rtk_survey.specs.declared.survey.CaptureSurvey.{CaptureSurvey}
-use Rattle.rtk_plan.specs.Causes.{IsSetupCause, AreTooMany, IsCaptureCause}
-use Rattle.rtk_plan.specs.Linking.{places_of, AreLinksOf}
-use Rattle.rtk_plan.specs.Plan.{IsNearOf}
-use Rattle.rtk_plan.specs.declared.refusal.Refusal.{Refusal}
-use Rattle.rtk_plan.specs.declared.refusal.Refusal.TheVariants.{NoCode, OutsideDates}
-use Rattle.rtk_plan.specs.declared.station_capture.StationCapture.{StationCapture}
+use Rattle.rtk_plan.specs.Causes.{IsSetupCause, IsCaptureCause}
+use Rattle.rtk_captures.specs.CaptureCauses.{AreTooMany}
+use Rattle.rtk_survey.specs.Surveys.{places_of}
+use Rattle.rtk_captures.specs.Linking.{AreLinksOf}
+use Rattle.rtk_captures.specs.Dating.{IsNearOf}
+use Rattle.rtk_captures.specs.declared.refusal.Refusal.{Refusal}
+use Rattle.rtk_captures.specs.declared.refusal.Refusal.TheVariants.{NoCode, OutsideDates}
+use Rattle.rtk_captures.specs.declared.station_capture.StationCapture.{StationCapture}
 use Rattle.rtk_plan.specs.declared.wanted.Wanted.{Wanted}
 use Rattle.rtk_plan.proofs.RefusedLemmas.{exit-also}
 use Rattle.rtk_plan.proofs.planning.plan_of_station.Goals as goal

@@ -1,5 +1,5 @@
 use Rattle.std.proofs.Common.{ℕ, Option, sym, subst, refl}
-use Rattle.rtk_plan.specs.SlotChannels.{AreSecondsChosen}
+use Rattle.rtk_systems.specs.SlotChannels.{AreSecondsChosen}
 use Rattle.rtk_plan.proofs.setup_seconds.seconds_at.Goals as goal
 
 pub returns-in-Some : goal.returns-in-Some

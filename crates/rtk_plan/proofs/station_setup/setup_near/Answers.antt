@@ -5,12 +5,13 @@ use Rattle.rtk_setup.specs.Setup.{SetupView}
 use Rattle.rtk_setup.specs.declared.system_kinds.SystemKinds.{SystemKinds}
 use Rattle.rtk_survey.specs.declared.survey.CaptureSurvey.{CaptureSurvey}
 use Rattle.rtk_plan.specs.Causes.{FindsNoCode, IsSetupCause}
-use Rattle.rtk_plan.specs.Linking.{places_of}
-use Rattle.rtk_plan.specs.Plan.{IsChosenStation, kinds_found, AreCodesChosen, AreLeapSecondsOf, marker_chosen, captures_of, IsNearOf, IsSetupFor}
-use Rattle.rtk_plan.specs.SlotChannels.{IsGlonassFound}
-use Rattle.rtk_plan.specs.SystemMsms.{kinds_listed}
-use Rattle.rtk_plan.specs.declared.refusal.Refusal.{Refusal}
-use Rattle.rtk_plan.specs.declared.refusal.Refusal.TheVariants.{NoCode}
+use Rattle.rtk_survey.specs.Surveys.{places_of}
+use Rattle.rtk_plan.specs.Plan.{IsChosenStation, kinds_found, AreCodesChosen, AreLeapSecondsOf, marker_chosen, IsSetupFor}
+use Rattle.rtk_captures.specs.Dating.{captures_of, IsNearOf}
+use Rattle.rtk_systems.specs.SlotChannels.{IsGlonassFound}
+use Rattle.rtk_systems.specs.SystemMsms.{kinds_listed}
+use Rattle.rtk_captures.specs.declared.refusal.Refusal.{Refusal}
+use Rattle.rtk_captures.specs.declared.refusal.Refusal.TheVariants.{NoCode}
 use Rattle.rtk_plan.specs.declared.wanted.Wanted.{Wanted}
 use Rattle.rtk_plan.proofs.RefusedLemmas.{exit-also, no-code-found}
 use Rattle.rtk_plan.proofs.station_setup.setup_near.Goals as goal

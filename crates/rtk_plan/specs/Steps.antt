@@ -1,3 +1,0 @@
--- Definitions that only private clauses use.
-pub mod OnlyBelow
-pub mod ToldFields
