@@ -4,6 +4,7 @@ mod LinkLemmas
 mod OnePlanLemmas
 mod PutLemmas
 mod RefusedLemmas
+mod SetupLemmas
 mod SumLemmas
 mod TakenLemmas
 mod ToldLabelLemmas

@@ -13,8 +13,10 @@ use Rattle.rtk_survey.specs.declared.placing.Placed.{Placed}
 use Rattle.rtk_plan.specs.Reach.{is_out_of_reach}
 use Rattle.rtk_plan.specs.declared.station_capture.StationCapture.{StationCapture}
 use Rattle.rtk_plan.specs.declared.joining.Ordered.{Ordered}
+use Rattle.rtk_plan.specs.declared.near_1012.Ends.{Ends}
 use Rattle.rtk_plan.specs.Linking.{places_of, captures_of_link, is_nonempty}
 use Rattle.rtk_plan.specs.Lists.{unread_line, unread_lines_from}
+use Rattle.rtk_plan.specs.Near1012.{ends_after, ends_with_capture}
 use Rattle.rtk_plan.specs.Plan.{some_out_of_reach}
 use Rattle.rtk_plan.specs.CaptureNames.{lines_by}
 use Rattle.rtk_plan.specs.Stray.{greatest_before, greater_of, greatest_of_others}
@@ -135,6 +137,28 @@ pub others-step : (known : Option ℕ) (cs : List StationCapture) (ps : List (Op
 others-step known cs ps until i c p lt within =
     ap (λ (xs : List StationCapture). greatest_of_others known xs (drop i ps) until) (cut-at cs i c lt)
     ∙ ap (λ (ys : List (Option Placed)). greatest_of_others known (get_or cs i c ∷ drop (i + 1) cs) ys until) (cut-at ps i p within)
+
+-- ---- the first and the last moment with 1012
+
+none-ends : (n seconds : ℕ) (e : Ends) (ss : List CaptureSurvey) → ends_after n seconds e ss [] ≡ e
+none-ends n seconds e [] = refl
+none-ends n seconds e (s ∷ ss) = refl
+
+pub ends-end : (n seconds : ℕ) (e : Ends) (ss : List CaptureSurvey) (ps : List (Option Placed)) (i : ℕ) → min (length ss) (length ps) ≤ i
+    → ends_after n seconds e (drop i ss) (drop i ps) ≡ e
+ends-end n seconds e [] ps zero past = refl
+ends-end n seconds e [] ps (suc i) past = refl
+ends-end n seconds e (s ∷ ss) [] zero past = refl
+ends-end n seconds e (s ∷ ss) [] (suc i) past = none-ends n seconds e (drop i ss)
+ends-end n seconds e (s ∷ ss) (p ∷ ps) zero past = absurd (omega (arith, past))
+ends-end n seconds e (s ∷ ss) (p ∷ ps) (suc i) past = ends-end n seconds e ss ps i (omega (arith, past))
+
+pub ends-step : (n seconds : ℕ) (e : Ends) (ss : List CaptureSurvey) (ps : List (Option Placed)) (i : ℕ) (s : CaptureSurvey) (p : Option Placed) → i < length ss → i < length ps
+    → ends_after n seconds e (drop i ss) (drop i ps)
+    ≡ ends_after n seconds (ends_with_capture n seconds e (get_or ss i s) (get_or ps i p)) (drop (i + 1) ss) (drop (i + 1) ps)
+ends-step n seconds e ss ps i s p lt within =
+    ap (λ (xs : List CaptureSurvey). ends_after n seconds e xs (drop i ps)) (cut-at ss i s lt)
+    ∙ ap (λ (ys : List (Option Placed)). ends_after n seconds e (get_or ss i s ∷ drop (i + 1) ss) ys) (cut-at ps i p within)
 
 -- ---- lines of entries by their places
 

@@ -15,15 +15,15 @@ use Rattle.rtk_plan.specs.declared.station_capture.StationCapture.{StationCaptur
 use Rattle.rtk_plan.specs.declared.reach.Base.{Base}
 use Rattle.rtk_plan.specs.Kept.{empty_captures}
 use Rattle.rtk_plan.specs.Linking.{AreLinksOf}
-use Rattle.rtk_plan.specs.Plan.{IsChosenStation, kinds_found, AreSystemsTaken, AreLeapSecondsOf, captures_of, IsBaseOf, IsReachOf, IsNearOf, some_out_of_reach}
+use Rattle.rtk_plan.specs.Plan.{IsChosenStation, kinds_found, AreSystemsTaken, AreLeapSecondsOf, captures_of, IsBaseOf, IsReachOf, IsNear1012, IsNearOf, some_out_of_reach, taken_with}
 use Rattle.rtk_plan.specs.Positions.{some_are_far}
 use Rattle.rtk_plan.specs.Values.{codes_in_captures}
 use Rattle.rtk_plan.specs.declared.system_flags.SystemFlags.{SystemFlags}
-use Rattle.rtk_setup.specs.declared.system_kinds.SystemKinds.{SystemKinds}
 use Rattle.rtk_plan.specs.declared.refusal.PlanFault.{PlanFault}
 use Rattle.rtk_plan.specs.declared.refusal.PlanFault.TheVariants.{Refused, OutOfMemory}
 use Rattle.rtk_plan.specs.declared.refusal.Refusal.{Refusal}
 use Rattle.rtk_plan.specs.declared.refusal.Refusal.TheVariants.{NoFrame, NoObservation, NoStation, SeveralStations, Empty, DatesDiffer, TwoDates, OutsideDates, NoDate, TooLong, NoCode, TooManyLinks, PositionsDiffer}
+use Rattle.rtk_plan.specs.declared.values.TakenMessages.{TakenMessages}
 use Rattle.rtk_plan.specs.declared.wanted.Wanted.{Wanted}
 
 -- a refusal has this cause; refused memory has none
@@ -102,16 +102,17 @@ IsDatingCause given cs refusal = (base : Base) × IsBaseOf given cs base × IsRe
 
 -- ---- the values of the conversion of a station
 
--- no code is found in the MSM of these kinds, of the systems that are taken with these leap seconds
-abbrev pub FindsNoCode : List CaptureSurvey → SystemKinds → Wanted → ℕ → Option ℕ → ℕ → Type 0
-FindsNoCode ss kinds w station seconds near =
-    (systems : SystemFlags) × AreSystemsTaken ss station w.systems seconds near systems × (codes_in_captures ss station systems kinds ≡ [])
+-- no code is found in messages that are taken, of the systems that are taken with these leap seconds
+abbrev pub FindsNoCode : List CaptureSurvey → TakenMessages → Wanted → ℕ → Option ℕ → ℕ → Type 0
+FindsNoCode ss taken w station seconds near =
+    (systems : SystemFlags) × AreSystemsTaken ss station w.systems seconds near systems × (codes_in_captures ss station systems taken ≡ [])
 
--- no codes are named, and none is found in the MSM of these links, near this moment
+-- no codes are named, and none is found in the MSM of these links, and in 1012 if these can be dated, near this moment
 abbrev pub HasNoCode : List CaptureSurvey → List (List ℕ) → Wanted → ℕ → ℕ → Type 0
 HasNoCode ss links w station near =
     (w.codes ≡ None) × ((seconds : Option ℕ) × AreLeapSecondsOf ss w station near seconds
-    × FindsNoCode ss (kinds_found w.msm ss links station) w station seconds near)
+    × ((other : Option ℕ) × IsNear1012 ss w.near station seconds near other
+    × FindsNoCode ss (taken_with (kinds_found w.msm ss links station) other) w station seconds near))
 
 -- the same near the moment near which captures are dated
 abbrev pub HasNoCodeNear : List CaptureSurvey → List (List ℕ) → Wanted → ℕ → List StationCapture → Type 0

@@ -15,6 +15,7 @@ pub mod Laws
 pub mod LeapLines
 pub mod Linking
 pub mod Lists
+pub mod Near1012
 pub mod Plan
 pub mod Positions
 pub mod Reach

@@ -93,6 +93,7 @@ mod leap_lines;
 mod linking;
 mod lists;
 mod message_lines;
+mod near_1012;
 mod phase_lines;
 mod planning;
 mod position_lines;
