@@ -8,28 +8,29 @@ use Rattle.rtk_setup.specs.Setup.{SetupView}
 use Rattle.rtk_setup.specs.declared.system_kinds.SystemKinds.{SystemKinds}
 use Rattle.rtk_survey.specs.declared.placing.Placed.{Placed}
 use Rattle.rtk_survey.specs.declared.survey.CaptureSurvey.{CaptureSurvey}
-use Rattle.rtk_plan.specs.Kept.{empty_captures}
+use Rattle.rtk_captures.specs.Kept.{empty_captures}
 use Rattle.rtk_plan.specs.Laws.{OnePlan, NearIsWholeSecond}
-use Rattle.rtk_plan.specs.FoundSeconds.{seconds_found_if, AreSecondsFound, AreSecondsOfSetup, asks_glonass}
-use Rattle.rtk_plan.specs.Linking.{links_found, AreLinksOf}
-use Rattle.rtk_plan.specs.ClockOffsets.{systems_with_clocks}
-use Rattle.rtk_plan.specs.Plan.{IsChosenStation, kinds_found, codes_chosen, AreSystemsTaken, AreCodesChosen, marker_chosen, captures_of, converts_1012, near_chosen, near_in_reach, near_with_1012, some_out_of_reach, taken_with, IsBaseOf, IsReachOf, ArePlaced, IsNear1012, IsNearOf, IsSpanOf, AreLeapSecondsOf, AreStrays, IsSetupFor}
+use Rattle.rtk_systems.specs.FoundSeconds.{seconds_found_if, AreSecondsFound, AreSecondsOfSetup, asks_glonass}
+use Rattle.rtk_captures.specs.Linking.{links_found, AreLinksOf}
+use Rattle.rtk_systems.specs.ClockOffsets.{systems_with_clocks}
+use Rattle.rtk_plan.specs.Plan.{IsChosenStation, kinds_found, codes_chosen, AreSystemsTaken, AreCodesChosen, marker_chosen, converts_1012, near_chosen, near_in_reach, near_with_1012, taken_with, AreLeapSecondsOf, IsNear1012, IsSetupFor}
+use Rattle.rtk_captures.specs.Dating.{captures_of, some_out_of_reach, IsBaseOf, IsReachOf, ArePlaced, IsNearOf, IsSpanOf, AreStrays}
 use Rattle.rtk_plan.specs.Near1012.{ends_after, middle_up, middle_down, middle_of, dates_ends, can_date, near_of_ends, near_between}
-use Rattle.rtk_plan.specs.Reach.{least_told, placed_if_any, reach_after, second_of}
-use Rattle.rtk_plan.specs.SlotChannels.{IsGlonassFound}
-use Rattle.rtk_plan.specs.Sources.{dated_span_of}
-use Rattle.rtk_plan.specs.Stray.{strays}
-use Rattle.rtk_plan.specs.SystemFlags.{in_both}
-use Rattle.rtk_plan.specs.SystemMsms.{kinds_listed}
+use Rattle.rtk_captures.specs.Reach.{least_told, placed_if_any, reach_after, second_of}
+use Rattle.rtk_systems.specs.SlotChannels.{IsGlonassFound}
+use Rattle.rtk_captures.specs.Sources.{dated_span_of}
+use Rattle.rtk_captures.specs.Stray.{strays}
+use Rattle.rtk_systems.specs.SystemFlags.{in_both}
+use Rattle.rtk_systems.specs.SystemMsms.{kinds_listed}
+use Rattle.rtk_captures.specs.declared.reach.Base.{Base}
+use Rattle.rtk_captures.specs.declared.reach.Base.TheVariants.{Told}
+use Rattle.rtk_captures.specs.declared.span_line.DatedSpan.{DatedSpan}
+use Rattle.rtk_captures.specs.declared.station_capture.StationCapture.{StationCapture}
+use Rattle.rtk_systems.specs.declared.system_flags.SystemFlags.{SystemFlags}
 use Rattle.rtk_plan.specs.declared.near_1012.Ends.{Ends}
-use Rattle.rtk_plan.specs.declared.reach.Base.{Base}
-use Rattle.rtk_plan.specs.declared.reach.Base.TheVariants.{Told}
-use Rattle.rtk_plan.specs.declared.span_line.DatedSpan.{DatedSpan}
-use Rattle.rtk_plan.specs.declared.station_capture.StationCapture.{StationCapture}
-use Rattle.rtk_plan.specs.declared.system_flags.SystemFlags.{SystemFlags}
-use Rattle.rtk_plan.specs.declared.values.TakenMessages.{TakenMessages}
+use Rattle.rtk_systems.specs.declared.values.TakenMessages.{TakenMessages}
 use Rattle.rtk_plan.specs.declared.wanted.Wanted.{Wanted}
-use Rattle.rtk_plan.proofs.ChannelLemmas.{one-glonass, one-row, one-seconds}
+use Rattle.rtk_systems.proofs.PublicLaws.{one-glonass, one-row, one-seconds}
 
 one-some : {A : Type 0} (o : Option A) (a b : A) → o ≡ Some a → o ≡ Some b → a ≡ b
 one-some o a b is also = let same : Some a ≡ Some b = sym is ∙ also in cc

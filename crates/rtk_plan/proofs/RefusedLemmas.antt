@@ -2,15 +2,16 @@
 use Rattle.std.proofs.Common.{◌≡◌, ◌∙◌, ℕ, List, [], None, Result, IsErrAnd, IfErr, Option, sym, ap, subst}
 use Rattle.std.proofs.lemmas.Result.{err_from_is_err_and}
 use Rattle.rtk_survey.specs.declared.survey.CaptureSurvey.{CaptureSurvey}
-use Rattle.rtk_plan.specs.Causes.{IfRefused, FindsNoCode, IsSetupCause}
+use Rattle.rtk_captures.specs.CaptureCauses.{IfRefused}
+use Rattle.rtk_plan.specs.Causes.{FindsNoCode, IsSetupCause}
 use Rattle.rtk_plan.specs.Plan.{kinds_found, AreSystemsTaken, AreLeapSecondsOf, IsNear1012, taken_with}
-use Rattle.rtk_plan.specs.Values.{codes_in_captures}
-use Rattle.rtk_plan.specs.declared.refusal.PlanFault.{PlanFault}
-use Rattle.rtk_plan.specs.declared.refusal.PlanFault.TheVariants.{Refused, OutOfMemory}
-use Rattle.rtk_plan.specs.declared.refusal.Refusal.{Refusal}
-use Rattle.rtk_plan.specs.declared.refusal.Refusal.TheVariants.{NoCode}
-use Rattle.rtk_plan.specs.declared.system_flags.SystemFlags.{SystemFlags}
-use Rattle.rtk_plan.specs.declared.values.TakenMessages.{TakenMessages}
+use Rattle.rtk_systems.specs.Values.{codes_in_captures}
+use Rattle.rtk_captures.specs.declared.refusal.PlanFault.{PlanFault}
+use Rattle.rtk_captures.specs.declared.refusal.PlanFault.TheVariants.{Refused, OutOfMemory}
+use Rattle.rtk_captures.specs.declared.refusal.Refusal.{Refusal}
+use Rattle.rtk_captures.specs.declared.refusal.Refusal.TheVariants.{NoCode}
+use Rattle.rtk_systems.specs.declared.system_flags.SystemFlags.{SystemFlags}
+use Rattle.rtk_systems.specs.declared.values.TakenMessages.{TakenMessages}
 use Rattle.rtk_plan.specs.declared.wanted.Wanted.{Wanted}
 
 -- a cause that is another one too

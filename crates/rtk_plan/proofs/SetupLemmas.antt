@@ -5,12 +5,13 @@ use Rattle.rtk_obs.specs.declared.any_code.AnyCode.{AnyCode}
 use Rattle.rtk_setup.specs.Setup.{SetupView}
 use Rattle.rtk_setup.specs.declared.system_kinds.SystemKinds.{SystemKinds}
 use Rattle.rtk_survey.specs.declared.survey.CaptureSurvey.{CaptureSurvey}
-use Rattle.rtk_plan.specs.Plan.{IsChosenStation, kinds_found, AreCodesChosen, captures_of, converts_1012, marker_chosen, near_chosen, taken_with, AreLeapSecondsOf, IsInReach, IsNear1012, IsNearOf, IsSetupFor}
-use Rattle.rtk_plan.specs.SlotChannels.{IsGlonassFound}
+use Rattle.rtk_captures.specs.Dating.{captures_of, IsInReach, IsNearOf}
+use Rattle.rtk_plan.specs.Plan.{IsChosenStation, kinds_found, AreCodesChosen, converts_1012, marker_chosen, near_chosen, taken_with, AreLeapSecondsOf, IsNear1012, IsSetupFor}
+use Rattle.rtk_systems.specs.SlotChannels.{IsGlonassFound}
 use Rattle.rtk_plan.specs.Steps.SetupParts.{HasSetupParts}
-use Rattle.rtk_plan.specs.SystemMsms.{kinds_listed}
-use Rattle.rtk_plan.specs.declared.station_capture.StationCapture.{StationCapture}
-use Rattle.rtk_plan.specs.declared.values.TakenMessages.{TakenMessages}
+use Rattle.rtk_systems.specs.SystemMsms.{kinds_listed}
+use Rattle.rtk_captures.specs.declared.station_capture.StationCapture.{StationCapture}
+use Rattle.rtk_systems.specs.declared.values.TakenMessages.{TakenMessages}
 use Rattle.rtk_plan.specs.declared.wanted.Wanted.{Wanted}
 
 taken_kinds : SystemKinds → Bool → TakenMessages

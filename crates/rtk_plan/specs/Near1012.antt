@@ -7,8 +7,8 @@ use Rattle.rtk_survey.specs.declared.epochs.Epochs.{Epochs}
 use Rattle.rtk_survey.specs.declared.placing.Placed.{Placed}
 use Rattle.rtk_survey.specs.declared.span.Span.{Span}
 use Rattle.rtk_survey.specs.declared.survey.CaptureSurvey.{CaptureSurvey}
-use Rattle.rtk_plan.specs.StationCaptures.{dates_in}
-use Rattle.rtk_plan.specs.Values.{epochs_1012_in}
+use Rattle.rtk_captures.specs.StationCaptures.{dates_in}
+use Rattle.rtk_systems.specs.Values.{epochs_1012_in}
 use Rattle.rtk_plan.specs.declared.near_1012.Ends.{Ends}
 
 -- ---- the moment of a 1012

@@ -1,5 +1,5 @@
 -- What a conversion is told, by the surveys of captures and by what words say (this project's rule).
-use Rattle.std.specs.Prelude.{◌≡◌, ℕ, Bool, false, ◌&&◌, ◌||◌, is_some, List, [], ◌∷◌, map, Option, None, Some, unwrap_or, if◌then◌else◌}
+use Rattle.std.specs.Prelude.{◌≡◌, ℕ, Bool, ◌&&◌, is_some, List, Option, None, Some, unwrap_or, if◌then◌else◌}
 use Rattle.std.specs.declared.vec.Vec.{Vec}
 use Rattle.rtk_message.specs.declared.msm_kind.MsmKind.{MsmKind}
 use Rattle.rtk_obs.specs.declared.any_code.AnyCode.{AnyCode}
@@ -7,27 +7,20 @@ use Rattle.rtk_obs.specs.CivilText.{last_digits}
 use Rattle.rtk_rinex.specs.MixedHead.{has_glonass}
 use Rattle.rtk_setup.specs.Setup.{SetupView, all_of}
 use Rattle.rtk_setup.specs.declared.system_kinds.SystemKinds.{SystemKinds}
-use Rattle.rtk_survey.specs.declared.placing.Placed.{Placed}
 use Rattle.rtk_survey.specs.declared.survey.CaptureSurvey.{CaptureSurvey}
-use Rattle.rtk_plan.specs.ChosenStation.{IsObservedStation, IsOnlyObserved}
-use Rattle.rtk_plan.specs.Reach.{least_told, placed_if_any, reach_after, is_out_of_reach, second_of}
-use Rattle.rtk_plan.specs.declared.system_flags.SystemFlags.{SystemFlags}
-use Rattle.rtk_plan.specs.declared.span_line.DatedSpan.{DatedSpan}
-use Rattle.rtk_plan.specs.declared.station_capture.StationCapture.{StationCapture}
-use Rattle.rtk_plan.specs.declared.reach.Base.{Base}
-use Rattle.rtk_plan.specs.declared.reach.Base.TheVariants.{Given, Told}
-use Rattle.rtk_plan.specs.StationCaptures.{capture_of}
-use Rattle.rtk_plan.specs.Sources.{dated_span_of}
-use Rattle.rtk_plan.specs.Stray.{strays}
-use Rattle.rtk_plan.specs.ClockOffsets.{systems_with_clocks}
-use Rattle.rtk_plan.specs.FoundSeconds.{asks_glonass, AreSecondsOfSetup}
+use Rattle.rtk_captures.specs.ChosenStation.{IsObservedStation, IsOnlyObserved}
+use Rattle.rtk_systems.specs.declared.system_flags.SystemFlags.{SystemFlags}
+use Rattle.rtk_captures.specs.declared.span_line.DatedSpan.{DatedSpan}
+use Rattle.rtk_systems.specs.ClockOffsets.{systems_with_clocks}
+use Rattle.rtk_systems.specs.FoundSeconds.{asks_glonass, AreSecondsOfSetup}
 use Rattle.rtk_plan.specs.Near1012.{ends_after, near_between}
-use Rattle.rtk_plan.specs.SlotChannels.{AreSecondsChosen, IsGlonassFound}
-use Rattle.rtk_plan.specs.SystemFlags.{in_both, flags_listed}
-use Rattle.rtk_plan.specs.SystemMsms.{kinds_listed}
-use Rattle.rtk_plan.specs.Values.{kinds_in_links, codes_in_captures, is_1012_given}
-use Rattle.rtk_plan.specs.declared.values.TakenMessages.{TakenMessages}
+use Rattle.rtk_systems.specs.SlotChannels.{AreSecondsChosen, IsGlonassFound}
+use Rattle.rtk_systems.specs.SystemFlags.{in_both, flags_listed}
+use Rattle.rtk_systems.specs.SystemMsms.{kinds_listed}
+use Rattle.rtk_systems.specs.Values.{kinds_in_links, codes_in_captures, is_1012_given}
+use Rattle.rtk_systems.specs.declared.values.TakenMessages.{TakenMessages}
 use Rattle.rtk_plan.specs.declared.wanted.Wanted.{Wanted}
+use Rattle.rtk_captures.specs.Dating.{IsNearOf, IsSpanOf, captures_of}
 
 -- the station that is named, if it has observations; else the only one that has
 abbrev pub IsChosenStation : List CaptureSurvey → Option ℕ → ℕ → Type 0
@@ -67,49 +60,6 @@ abbrev pub marker_chosen : Option (List ℕ) → ℕ → List ℕ
 marker_chosen None station = last_digits 4 station
 marker_chosen (Some named) station = named
 
--- the moment near which captures are dated: the one that is given; else the least first epoch that they tell
-abbrev pub IsBaseOf : Option ℕ → List StationCapture → Base → Type 0
-IsBaseOf None cs base = (least : ℕ) × (least_told cs ≡ Some least) × (base ≡ Told least)
-IsBaseOf (Some near) cs base = base ≡ Given near
-
--- the epochs of captures that are dated near a base have this reach
-abbrev pub IsReachOf : Base → List StationCapture → Placed → Type 0
-IsReachOf base cs reach = reach_after None (map (placed_if_any base) cs) ≡ Some reach
-
--- the epochs of captures that are dated so, one for each capture
-abbrev pub ArePlaced : Option ℕ → List StationCapture → List (Option Placed) → Type 0
-ArePlaced given cs placed = (base : Base) × IsBaseOf given cs base × (placed ≡ map (placed_if_any base) cs)
-
--- a conversion near this moment would date an epoch of some capture otherwise
-abbrev pub some_out_of_reach : ℕ → List StationCapture → List (Option Placed) → Bool
-some_out_of_reach near [] placed = false
-some_out_of_reach near (c ∷ cs) [] = false
-some_out_of_reach near (c ∷ cs) (p ∷ ps) = is_out_of_reach near c p || some_out_of_reach near cs ps
-
--- a conversion near this moment dates all epochs of the captures as they are dated here
-abbrev pub IsInReach : Option ℕ → List StationCapture → ℕ → Type 0
-IsInReach given cs near = (placed : List (Option Placed)) × ArePlaced given cs placed × (some_out_of_reach near cs placed ≡ false)
-
--- formula
--- the whole second of the least first epoch of the captures
-abbrev pub IsNearOf : Option ℕ → List StationCapture → ℕ → Type 0
-IsNearOf given cs near =
-    (base : Base) × IsBaseOf given cs base × ((reach : Placed) × IsReachOf base cs reach × (near ≡ second_of reach.first))
-
--- the captures that have the greatest epoch, if it is more than a day after all others
-abbrev pub AreStrays : Option ℕ → List StationCapture → List ℕ → Type 0
-AreStrays given cs places =
-    (base : Base) × IsBaseOf given cs base × ((reach : Placed) × IsReachOf base cs reach × (places ≡ strays cs (map (placed_if_any base) cs) reach.until))
-
--- the first and the last epoch of the station, and by what the captures are dated
-abbrev pub IsSpanOf : Option ℕ → List StationCapture → ℕ → DatedSpan → Type 0
-IsSpanOf given cs station span =
-    (base : Base) × IsBaseOf given cs base × ((reach : Placed) × IsReachOf base cs reach × (span ≡ dated_span_of cs base station reach))
-
--- what captures tell of a station, one after another
-abbrev pub captures_of : List CaptureSurvey → ℕ → List StationCapture
-captures_of ss station = map (capture_of station) ss
-
 -- the leap seconds of the setup of a conversion of a station near this moment
 abbrev pub AreLeapSecondsOf : List CaptureSurvey → Wanted → ℕ → ℕ → Option ℕ → Type 0
 AreLeapSecondsOf ss w station near seconds =
@@ -142,7 +92,11 @@ IsNear1012 ss given station seconds first near =
     × ((n : ℕ) × AreSecondsChosen seconds first n
     × (near ≡ near_with_1012 ss station n (captures_of ss station) placed span.from span.until)))
 
--- the messages of which values are taken: 1012 too, if there is such a moment
+-- the messages of which a setup takes values
+abbrev pub taken_messages : SetupView → TakenMessages
+taken_messages s = record { kinds = s.kinds; obs1012 = s.takes_1012 }
+
+-- those of which codes are taken: 1012 too, if there is such a moment
 abbrev pub taken_with : SystemKinds → Option ℕ → TakenMessages
 taken_with kinds near = record { kinds = kinds; obs1012 = is_some near }
 

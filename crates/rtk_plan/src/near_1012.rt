@@ -3,17 +3,17 @@
 ghost use Rattle.std.specs.Prelude.{◌≡◌, ◌<◌, ◌≤◌, ◌×◌, ◌^◌, Some, None, IfSome, if◌then◌else◌};
 ghost use Rattle.rtk_obs.specs.declared.time.TheConstants.{LAST_MS};
 ghost use Rattle.rtk_plan.specs.Near1012 as spec;
-ghost use Rattle.rtk_plan.specs.Plan.{ArePlaced, IsInReach, IsNear1012, IsSpanOf, captures_of, near_in_reach, near_with_1012};
+ghost use Rattle.rtk_captures.specs.Dating.{ArePlaced, IsInReach, IsSpanOf, captures_of};
+ghost use Rattle.rtk_plan.specs.Plan.{IsNear1012, near_in_reach, near_with_1012};
 
-use crate::captures::StationCaptures;
-use crate::dating::{Dating, are_out_of_reach};
 use crate::setup_seconds::seconds_chosen;
-use crate::span_line::DatedSpan;
-use crate::station_capture::{StationCapture, span_in};
-use crate::values::epochs_1012_in;
+use rtk_captures::{
+    DatedSpan, Dating, StationCapture, StationCaptures, are_out_of_reach, span_in,
+};
 use rtk_obs::{GpsMs, LAST_MS};
 use rtk_setup::{LeapSeconds, Reference};
 use rtk_survey::{CaptureSurvey, Epochs, Placed, Span};
+use rtk_systems::epochs_1012_in;
 
 const DAY_MS: u64 = 86_400_000;
 

@@ -2,31 +2,30 @@
 
 ghost use Rattle.std.specs.Prelude.{◌≡◌, ◌<◌, ◌≤◌, None, Some, [], true, false, length, IfOk, IfErr, IsOk};
 ghost use Rattle.std.specs.List.{list_any};
-ghost use Rattle.rtk_plan.specs.Causes.{IfRefused, IsStationCause, IsEmptyCause, IsCaptureCause, IsCauseOf, has_frames};
-ghost use Rattle.rtk_plan.specs.Kept.{empty_captures};
-ghost use Rattle.rtk_plan.specs.Linking.{places_of, AreLinksOf};
-ghost use Rattle.rtk_plan.specs.Positions.{some_are_far};
-ghost use Rattle.rtk_plan.specs.Plan.{IsChosenStation, captures_of, ArePlaced, AreSecondsCompared, AreStrays, HasNear1012, IsSpanOf, IsInReach, IsSetupFor, systems_asked};
-ghost use Rattle.rtk_plan.specs.SlotChannels.{AreOwnChannels};
+ghost use Rattle.rtk_captures.specs.CaptureCauses.{IfRefused, IsStationCause, IsEmptyCause};
+ghost use Rattle.rtk_plan.specs.Causes.{IsCaptureCause, IsCauseOf, has_frames};
+ghost use Rattle.rtk_captures.specs.Kept.{empty_captures};
+ghost use Rattle.rtk_survey.specs.Surveys.{places_of};
+ghost use Rattle.rtk_captures.specs.Linking.{AreLinksOf};
+ghost use Rattle.rtk_captures.specs.Positions.{some_are_far};
+ghost use Rattle.rtk_plan.specs.Plan.{IsChosenStation, AreSecondsCompared, HasNear1012, IsSetupFor, systems_asked, taken_messages};
+ghost use Rattle.rtk_captures.specs.Dating.{captures_of, ArePlaced, AreStrays, IsSpanOf, IsInReach};
+ghost use Rattle.rtk_systems.specs.SlotChannels.{AreOwnChannels};
 
-use crate::captures::{Captures, StationCaptures, list_held};
-use crate::chosen_station::{OnlyStation, is_observed, only_station};
-use crate::dating::date_captures;
-use crate::kept::empty_captures;
-use crate::linking::{limit_links, links_as_given, links_found};
 use crate::near_1012::near_1012;
-use crate::positions::agree_on_position;
-use crate::refusal::{PlanFault, Refusal, refused};
 use crate::setup_seconds::{seconds_chosen, seconds_of_setup};
-use crate::span_line::DatedSpan;
-use crate::station_capture::{StationCapture, captures_of};
 use crate::station_setup::{own_channels_in, setup_near, systems_asked};
-use crate::system_flags::SystemFlags;
 use crate::wanted::Wanted;
+use rtk_captures::{
+    Captures, DatedSpan, OnlyStation, PlanFault, Refusal, StationCapture, StationCaptures,
+    agree_on_position, captures_of, date_captures, empty_captures, is_observed, limit_links,
+    links_as_given, links_found, only_station, refused,
+};
 use rtk_obs::Channels;
 use rtk_rinex::CreationTime;
 use rtk_setup::{Reference, Setup, Station};
 use rtk_survey::{CaptureSurvey, Placed};
+use rtk_systems::{SystemFlags, list_held};
 use std::alloc::{AllocError, Global};
 
 /// What a conversion of captures is told.
@@ -250,8 +249,7 @@ pub fn plan_of(
     ensures setup { IfOk result (λ plan. IsSetupFor captures.now.surveys.now (places_of plan.links.items) wanted.now made plan.setup) }
     ensures captures { IfOk result (λ plan. plan.captures.items ≡ captures_of captures.now.surveys.now plan.setup.station) }
     ensures asked { IfOk result (λ plan. plan.asked ≡ systems_asked wanted.now.codes wanted.now.systems plan.setup.head.listed) }
-    ensures own_channels { IfOk result (λ plan. AreOwnChannels captures.now.surveys.now plan.setup.station
-        (record { kinds = plan.setup.kinds; obs1012 = plan.setup.takes_1012 }) plan.own_channels) }
+    ensures own_channels { IfOk result (λ plan. AreOwnChannels captures.now.surveys.now plan.setup.station (taken_messages plan.setup) plan.own_channels) }
     ensures leap_seconds { IfOk result (λ plan. AreSecondsCompared wanted.now.near plan.captures.items plan.setup.leap_seconds plan.leap_seconds) }
     ensures has_near_1012 { IfOk result (λ plan. HasNear1012 captures.now.surveys.now wanted.now.near plan.setup.station plan.setup.leap_seconds plan.has_near_1012) }
     ensures in_reach { IfOk result (λ plan. IsInReach wanted.now.near plan.captures.items plan.setup.near) }

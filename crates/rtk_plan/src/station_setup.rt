@@ -4,29 +4,29 @@ ghost use Rattle.std.specs.Prelude.{◌≡◌, ◌<◌, ◌≤◌, None, [], fal
 ghost use Rattle.std.specs.Option.{ForSome};
 ghost use Rattle.rtk_obs.specs.CivilText.{last_digits};
 ghost use Rattle.rtk_rinex.specs.MixedHead.{IsGlonassView, IsMixedList, TellsGlonass, has_glonass};
-ghost use Rattle.rtk_plan.specs.Causes.{IfRefused, FindsNoCode, IsSetupCause};
-ghost use Rattle.rtk_plan.specs.Linking.{places_of};
-ghost use Rattle.rtk_plan.specs.Plan.{IsChosenStation, kinds_found, AreSystemsTaken, AreCodesChosen, AreLeapSecondsOf, systems_asked, marker_chosen, captures_of, converts_1012, near_chosen, taken_with, IsInReach, IsNear1012, IsNearOf, IsSetupFor};
-ghost use Rattle.rtk_plan.specs.SlotChannels.{AreChannelsChosen, AreOwnChannels, AreSecondsChosen, IsGlonassOf, IsGlonassFound};
+ghost use Rattle.rtk_captures.specs.CaptureCauses.{IfRefused};
+ghost use Rattle.rtk_plan.specs.Causes.{FindsNoCode, IsSetupCause};
+ghost use Rattle.rtk_survey.specs.Surveys.{places_of};
+ghost use Rattle.rtk_plan.specs.Plan.{IsChosenStation, kinds_found, AreSystemsTaken, AreCodesChosen, AreLeapSecondsOf, systems_asked, marker_chosen, converts_1012, near_chosen, taken_messages, taken_with, IsNear1012, IsSetupFor};
+ghost use Rattle.rtk_captures.specs.Dating.{captures_of, IsInReach, IsNearOf};
+ghost use Rattle.rtk_systems.specs.SlotChannels.{AreChannelsChosen, AreOwnChannels, AreSecondsChosen, IsGlonassOf, IsGlonassFound};
+ghost use Rattle.rtk_systems.specs.SystemMsms as msms;
 ghost use Rattle.rtk_plan.specs.Steps.SetupParts.{HasSetupParts};
-ghost use Rattle.rtk_plan.specs.SystemMsms as msms;
 ghost use Rattle.rtk_plan.specs.Plan.{codes_chosen};
-ghost use Rattle.rtk_plan.specs.Values.{codes_in_captures};
+ghost use Rattle.rtk_systems.specs.Values.{codes_in_captures};
 
-use crate::captures::list_held;
-use crate::clock_offsets::systems_with_clocks;
-use crate::refusal::{PlanFault, Refusal, refused};
 use crate::setup_seconds::{has_glonass, seconds_chosen};
-use crate::slot_channels::{channels_found, own_channels};
-use crate::system_flags::SystemFlags;
-use crate::system_msms::kinds_listed;
-use crate::values::{TakenMessages, codes_in_captures, is_1012_given, kinds_in_links};
 use crate::wanted::Wanted;
+use rtk_captures::{DatedSpan, PlanFault, Refusal, refused};
 use rtk_message::{MsmKind, System};
 use rtk_obs::{AnyCode, Channels, GpsMs};
 use rtk_rinex::{CreationTime, Glonass, Marker, MixedHead};
 use rtk_setup::{LeapSeconds, Reference, Setup, Station, SystemKinds, Window};
 use rtk_survey::CaptureSurvey;
+use rtk_systems::{
+    SystemFlags, channels_found, codes_in_captures, kinds_in_links, kinds_listed, list_held,
+    own_channels, systems_with_clocks,
+};
 use std::alloc::{AllocError, Global};
 
 // ---- the systems
@@ -151,7 +151,7 @@ fn channels_chosen(
 
 /// The messages of which a setup takes values.
 pub(crate) fn taken_by_setup(setup: &Setup) -> TakenMessages
-    ensures { result ≡ record { kinds = setup.now.kinds; obs1012 = setup.now.takes_1012 } }
+    ensures { result ≡ taken_messages setup.now }
 {
     TakenMessages {
         kinds: setup.kinds(),
@@ -161,7 +161,7 @@ pub(crate) fn taken_by_setup(setup: &Setup) -> TakenMessages
 
 /// The channels of slots that messages of the station tell, by the messages of GLONASS that a setup takes.
 pub(crate) fn own_channels_in(surveys: &[CaptureSurvey], setup: &Setup) -> Channels
-    ensures { AreOwnChannels surveys.now setup.now.station (record { kinds = setup.now.kinds; obs1012 = setup.now.takes_1012 }) result }
+    ensures { AreOwnChannels surveys.now setup.now.station (taken_messages setup.now) result }
 {
     let taken = taken_by_setup(setup);
     own_channels(surveys, setup.station(), taken)

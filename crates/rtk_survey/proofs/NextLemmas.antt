@@ -77,9 +77,10 @@ more-agree f g (Some told) n agree few =
 most-agree : (f g : ℕ → ℕ) (n : ℕ) → ((k : ℕ) → k < n → f k ≡ g k) → (most_told f n ≡ most_told g n) × ((k : ℕ) → most_told f n ≡ Some k → k < n)
 most-agree f g zero agree = (refl, λ k is. cc)
 most-agree f g (suc n) agree =
-    let before = most-agree f g n (λ k lt. agree k (omega (arith, lt))) in
-    (ap (λ (o : Option ℕ). more_told f o n) before.0 ∙ more-agree f g (most_told g n) n agree (λ k is. before.1 k (before.0 ∙ is)),
-    told-low f (most_told f n) n before.1)
+    let before = most-agree f g n (λ k lt. agree k (omega (arith, lt))) in (
+      ap (λ (o : Option ℕ). more_told f o n) before.0 ∙ more-agree f g (most_told g n) n agree (λ k is. before.1 k (before.0 ∙ is)),
+      told-low f (most_told f n) n before.1,
+    )
 
 item-agree : (a b : ℕ → Bool) (f g : ℕ → ℕ → ℕ) (slot : ℕ) → a slot ≡ b slot → ((field : ℕ) → field < 14 → f slot field ≡ g slot field) → slot_item a f slot ≡ slot_item b g slot
 unfolding told_of_slot

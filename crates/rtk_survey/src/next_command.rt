@@ -41,12 +41,7 @@ fn epochs_by(station: &StationSurvey, system: System, kind: MsmKind) -> u64
     epochs_numbered(&station.system_msm, msm.number())
 }
 
-fn better_of(
-    station: &StationSurvey,
-    system: System,
-    lesser: MsmKind,
-    greater: MsmKind,
-) -> MsmKind
+fn better_of(station: &StationSurvey, system: System, lesser: MsmKind, greater: MsmKind) -> MsmKind
     ensures { result ≡ better_of (spec.epochs_by (system_epochs_held station.now) system) lesser greater }
 {
     let count = epochs_by(station, system, greater);
@@ -225,11 +220,7 @@ fn put_other_kinds(
     Ok(())
 }
 
-fn put_kinds_words(
-    text: &mut Vec<u8>,
-    first: MsmKind,
-    others: &[u8],
-) -> Result<(), AllocError>
+fn put_kinds_words(text: &mut Vec<u8>, first: MsmKind, others: &[u8]) -> Result<(), AllocError>
     ensures { OnOk result (text.new.items ≡ text.old.items ++ spec.kinds_words_of first others.now) }
 {
     if others.is_empty() {
@@ -325,11 +316,7 @@ fn put_item(items: &mut Vec<u8>, slot: u8, told: Option<u8>) -> Result<(), Alloc
 }
 
 // A slot that has a value, with its channel.
-fn put_slot_item(
-    items: &mut Vec<u8>,
-    station: &StationSurvey,
-    slot: u8,
-) -> Result<(), AllocError>
+fn put_slot_item(items: &mut Vec<u8>, station: &StationSurvey, slot: u8) -> Result<(), AllocError>
     requires { slot < 28 }
     ensures { OnOk result (items.new.items ≡ items.old.items ++ spec.slot_item (slots_held station.now) (fields_held station.now) slot) }
 {

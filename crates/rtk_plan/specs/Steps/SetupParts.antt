@@ -4,9 +4,9 @@ use Rattle.rtk_obs.specs.declared.any_code.AnyCode.{AnyCode}
 use Rattle.rtk_setup.specs.Setup.{SetupView}
 use Rattle.rtk_survey.specs.declared.survey.CaptureSurvey.{CaptureSurvey}
 use Rattle.rtk_plan.specs.Plan.{marker_chosen}
-use Rattle.rtk_plan.specs.SlotChannels.{IsGlonassFound}
-use Rattle.rtk_plan.specs.SystemMsms.{kinds_listed}
-use Rattle.rtk_plan.specs.declared.values.TakenMessages.{TakenMessages}
+use Rattle.rtk_systems.specs.SlotChannels.{IsGlonassFound}
+use Rattle.rtk_systems.specs.SystemMsms.{kinds_listed}
+use Rattle.rtk_systems.specs.declared.values.TakenMessages.{TakenMessages}
 use Rattle.rtk_plan.specs.declared.wanted.Wanted.{Wanted}
 
 pub record HasSetupParts (ss : List CaptureSurvey) (w : Wanted) (made station near : ℕ) (taken : TakenMessages) (listed : List AnyCode) (seconds : Option ℕ) (s : SetupView) : Type 0 where

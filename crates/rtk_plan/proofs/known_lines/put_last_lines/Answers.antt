@@ -1,6 +1,6 @@
 use Rattle.std.proofs.Common.{◌++◌, ℕ, List, ap, ◌∙◌, append_assoc}
 use Rattle.rtk_plan.specs.KnownLines.{skipped_lines, epochs_lines, not_taken, lines_behind_late}
-use Rattle.rtk_plan.specs.Linking.{places_of}
+use Rattle.rtk_survey.specs.Surveys.{places_of}
 use Rattle.rtk_plan.proofs.known_lines.put_last_lines.Goals as goal
 
 pub returns : goal.returns
@@ -9,7 +9,7 @@ returns c =
     let names = c.args.captures.now.names.now in
     let plan = c.args.plan.now in
     let told : List ℕ = skipped_lines names plan.captures.items plan.skipped.items ++ epochs_lines names plan.captures.items (places_of plan.links.items) in
-    let rest : List ℕ = not_taken c.args.captures.now.surveys.now plan.setup in
+    let rest : List ℕ = not_taken c.args.captures.now.surveys.now plan.has_near_1012 plan.setup in
     c.in_ok-put_not_taken_in.ensures
     ∙ ap (λ (l : List ℕ). l ++ rest) c.in_ok-put_captures_in.ensures
     ∙ append_assoc c.args.lines.now.items told rest

@@ -1,5 +1,5 @@
 use Rattle.std.proofs.Common.{◌≤◌, min, length, sym, ◌∙◌, arith}
-use Rattle.rtk_plan.proofs.WalkLemmas.{ends-end}
+use Rattle.rtk_plan.proofs.EndsLemmas.{ends-end}
 use Rattle.rtk_plan.proofs.near_1012.ends_after.Goals as goal
 
 pub returns : goal.returns

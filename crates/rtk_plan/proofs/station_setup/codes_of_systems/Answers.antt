@@ -1,4 +1,4 @@
-use Rattle.rtk_plan.specs.Values.{is_found}
+use Rattle.rtk_systems.specs.Values.{is_found}
 use Rattle.rtk_plan.proofs.CodeLemmas.{mixed-found}
 use Rattle.rtk_plan.proofs.station_setup.codes_of_systems.Goals as goal
 

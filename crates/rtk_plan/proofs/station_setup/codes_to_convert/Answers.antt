@@ -1,8 +1,8 @@
 use Rattle.std.proofs.Common.{◌≡◌, [], None}
 use Rattle.rtk_plan.specs.Causes.{FindsNoCode}
-use Rattle.rtk_plan.specs.Values.{codes_in_captures}
-use Rattle.rtk_plan.specs.declared.refusal.Refusal.{Refusal}
-use Rattle.rtk_plan.specs.declared.refusal.Refusal.TheVariants.{NoCode}
+use Rattle.rtk_systems.specs.Values.{codes_in_captures}
+use Rattle.rtk_captures.specs.declared.refusal.Refusal.{Refusal}
+use Rattle.rtk_captures.specs.declared.refusal.Refusal.TheVariants.{NoCode}
 use Rattle.rtk_plan.proofs.RefusedLemmas.{exit-also, no-code-of}
 use Rattle.rtk_plan.proofs.station_setup.codes_to_convert.Goals as goal
 

@@ -1,7 +1,7 @@
 use Rattle.std.proofs.Common.{◌≤◌, ℕ, ℤ, List, Option, rules, sym, ap, subst}
 use Rattle.rtk_obs.specs.Carriers.{AreChannels}
 use Rattle.rtk_rinex.specs.MixedHead.{GlonassView}
-use Rattle.rtk_plan.specs.SlotChannels.{AreChannelsChosen, AreSecondsChosen}
+use Rattle.rtk_systems.specs.SlotChannels.{AreChannelsChosen, AreSecondsChosen}
 use Rattle.rtk_plan.proofs.station_setup.glonass_of.Goals as goal
 
 pub returns-clause-found : goal.returns-clause-found
