@@ -13,9 +13,9 @@ use Rattle.rtk_plan.specs.Laws.{OnePlan, NearIsWholeSecond}
 use Rattle.rtk_systems.specs.FoundSeconds.{seconds_found_if, AreSecondsFound, AreSecondsOfSetup, asks_glonass}
 use Rattle.rtk_captures.specs.Linking.{links_found, AreLinksOf}
 use Rattle.rtk_systems.specs.ClockOffsets.{systems_with_clocks}
-use Rattle.rtk_plan.specs.Plan.{IsChosenStation, kinds_found, codes_chosen, AreSystemsTaken, AreCodesChosen, marker_chosen, converts_1012, near_chosen, near_in_reach, near_with_1012, taken_with, AreLeapSecondsOf, IsNear1012, IsSetupFor}
+use Rattle.rtk_plan.specs.Plan.{IsChosenStation, kinds_found, codes_chosen, AreSystemsTaken, AreCodesChosen, marker_chosen, converts_1012, near_chosen, near_in_reach, near_with_1012, codes_taken_from, AreLeapSecondsOf, IsNear1012, IsSetupFor}
 use Rattle.rtk_captures.specs.Dating.{captures_of, some_out_of_reach, IsBaseOf, IsReachOf, ArePlaced, IsNearOf, IsSpanOf, AreStrays}
-use Rattle.rtk_plan.specs.Near1012.{ends_after, middle_up, middle_down, middle_of, dates_ends, can_date, near_of_ends, near_between}
+use Rattle.rtk_plan.specs.Near1012.{ends_after, middle_up, middle_down, middle_second, dates_ends, can_date, near_of_ends, near_between}
 use Rattle.rtk_captures.specs.Reach.{least_told, placed_if_any, reach_after, second_of}
 use Rattle.rtk_systems.specs.SlotChannels.{IsGlonassFound}
 use Rattle.rtk_captures.specs.Sources.{dated_span_of}
@@ -130,8 +130,8 @@ setup_with station near marker listed glonass made window kinds leap_seconds tak
       takes_1012 = takes_1012;
     }
 
-abbrev taken_of : SystemKinds → Bool → TakenMessages
-taken_of kinds takes = record { kinds = kinds; obs1012 = takes }
+abbrev taken_pair : SystemKinds → Bool → TakenMessages
+taken_pair kinds takes = record { kinds = kinds; obs1012 = takes }
 
 one-setup : (ss : List CaptureSurvey) (links : List (List ℕ)) (w : Wanted) (made : ℕ) (s t : SetupView) → IsSetupFor ss links w made s → IsSetupFor ss links w made t → s ≡ t
 one-setup ss links w made s t is also =
@@ -148,13 +148,13 @@ one-setup ss links w made s t is also =
     (subst (λ (o : Option ℕ). IsNear1012 ss w.near s.station o also.first also.other) (sym leap_seconds)
     (subst (λ (n : ℕ). IsNear1012 ss w.near n t.leap_seconds also.first also.other) (sym station) also.other_is)) in
     let other : is.other ≡ also.other = one-1012 ss w.near s.station s.leap_seconds is.first is.other also.other is.other_is dated in
-    let chosen : AreCodesChosen w ss s.station s.leap_seconds is.first (taken_with found is.other) t.head.listed =
-    subst (λ (o : Option ℕ). AreCodesChosen w ss s.station s.leap_seconds is.first (taken_with found o) t.head.listed) (sym other)
-    (subst (λ (n : ℕ). AreCodesChosen w ss s.station s.leap_seconds n (taken_with found also.other) t.head.listed) (sym first)
-    (subst (λ (o : Option ℕ). AreCodesChosen w ss s.station o also.first (taken_with found also.other) t.head.listed) (sym leap_seconds)
-    (subst (λ (n : ℕ). AreCodesChosen w ss n t.leap_seconds also.first (taken_with (kinds_found w.msm ss links n) also.other) t.head.listed) (sym station) also.listed))) in
+    let chosen : AreCodesChosen w ss s.station s.leap_seconds is.first (codes_taken_from found is.other) t.head.listed =
+    subst (λ (o : Option ℕ). AreCodesChosen w ss s.station s.leap_seconds is.first (codes_taken_from found o) t.head.listed) (sym other)
+    (subst (λ (n : ℕ). AreCodesChosen w ss s.station s.leap_seconds n (codes_taken_from found also.other) t.head.listed) (sym first)
+    (subst (λ (o : Option ℕ). AreCodesChosen w ss s.station o also.first (codes_taken_from found also.other) t.head.listed) (sym leap_seconds)
+    (subst (λ (n : ℕ). AreCodesChosen w ss n t.leap_seconds also.first (codes_taken_from (kinds_found w.msm ss links n) also.other) t.head.listed) (sym station) also.listed))) in
     let listed : s.head.listed ≡ t.head.listed =
-    one-list w ss s.station s.leap_seconds is.first (taken_with found is.other) s.head.listed t.head.listed is.listed chosen in
+    one-list w ss s.station s.leap_seconds is.first (codes_taken_from found is.other) s.head.listed t.head.listed is.listed chosen in
     let kinds : s.kinds ≡ t.kinds =
     is.kinds ∙ ap (λ (n : ℕ). kinds_listed (kinds_found w.msm ss links n) s.head.listed) station
     ∙ ap (λ (cs : List AnyCode). kinds_listed (kinds_found w.msm ss links t.station) cs) listed ∙ sym also.kinds in
@@ -169,14 +169,14 @@ one-setup ss links w made s t is also =
     is.near_by ∙ ap (λ (b : Bool). near_chosen b is.first is.other) takes
     ∙ ap (λ (n : ℕ). near_chosen t.takes_1012 n is.other) first
     ∙ ap (λ (o : Option ℕ). near_chosen t.takes_1012 also.first o) other ∙ sym also.near_by in
-    let told : IsGlonassFound ss s.station (taken_of found s.takes_1012) s.head.listed w.channels s.leap_seconds s.near t.head.glonass =
-    subst (λ (b : Bool). IsGlonassFound ss s.station (taken_of found b) s.head.listed w.channels s.leap_seconds s.near t.head.glonass) (sym takes)
-    (subst (λ (n : ℕ). IsGlonassFound ss s.station (taken_of found t.takes_1012) s.head.listed w.channels s.leap_seconds n t.head.glonass) (sym near)
-    (subst (λ (o : Option ℕ). IsGlonassFound ss s.station (taken_of found t.takes_1012) s.head.listed w.channels o t.near t.head.glonass) (sym leap_seconds)
-    (subst (λ (cs : List AnyCode). IsGlonassFound ss s.station (taken_of found t.takes_1012) cs w.channels t.leap_seconds t.near t.head.glonass) (sym listed)
-    (subst (λ (n : ℕ). IsGlonassFound ss n (taken_of (kinds_found w.msm ss links n) t.takes_1012) t.head.listed w.channels t.leap_seconds t.near t.head.glonass) (sym station) also.glonass)))) in
+    let told : IsGlonassFound ss s.station (taken_pair found s.takes_1012) s.head.listed w.channels s.leap_seconds s.near t.head.glonass =
+    subst (λ (b : Bool). IsGlonassFound ss s.station (taken_pair found b) s.head.listed w.channels s.leap_seconds s.near t.head.glonass) (sym takes)
+    (subst (λ (n : ℕ). IsGlonassFound ss s.station (taken_pair found t.takes_1012) s.head.listed w.channels s.leap_seconds n t.head.glonass) (sym near)
+    (subst (λ (o : Option ℕ). IsGlonassFound ss s.station (taken_pair found t.takes_1012) s.head.listed w.channels o t.near t.head.glonass) (sym leap_seconds)
+    (subst (λ (cs : List AnyCode). IsGlonassFound ss s.station (taken_pair found t.takes_1012) cs w.channels t.leap_seconds t.near t.head.glonass) (sym listed)
+    (subst (λ (n : ℕ). IsGlonassFound ss n (taken_pair (kinds_found w.msm ss links n) t.takes_1012) t.head.listed w.channels t.leap_seconds t.near t.head.glonass) (sym station) also.glonass)))) in
     let glonass : s.head.glonass ≡ t.head.glonass =
-    one-glonass ss s.station (taken_of found s.takes_1012) s.head.listed w.channels s.leap_seconds s.near s.head.glonass t.head.glonass is.glonass told in
+    one-glonass ss s.station (taken_pair found s.takes_1012) s.head.listed w.channels s.leap_seconds s.near s.head.glonass t.head.glonass is.glonass told in
     ap (λ (n : ℕ). setup_with n s.near s.head.marker s.head.listed s.head.glonass s.head.made s.window s.kinds s.leap_seconds s.takes_1012) station
     ∙ ap (λ (n : ℕ). setup_with t.station n s.head.marker s.head.listed s.head.glonass s.head.made s.window s.kinds s.leap_seconds s.takes_1012) near
     ∙ ap (λ (name : List ℕ). setup_with t.station t.near name s.head.listed s.head.glonass s.head.made s.window s.kinds s.leap_seconds s.takes_1012) marker
@@ -227,7 +227,7 @@ left-whole false o whole = whole
 between-whole : (e : Ends) → IfSome (near_between e) (λ n. n % 1000 ≡ 0)
 between-whole e =
     left-whole (nat_lt LAST_MS e.from || nat_lt LAST_MS e.until) (near_of_ends e)
-    (kept-whole (dates_ends e (middle_of e) && can_date (middle_of e)) (middle_of e) (middle-whole e (nat_lt (e.from + 43_200_000) (middle_up e))))
+    (kept-whole (dates_ends e (middle_second e) && can_date (middle_second e)) (middle_second e) (middle-whole e (nat_lt (e.from + 43_200_000) (middle_up e))))
 
 reach-whole : (cs : List StationCapture) (ps : List (Option Placed)) (o : Option ℕ) → IfSome o (λ n. n % 1000 ≡ 0) → IfSome (near_in_reach cs ps o) (λ n. n % 1000 ≡ 0)
 reach-whole cs ps None whole = tt

@@ -4,7 +4,7 @@ use Rattle.std.proofs.lemmas.Result.{err_from_is_err_and}
 use Rattle.rtk_survey.specs.declared.survey.CaptureSurvey.{CaptureSurvey}
 use Rattle.rtk_captures.specs.CaptureCauses.{IfRefused}
 use Rattle.rtk_plan.specs.Causes.{FindsNoCode, IsSetupCause}
-use Rattle.rtk_plan.specs.Plan.{kinds_found, AreSystemsTaken, AreLeapSecondsOf, IsNear1012, taken_with}
+use Rattle.rtk_plan.specs.Plan.{kinds_found, AreSystemsTaken, AreLeapSecondsOf, IsNear1012, codes_taken_from}
 use Rattle.rtk_systems.specs.Values.{codes_in_captures}
 use Rattle.rtk_captures.specs.declared.refusal.PlanFault.{PlanFault}
 use Rattle.rtk_captures.specs.declared.refusal.PlanFault.TheVariants.{Refused, OutOfMemory}
@@ -34,7 +34,7 @@ no-code-of ss w station seconds near taken systems are refusal (is, none, empty)
 
 -- no code is found in the messages that are taken
 pub no-code-found : (ss : List CaptureSurvey) (links : List (List ℕ)) (w : Wanted) (station : ℕ) (seconds : Option ℕ) (near : ℕ) (other : Option ℕ) (taken : TakenMessages)
-    → taken ≡ taken_with (kinds_found w.msm ss links station) other → AreLeapSecondsOf ss w station near seconds → IsNear1012 ss w.near station seconds near other
+    → taken ≡ codes_taken_from (kinds_found w.msm ss links station) other → AreLeapSecondsOf ss w station near seconds → IsNear1012 ss w.near station seconds near other
     → (refusal : Refusal) → (refusal ≡ NoCode) × (w.codes ≡ None) × FindsNoCode ss taken w station seconds near → IsSetupCause ss links w station near refusal
 no-code-found ss links w station seconds near other taken same are dated refusal (is, none, found) =
     subst (λ (r : Refusal). IsSetupCause ss links w station near r) (sym is)

@@ -6,7 +6,7 @@ use Rattle.rtk_setup.specs.Setup.{SetupView}
 use Rattle.rtk_setup.specs.declared.system_kinds.SystemKinds.{SystemKinds}
 use Rattle.rtk_survey.specs.declared.survey.CaptureSurvey.{CaptureSurvey}
 use Rattle.rtk_captures.specs.Dating.{captures_of, IsInReach, IsNearOf}
-use Rattle.rtk_plan.specs.Plan.{IsChosenStation, kinds_found, AreCodesChosen, converts_1012, marker_chosen, near_chosen, taken_with, AreLeapSecondsOf, IsNear1012, IsSetupFor}
+use Rattle.rtk_plan.specs.Plan.{IsChosenStation, kinds_found, AreCodesChosen, converts_1012, marker_chosen, near_chosen, codes_taken_from, AreLeapSecondsOf, IsNear1012, IsSetupFor}
 use Rattle.rtk_systems.specs.SlotChannels.{IsGlonassFound}
 use Rattle.rtk_plan.specs.Steps.SetupParts.{HasSetupParts}
 use Rattle.rtk_systems.specs.SystemMsms.{kinds_listed}
@@ -19,7 +19,7 @@ taken_kinds kinds takes = record { kinds = kinds; obs1012 = takes }
 
 pub is-setup : (ss : List CaptureSurvey) (links : List (List ℕ)) (w : Wanted) (made station first : ℕ) (other seconds : Option ℕ) (kinds : SystemKinds) (listed : List AnyCode) (takes : Bool) (near : ℕ) (s : SetupView)
     → IsNearOf w.near (captures_of ss station) first → IsNear1012 ss w.near station seconds first other → IsChosenStation ss w.station station
-    → kinds ≡ kinds_found w.msm ss links station → AreCodesChosen w ss station seconds first (taken_with kinds other) listed
+    → kinds ≡ kinds_found w.msm ss links station → AreCodesChosen w ss station seconds first (codes_taken_from kinds other) listed
     → AreLeapSecondsOf ss w station first seconds → takes ≡ converts_1012 ss station listed other → near ≡ near_chosen takes first other
     → HasSetupParts ss w made station near (record { kinds = kinds; obs1012 = takes }) listed seconds s → IsSetupFor ss links w made s
 is-setup ss links w made station first other seconds kinds listed takes near s near_of dated chosen same codes leap converts moment is =
@@ -37,10 +37,10 @@ is-setup ss links w made station first other seconds kinds listed takes near s n
           ∙ ap (λ (n : ℕ). kinds_listed (kinds_found w.msm ss links n) listed) (sym is.station_is)
           ∙ ap (λ (cs : List AnyCode). kinds_listed (kinds_found w.msm ss links s.station) cs) (sym is.listed_are);
       listed =
-          subst (λ (n : ℕ). AreCodesChosen w ss n s.leap_seconds first (taken_with (kinds_found w.msm ss links n) other) s.head.listed) (sym is.station_is)
-          (subst (λ (o : Option ℕ). AreCodesChosen w ss station o first (taken_with found other) s.head.listed) (sym is.seconds_are)
-          (subst (λ (cs : List AnyCode). AreCodesChosen w ss station seconds first (taken_with found other) cs) (sym is.listed_are)
-          (subst (λ (ks : SystemKinds). AreCodesChosen w ss station seconds first (taken_with ks other) listed) same codes)));
+          subst (λ (n : ℕ). AreCodesChosen w ss n s.leap_seconds first (codes_taken_from (kinds_found w.msm ss links n) other) s.head.listed) (sym is.station_is)
+          (subst (λ (o : Option ℕ). AreCodesChosen w ss station o first (codes_taken_from found other) s.head.listed) (sym is.seconds_are)
+          (subst (λ (cs : List AnyCode). AreCodesChosen w ss station seconds first (codes_taken_from found other) cs) (sym is.listed_are)
+          (subst (λ (ks : SystemKinds). AreCodesChosen w ss station seconds first (codes_taken_from ks other) listed) same codes)));
       marker = is.marker_is ∙ ap (λ (n : ℕ). marker_chosen w.marker n) (sym is.station_is);
       made_at = is.made_is;
       window = is.window_is;

@@ -5,7 +5,7 @@ use Rattle.rtk_obs.specs.Dating.{IsReference}
 use Rattle.rtk_survey.specs.declared.survey.CaptureSurvey.{CaptureSurvey}
 use Rattle.rtk_captures.specs.declared.station_capture.StationCapture.{StationCapture}
 use Rattle.rtk_captures.specs.Linking.{AreLinksOf}
-use Rattle.rtk_plan.specs.Plan.{IsChosenStation, kinds_found, AreSystemsTaken, AreLeapSecondsOf, IsNear1012, taken_with}
+use Rattle.rtk_plan.specs.Plan.{IsChosenStation, kinds_found, AreSystemsTaken, AreLeapSecondsOf, IsNear1012, codes_taken_from}
 use Rattle.rtk_captures.specs.Dating.{captures_of, IsNearOf}
 use Rattle.rtk_captures.specs.Positions.{some_are_far}
 use Rattle.rtk_systems.specs.Values.{codes_in_captures}
@@ -28,7 +28,7 @@ abbrev pub HasNoCode : List CaptureSurvey → List (List ℕ) → Wanted → ℕ
 HasNoCode ss links w station near =
     (w.codes ≡ None) × ((seconds : Option ℕ) × AreLeapSecondsOf ss w station near seconds
     × ((other : Option ℕ) × IsNear1012 ss w.near station seconds near other
-    × FindsNoCode ss (taken_with (kinds_found w.msm ss links station) other) w station seconds near))
+    × FindsNoCode ss (codes_taken_from (kinds_found w.msm ss links station) other) w station seconds near))
 
 -- the same near the moment near which captures are dated
 abbrev pub HasNoCodeNear : List CaptureSurvey → List (List ℕ) → Wanted → ℕ → List StationCapture → Type 0

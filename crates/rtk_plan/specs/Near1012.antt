@@ -43,14 +43,14 @@ ends_with_time seconds at e (Some time) = ends_with_moment e (moment_of_1012 sec
 
 -- formula
 -- the first and the last epoch of a capture, as far as they can be written
-abbrev pub first_at : Placed → ℕ
-first_at p = min p.first LAST_MS
+abbrev pub first_moment_at : Placed → ℕ
+first_moment_at p = min p.first LAST_MS
 
-abbrev pub last_at : Span → Placed → ℕ
-last_at s p = first_at p + s.last - s.first
+abbrev pub last_moment_at : Span → Placed → ℕ
+last_moment_at s p = first_moment_at p + s.last - s.first
 
 abbrev pub ends_with_epochs : ℕ → Epochs → Span → Placed → Ends → Ends
-ends_with_epochs seconds epochs s p e = ends_with_time seconds (last_at s p) (ends_with_time seconds (first_at p) e epochs.first) epochs.last
+ends_with_epochs seconds epochs s p e = ends_with_time seconds (last_moment_at s p) (ends_with_time seconds (first_moment_at p) e epochs.first) epochs.last
 
 -- those of a capture: its first 1012 lies near its first epoch, and its last one near its last epoch
 abbrev pub ends_with_dated : ℕ → Epochs → Option Span → Option Placed → Ends → Ends
@@ -79,8 +79,8 @@ middle_down e = (e.from + e.until) / 2_000 * 1_000
 
 -- formula
 -- rounded up, but down if the first moment were more than half a day before it
-abbrev pub middle_of : Ends → ℕ
-middle_of e = if nat_lt (e.from + 43_200_000) (middle_up e) then middle_down e else middle_up e
+abbrev pub middle_second : Ends → ℕ
+middle_second e = if nat_lt (e.from + 43_200_000) (middle_up e) then middle_down e else middle_up e
 
 -- constant
 -- a reference for dates: 1980-01-13 00:00:00.000 to 2099-12-31 23:59:59.999
@@ -93,7 +93,7 @@ abbrev pub dates_ends : Ends → ℕ → Bool
 dates_ends e near = nat_le near (e.from + 43_200_000) && nat_lt e.until (near + 43_200_000)
 
 abbrev pub near_of_ends : Ends → Option ℕ
-near_of_ends e = if dates_ends e (middle_of e) && can_date (middle_of e) then Some (middle_of e) else None
+near_of_ends e = if dates_ends e (middle_second e) && can_date (middle_second e) then Some (middle_second e) else None
 
 -- the moment near which a time of day is dated right from the first to the last moment, if there is one, and if both can be
 -- written

@@ -97,8 +97,8 @@ abbrev pub taken_messages : SetupView → TakenMessages
 taken_messages s = record { kinds = s.kinds; obs1012 = s.takes_1012 }
 
 -- those of which codes are taken: 1012 too, if there is such a moment
-abbrev pub taken_with : SystemKinds → Option ℕ → TakenMessages
-taken_with kinds near = record { kinds = kinds; obs1012 = is_some near }
+abbrev pub codes_taken_from : SystemKinds → Option ℕ → TakenMessages
+codes_taken_from kinds near = record { kinds = kinds; obs1012 = is_some near }
 
 -- 1012 are converted: there is such a moment, a code of GLONASS is listed, and some 1012 of the station has a value
 abbrev pub converts_1012 : List CaptureSurvey → ℕ → List AnyCode → Option ℕ → Bool
@@ -125,7 +125,7 @@ pub record IsSetupFor (ss : List CaptureSurvey) (links : List (List ℕ)) (w : W
   pub other_is : IsNear1012 ss w.near s.station s.leap_seconds first other
   pub station : IsChosenStation ss w.station s.station
   pub kinds : s.kinds ≡ kinds_listed (kinds_found w.msm ss links s.station) s.head.listed
-  pub listed : AreCodesChosen w ss s.station s.leap_seconds first (taken_with (kinds_found w.msm ss links s.station) other) s.head.listed
+  pub listed : AreCodesChosen w ss s.station s.leap_seconds first (codes_taken_from (kinds_found w.msm ss links s.station) other) s.head.listed
   pub marker : s.head.marker ≡ marker_chosen w.marker s.station
   pub made_at : s.head.made ≡ made
   pub window : s.window ≡ w.window

@@ -80,18 +80,18 @@ fn ends_with_time(seconds: u8, at: u64, ends: Ends, time: Option<u32>) -> Ends
     }
 }
 
-fn first_at(placed: Placed) -> u64
-    ensures value { result ≡ spec.first_at placed }
+fn first_moment_at(placed: Placed) -> u64
+    ensures value { result ≡ spec.first_moment_at placed }
     ensures bound { result ≤ LAST_MS }
 {
     placed.first.min(LAST_MS)
 }
 
-fn last_at(span: Span, placed: Placed) -> u64
-    ensures value { result ≡ spec.last_at span placed }
+fn last_moment_at(span: Span, placed: Placed) -> u64
+    ensures value { result ≡ spec.last_moment_at span placed }
     ensures bound { result < 2 ^ 61 }
 {
-    (first_at(placed) + span.last.ms()).saturating_sub(span.first.ms())
+    (first_moment_at(placed) + span.last.ms()).saturating_sub(span.first.ms())
 }
 
 fn ends_with_epochs(
@@ -103,8 +103,8 @@ fn ends_with_epochs(
 ) -> Ends
     ensures { result ≡ spec.ends_with_epochs seconds epochs span placed ends }
 {
-    let with_first = ends_with_time(seconds, first_at(placed), ends, epochs.first);
-    ends_with_time(seconds, last_at(span, placed), with_first, epochs.last)
+    let with_first = ends_with_time(seconds, first_moment_at(placed), ends, epochs.first);
+    ends_with_time(seconds, last_moment_at(span, placed), with_first, epochs.last)
 }
 
 // Those of the 1012 of a capture too, if its epochs are dated.
@@ -176,9 +176,9 @@ fn middle_down(ends: Ends) -> u64
     (ends.from + ends.until) / 2_000 * 1_000
 }
 
-fn middle_of(ends: Ends) -> u64
+fn middle_second(ends: Ends) -> u64
     requires { (ends.from ≤ LAST_MS) × (ends.until ≤ LAST_MS) }
-    ensures value { result ≡ spec.middle_of ends }
+    ensures value { result ≡ spec.middle_second ends }
     ensures bound { result < 2 ^ 61 }
 {
     if ends.from + HALF_DAY_MS < middle_up(ends) {
@@ -217,7 +217,7 @@ fn near_of_ends(ends: Ends) -> Option<Reference>
     requires { (ends.from ≤ LAST_MS) × (ends.until ≤ LAST_MS) }
     ensures { result ≡ spec.near_of_ends ends }
 {
-    let middle = middle_of(ends);
+    let middle = middle_second(ends);
     if dates_ends(ends, middle) {
         reference_at(middle)
     } else {

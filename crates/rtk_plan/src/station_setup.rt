@@ -7,7 +7,7 @@ ghost use Rattle.rtk_rinex.specs.MixedHead.{IsGlonassView, IsMixedList, TellsGlo
 ghost use Rattle.rtk_captures.specs.CaptureCauses.{IfRefused};
 ghost use Rattle.rtk_plan.specs.Causes.{FindsNoCode, IsSetupCause};
 ghost use Rattle.rtk_survey.specs.Surveys.{places_of};
-ghost use Rattle.rtk_plan.specs.Plan.{IsChosenStation, kinds_found, AreSystemsTaken, AreCodesChosen, AreLeapSecondsOf, systems_asked, marker_chosen, converts_1012, near_chosen, taken_messages, taken_with, IsNear1012, IsSetupFor};
+ghost use Rattle.rtk_plan.specs.Plan.{IsChosenStation, kinds_found, AreSystemsTaken, AreCodesChosen, AreLeapSecondsOf, systems_asked, marker_chosen, converts_1012, near_chosen, taken_messages, codes_taken_from, IsNear1012, IsSetupFor};
 ghost use Rattle.rtk_captures.specs.Dating.{captures_of, IsInReach, IsNearOf};
 ghost use Rattle.rtk_systems.specs.SlotChannels.{AreChannelsChosen, AreOwnChannels, AreSecondsChosen, IsGlonassOf, IsGlonassFound};
 ghost use Rattle.rtk_systems.specs.SystemMsms as msms;
@@ -17,15 +17,15 @@ ghost use Rattle.rtk_systems.specs.Values.{codes_in_captures};
 
 use crate::setup_seconds::{has_glonass, seconds_chosen};
 use crate::wanted::Wanted;
-use rtk_captures::{DatedSpan, PlanFault, Refusal, refused};
+use rtk_captures::{PlanFault, Refusal, refused};
 use rtk_message::{MsmKind, System};
 use rtk_obs::{AnyCode, Channels, GpsMs};
 use rtk_rinex::{CreationTime, Glonass, Marker, MixedHead};
 use rtk_setup::{LeapSeconds, Reference, Setup, Station, SystemKinds, Window};
 use rtk_survey::CaptureSurvey;
 use rtk_systems::{
-    SystemFlags, channels_found, codes_in_captures, kinds_in_links, kinds_listed, list_held,
-    own_channels, systems_with_clocks,
+    SystemFlags, TakenMessages, channels_found, codes_in_captures, is_1012_given, kinds_in_links,
+    kinds_listed, list_held, own_channels, systems_with_clocks,
 };
 use std::alloc::{AllocError, Global};
 

@@ -1,7 +1,7 @@
 use Rattle.std.proofs.Common.{◌≡◌, None, sym, ap, subst}
 use Rattle.rtk_plan.specs.Causes.{FindsNoCode, IsSetupCause}
 use Rattle.rtk_survey.specs.Surveys.{places_of}
-use Rattle.rtk_plan.specs.Plan.{taken_with}
+use Rattle.rtk_plan.specs.Plan.{codes_taken_from}
 use Rattle.rtk_captures.specs.declared.refusal.Refusal.{Refusal}
 use Rattle.rtk_captures.specs.declared.refusal.Refusal.TheVariants.{NoCode}
 use Rattle.rtk_systems.specs.declared.values.TakenMessages.{TakenMessages}
