@@ -144,6 +144,16 @@ def right_leap_seconds(captures: list[Sent], first: int, last: int, date: Date) 
     return leap if 0 <= leap <= MOST_LEAP_SECONDS and not others else None
 
 
+# pins: seconds_found_if, seconds_found
+def leap_of(captures: list[Sent], span: tuple[int, int], near: int, wanted: Wanted) -> int | None:
+    """The leap seconds that are given, or those by which GLONASS is right; nothing if the table has them."""
+    if wanted.leap is not None or not stages.SETS_LEAP_SECONDS:
+        return wanted.leap
+    date = Date(near, None, stages.OWN_LEAP_SECONDS)
+    is_off = is_wrong(total_offsets(captures, date)[GLONASS.letter])
+    return right_leap_seconds(captures, *span, date) if is_off else None
+
+
 # ---------------------------------------------------------------- all of it
 
 
@@ -166,12 +176,8 @@ def choose(captures: list[Sent], links: list[list[int]], span: tuple[int, int], 
     the last epoch are these."""
     messages = [it for capture in captures for it in capture.messages]
     of_links = [[it for at in link for it in captures[at].messages] for link in links]
-    date = Date(near, wanted.leap, stages.OWN_LEAP_SECONDS)
-    offsets = total_offsets(captures, date)
-    leap = wanted.leap
-    if stages.SETS_LEAP_SECONDS and leap is None and is_wrong(offsets[GLONASS.letter]):
-        leap = right_leap_seconds(captures, *span, date)
-        offsets = total_offsets(captures, date._replace(leap=leap))
+    leap = leap_of(captures, span, near, wanted)
+    offsets = total_offsets(captures, Date(near, leap, stages.OWN_LEAP_SECONDS))
     compared = [it for it in wanted.letters if it != GPS.letter]
     wrong = "".join(it for it in compared if wanted.names is None and is_wrong(offsets[it]))
     letters = [it for it in wanted.letters if it not in wrong]

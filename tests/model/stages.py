@@ -27,7 +27,7 @@ CONVERTS_SBAS = True
 FINDS_1012 = True
 FINDS_SBAS = False
 # `auto` converts 1012 where the epochs allow a reference.
-TAKES_1012 = False
+TAKES_1012 = True
 # 1004 that are not converted have a line.
 TELLS_1004 = True
 # The words of `auto` beside those that it has for GPS.
