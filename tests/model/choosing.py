@@ -121,7 +121,7 @@ def names_shown(messages: Iterable[Message], numbers: set[int]) -> list[str]:
 # ---------------------------------------------------------------- clocks
 
 
-# pins: compared_systems, kinds_in_order, times_chains, timing_before
+# pins: compared_systems, kinds_in_order, times_chains, timing_before, is_glonass_system
 def total_offsets(captures: list[Sent], date: Date) -> Offsets:
     """How often each clock is ahead by each offset, in all captures."""
     totals: Offsets = {letter: Counter() for letter in LETTERS}
@@ -144,7 +144,6 @@ def right_leap_seconds(captures: list[Sent], first: int, last: int, date: Date) 
     return leap if 0 <= leap <= MOST_LEAP_SECONDS and not others else None
 
 
-# pins: seconds_found_if, seconds_found
 def leap_of(captures: list[Sent], span: tuple[int, int], near: int, wanted: Wanted) -> int | None:
     """The leap seconds that are given, or those by which GLONASS is right; nothing if the table has them."""
     if wanted.leap is not None or not stages.SETS_LEAP_SECONDS:

@@ -419,7 +419,7 @@ def near_with_1012(captures: list[Capture], station: int, epochs: list[list[int]
     return middle if middle is not None and FIRST_NEAR <= middle <= LAST_NEAR else None
 
 
-# pins: day_time, day_time_from, moment_in_day, first_moment_at, middle_up, middle_down, middle_second, can_date, dates_ends
+# pins: day_time, day_time_from, moment_in_day, first_moment_at, middle_up, middle_second, can_date, dates_ends
 def moments_of_1012(capture: Capture, station: int, epochs: list[int], seconds: int) -> list[int]:
     """The moments of the station's first and last 1012 with a value: within half a day of the first and of the last epoch."""
     clocks = [it.header["tow"] for it in capture.of_station(station) if has_value_of_1012(it)]
