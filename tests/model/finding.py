@@ -24,6 +24,7 @@ from equipment import equipment_of
 from messages import Refusal, frames_of
 from model import civil, moment
 from msm import letter_of, read_frame
+from systems import GLONASS
 from valued import cells_in, has_value, name_of_code, names_in
 from wire import WEEK_MS, BitReader, Fields, Message, table
 
@@ -277,7 +278,7 @@ class Found(NamedTuple):
     skipped: list[int]  # captures without a message of it
     few: list[str]  # codes with few phases
     stray: tuple[int, list[int]] | None  # an epoch more than a day after all others, and the captures that have it
-    dates_1012: bool  # 1012 are dated right near some moment
+    is_long: bool  # GLONASS is asked for, and 1012 with a value are not dated right near any moment
 
 
 def station_of(captures: list[Capture], named: int | None) -> int:
@@ -406,7 +407,7 @@ def find(texts: list[bytes], now: int, wanted: Wanted = Wanted()) -> Found:
     return Found(
         number, chosen, near, None if by is None else by.fields, [[places[at] for at in link] for link in links], epochs,
         [places[at] for at, of in enumerate(epochs) if not of], skipped, few_phases(messages, chosen), stray_of(epochs, places),
-        middle is not None,
+        middle is None and GLONASS.letter in wanted.letters and any(has_value_of_1012(it) for it in messages),
     )
 
 

@@ -33,6 +33,7 @@ use Rattle.rtk_captures.specs.StationCaptures.{dates_in, told_in, passed_over_in
 use Rattle.rtk_plan.specs.TextsLeftOut.{texts_left_out}
 use Rattle.rtk_systems.specs.ToldChannels.{told_channel_lines}
 use Rattle.rtk_systems.specs.UncheckedSystems.{unchecked_system_lines}
+use Rattle.rtk_systems.specs.Values.{is_1012_given}
 use Rattle.rtk_plan.specs.WrittenFile.{written_span, gap_lines}
 use Rattle.rtk_plan.specs.declared.known_lines.Known.{Known}
 use Rattle.rtk_plan.specs.declared.planning.Plan.{Plan}
@@ -182,20 +183,19 @@ not_taken_by taken has_1004 has_sbas is_long ss station =
     obs_1004_line has_1004 ss station ++ msm_lines taken ss station ++ doppler_line taken ss station ++ sbas_line has_sbas ss station
     ++ all_unread is_long taken ss
 
--- 1012 are left out of a conversion of GLONASS, since there is no moment near which they are dated right
-abbrev pub leaves_long : Bool → SetupView → Bool
-leaves_long has_near_1012 s = lists_system s.head.listed Glonass && not has_near_1012
+-- GLONASS is asked for and a 1012 of the station has a value, but there is no moment near which 1012 are dated right
+abbrev pub leaves_long : List CaptureSurvey → Plan → Bool
+leaves_long ss plan = plan.asked.glonass && (not plan.has_near_1012 && is_1012_given ss plan.setup.station)
 
--- those that a conversion does not take
+-- those that a conversion does not take; 1012 may be left out since they can't be dated
 abbrev pub not_taken : List CaptureSurvey → Bool → SetupView → List ℕ
-not_taken ss has_near_1012 s =
-    not_taken_by (taken_by s) (takes_1004 s) (lists_system s.head.listed Sbas) (leaves_long has_near_1012 s) ss s.station
+not_taken ss is_long s = not_taken_by (taken_by s) (takes_1004 s) (lists_system s.head.listed Sbas) is_long ss s.station
 
 unfoldable pub lines_behind_late : List (Bor (List ℕ)) → List CaptureSurvey → Plan → List ℕ
 lines_behind_late names ss plan =
     skipped_lines names plan.captures.items plan.skipped.items
     ++ epochs_lines names plan.captures.items (places_of plan.links.items)
-    ++ not_taken ss plan.has_near_1012 plan.setup
+    ++ not_taken ss (leaves_long ss plan) plan.setup
 
 -- ---- the links with a stray epoch
 

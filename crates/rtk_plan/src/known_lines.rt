@@ -17,11 +17,11 @@ use crate::station_setup::taken_by_setup;
 use crate::texts_left_out::put_texts_left_out;
 use crate::written_file::{Step, WrittenFile};
 use rtk_captures::{Captures, DateSource, DatedSpan, put_no_position, put_span};
-use rtk_message::{Accepted, System, put_named};
+use rtk_message::{Accepted, put_named};
 use rtk_setup::{Counts, Setup};
 use rtk_survey::{CaptureSurvey, Equipment};
 use rtk_systems::{
-    put_channel_lines, put_doppler, put_msms, put_obs_1004, put_sbas, put_told_clocks,
+    is_1012_given, put_channel_lines, put_doppler, put_msms, put_obs_1004, put_sbas, put_told_clocks,
     put_unchecked, put_unread,
 };
 use std::alloc::{AllocError, Global};
@@ -210,26 +210,26 @@ fn put_not_taken(
     Ok(())
 }
 
-// Are 1012 left out of a conversion of GLONASS, since there is no moment near which they are dated right?
-fn leaves_long(has_near_1012: bool, setup: &Setup) -> bool
-    ensures { result ≡ spec.leaves_long has_near_1012 setup.now }
+// Are 1012 of the station left out, since there is no moment near which they are dated right?
+fn leaves_long(surveys: &[CaptureSurvey], plan: &Plan) -> bool
+    ensures { result ≡ spec.leaves_long surveys.now plan.now }
 {
-    setup.lists(System::Glonass) && !has_near_1012
+    plan.asked.glonass
+        && (!plan.has_near_1012 && is_1012_given(surveys, plan.setup.station()))
 }
 
-// Appends the observations that a conversion does not take.
+// Appends the observations that a conversion does not take; 1012 may be left out since they can't be dated.
 fn put_not_taken_in(
     lines: &mut Vec<u8>,
     surveys: &[CaptureSurvey],
-    has_near_1012: bool,
+    is_long: bool,
     setup: &Setup,
 ) -> Result<(), AllocError>
-    ensures { OnOk result (lines.new.items ≡ lines.old.items ++ spec.not_taken surveys.now has_near_1012 setup.now) }
+    ensures { OnOk result (lines.new.items ≡ lines.old.items ++ spec.not_taken surveys.now is_long setup.now) }
 {
     let taken = setup.accepted();
     let has_1004 = setup.takes_1004();
     let has_sbas = setup.takes_sbas();
-    let is_long = leaves_long(has_near_1012, setup);
     put_not_taken(
         lines,
         surveys,
@@ -269,7 +269,8 @@ fn put_last_lines(
         ++ spec.lines_behind_late captures.now.names.now captures.now.surveys.now plan.now) }
 {
     put_captures_in(lines, captures, plan)?;
-    put_not_taken_in(lines, captures.surveys, plan.has_near_1012, &plan.setup)?;
+    let is_long = leaves_long(captures.surveys, plan);
+    put_not_taken_in(lines, captures.surveys, is_long, &plan.setup)?;
     Ok(())
 }
 
