@@ -24,7 +24,7 @@ use rtk_rinex::{CreationTime, Glonass, Marker, MixedHead};
 use rtk_setup::{LeapSeconds, Reference, Setup, Station, SystemKinds, Window};
 use rtk_survey::CaptureSurvey;
 use rtk_systems::{
-    SystemFlags, TakenMessages, channels_found, codes_in_captures, is_1012_given, kinds_in_links,
+    SystemFlags, TakenMessages, channels_found, channels_joined, codes_in_captures, is_1012_given, kinds_in_links,
     kinds_listed, list_held, own_channels, systems_with_clocks,
 };
 use std::alloc::{AllocError, Global};
@@ -134,7 +134,7 @@ fn marker_of(station: u16, marker: &Option<Marker>) -> Marker
     marker
 }
 
-// The channels that are given, else those that messages tell.
+// The channels that are given, and of each other slot the one that messages tell.
 fn channels_chosen(
     given: &Option<Channels>,
     surveys: &[CaptureSurvey],
@@ -143,9 +143,10 @@ fn channels_chosen(
 ) -> Channels
     ensures { AreChannelsChosen given.now surveys.now station taken result }
 {
+    let found = channels_found(surveys, station, taken);
     match given {
-        Some(given) => *given,
-        None => channels_found(surveys, station, taken),
+        Some(given) => channels_joined(given, &found),
+        None => found,
     }
 }
 

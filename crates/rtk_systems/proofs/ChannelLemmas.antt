@@ -8,7 +8,7 @@ use Rattle.rtk_obs.specs.declared.any_code.AnyCode.{AnyCode}
 use Rattle.rtk_rinex.specs.MixedHead.{GlonassView, has_glonass}
 use Rattle.rtk_survey.specs.declared.survey.CaptureSurvey.{CaptureSurvey}
 use Rattle.rtk_systems.specs.AlikeChannels.{is_alike}
-use Rattle.rtk_systems.specs.SlotChannels.{count_told, IsMostTold, IsToldField, IsToldChannel, channel_if, is_slot_given, AreOwnChannels, chosen_channel, IsChannelFound, AreChannelsFound, AreChannelsChosen, AreSecondsChosen, IsGlonassOf, IsGlonassFound}
+use Rattle.rtk_systems.specs.SlotChannels.{count_told, IsMostTold, IsToldField, IsToldChannel, channel_if, is_slot_given, AreOwnChannels, channel_or, chosen_channel, IsChannelFound, AreChannelsFound, AreChannelsChosen, AreSecondsChosen, IsGlonassOf, IsGlonassFound}
 use Rattle.rtk_systems.specs.Steps.ToldFields.{most_told_with}
 use Rattle.rtk_systems.specs.declared.slot_channels.MostTold.{MostTold}
 use Rattle.rtk_systems.specs.declared.values.TakenMessages.{TakenMessages}
@@ -145,7 +145,10 @@ one-row Begun m n is also = elim (cases_order m n) [
 
 one-chosen : (given : Option (List (Option ℤ))) (ss : List CaptureSurvey) (n : ℕ) (taken : TakenMessages) (a b : List (Option ℤ)) → AreChannelsChosen given ss n taken a → AreChannelsChosen given ss n taken b → a ≡ b
 one-chosen None ss n taken a b is also = one-channels ss n taken a b is also
-one-chosen (Some given) ss n taken a b is also = is ∙ sym also
+one-chosen (Some given) ss n taken a b is also =
+    let found : is.0 ≡ also.0 = one-channels ss n taken is.0 also.0 is.1 also.1 in
+    same-channels a b is.2.good also.2.good (λ slot s.
+    is.2.each slot s ∙ ap (λ (cs : List (Option ℤ)). channel_or (channel_at given slot) (channel_at cs slot)) found ∙ sym (also.2.each slot s))
 
 pub one-seconds : (given : Option ℕ) (near m n : ℕ) → AreSecondsChosen given near m → AreSecondsChosen given near n → m ≡ n
 one-seconds None near m n is also = one-row _ m n is also

@@ -129,10 +129,22 @@ pub record AreChannelsFound (ss : List CaptureSurvey) (n : ℕ) (taken : TakenMe
 
 -- ---- what is told of GLONASS
 
--- the channels that are given, else those that are found
+-- the channel of a slot that is given, else the one that is found
+abbrev pub IsJoinedChannel : List (Option ℤ) → List (Option ℤ) → ℕ → Option ℤ → Type 0
+IsJoinedChannel given found slot channel = channel ≡ channel_or (channel_at given slot) (channel_at found slot)
+
+abbrev pub HasJoinedChannels : List (Option ℤ) → List (Option ℤ) → List (Option ℤ) → Type 0
+HasJoinedChannels given found channels = (slot : ℕ) → IsSlot slot → IsJoinedChannel given found slot (channel_at channels slot)
+
+pub record AreJoinedChannels (given found channels : List (Option ℤ)) : Type 0 where
+  pub good : AreChannels channels
+  pub each : HasJoinedChannels given found channels
+
+-- the channels that are given, and of each other slot the one that is found
 abbrev pub AreChannelsChosen : Option (List (Option ℤ)) → List CaptureSurvey → ℕ → TakenMessages → List (Option ℤ) → Type 0
 AreChannelsChosen None ss n taken channels = AreChannelsFound ss n taken channels
-AreChannelsChosen (Some given) ss n taken channels = channels ≡ given
+AreChannelsChosen (Some given) ss n taken channels =
+    (found : List (Option ℤ)) × AreChannelsFound ss n taken found × AreJoinedChannels given found channels
 
 -- the leap seconds that are given, else those of the table at the moment near which captures are dated
 abbrev pub AreSecondsChosen : Option ℕ → ℕ → ℕ → Type 0

@@ -281,3 +281,29 @@ pub fn channels_found(surveys: &[CaptureSurvey], station: u16, taken: TakenMessa
     let own = own_channels(surveys, station, taken);
     channels_by(surveys, station, taken, &own)
 }
+
+// The channel of a slot that is given, else the one that is found.
+fn joined_channel(given: &Channels, found: &Channels, slot: u8) -> Option<Channel>
+    requires { IsSlot slot }
+    ensures { spec.IsJoinedChannel given.now found.now slot result }
+{
+    given.channel(slot).or(found.channel(slot))
+}
+
+fn channels_of_both(given: &Channels, found: &Channels) -> Channels
+    ensures { spec.HasJoinedChannels given.now found.now result }
+{
+    let mut channels = Channels::new();
+    for slot in 1u8..SLOTS_END {
+        let channel = joined_channel(given, found, slot);
+        set_if(&mut channels, slot, channel);
+    }
+    channels
+}
+
+/// The channels that are given, and of each other slot the one that is found.
+pub fn channels_joined(given: &Channels, found: &Channels) -> Channels
+    ensures { spec.AreJoinedChannels given.now found.now result }
+{
+    channels_of_both(given, found)
+}
