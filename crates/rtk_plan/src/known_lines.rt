@@ -21,8 +21,8 @@ use rtk_message::{Accepted, put_named};
 use rtk_setup::{Counts, Setup};
 use rtk_survey::{CaptureSurvey, Equipment};
 use rtk_systems::{
-    is_1012_given, put_channel_lines, put_doppler, put_msms, put_obs_1004, put_sbas, put_told_clocks,
-    put_unchecked, put_unread,
+    is_1012_given, put_channel_lines, put_doppler, put_msms, put_obs_1004, put_sbas,
+    put_told_clocks, put_unchecked, put_unread,
 };
 use std::alloc::{AllocError, Global};
 
@@ -214,8 +214,7 @@ fn put_not_taken(
 fn leaves_long(surveys: &[CaptureSurvey], plan: &Plan) -> bool
     ensures { result ≡ spec.leaves_long surveys.now plan.now }
 {
-    plan.asked.glonass
-        && (!plan.has_near_1012 && is_1012_given(surveys, plan.setup.station()))
+    plan.asked.glonass && (!plan.has_near_1012 && is_1012_given(surveys, plan.setup.station()))
 }
 
 // Appends the observations that a conversion does not take; 1012 may be left out since they can't be dated.

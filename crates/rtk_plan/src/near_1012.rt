@@ -7,9 +7,7 @@ ghost use Rattle.rtk_captures.specs.Dating.{ArePlaced, IsInReach, IsSpanOf, capt
 ghost use Rattle.rtk_plan.specs.Plan.{IsNear1012, near_in_reach, near_with_1012};
 
 use crate::setup_seconds::seconds_chosen;
-use rtk_captures::{
-    DatedSpan, Dating, StationCapture, StationCaptures, are_out_of_reach, span_in,
-};
+use rtk_captures::{DatedSpan, Dating, StationCapture, StationCaptures, are_out_of_reach, span_in};
 use rtk_obs::{GpsMs, LAST_MS};
 use rtk_setup::{LeapSeconds, Reference};
 use rtk_survey::{CaptureSurvey, Epochs, Placed, Span};
@@ -94,17 +92,16 @@ fn last_moment_at(span: Span, placed: Placed) -> u64
     (first_moment_at(placed) + span.last.ms()).saturating_sub(span.first.ms())
 }
 
-fn ends_with_epochs(
-    seconds: u8,
-    epochs: Epochs,
-    span: Span,
-    placed: Placed,
-    ends: Ends,
-) -> Ends
+fn ends_with_epochs(seconds: u8, epochs: Epochs, span: Span, placed: Placed, ends: Ends) -> Ends
     ensures { result ≡ spec.ends_with_epochs seconds epochs span placed ends }
 {
     let with_first = ends_with_time(seconds, first_moment_at(placed), ends, epochs.first);
-    ends_with_time(seconds, last_moment_at(span, placed), with_first, epochs.last)
+    ends_with_time(
+        seconds,
+        last_moment_at(span, placed),
+        with_first,
+        epochs.last,
+    )
 }
 
 // Those of the 1012 of a capture too, if its epochs are dated.

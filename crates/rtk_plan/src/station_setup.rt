@@ -24,8 +24,8 @@ use rtk_rinex::{CreationTime, Glonass, Marker, MixedHead};
 use rtk_setup::{LeapSeconds, Reference, Setup, Station, SystemKinds, Window};
 use rtk_survey::CaptureSurvey;
 use rtk_systems::{
-    SystemFlags, TakenMessages, channels_found, channels_joined, codes_in_captures, is_1012_given, kinds_in_links,
-    kinds_listed, list_held, own_channels, systems_with_clocks,
+    SystemFlags, TakenMessages, channels_found, channels_joined, codes_in_captures, is_1012_given,
+    kinds_in_links, kinds_listed, list_held, own_channels, systems_with_clocks,
 };
 use std::alloc::{AllocError, Global};
 
@@ -280,11 +280,7 @@ fn with_1012_if(setup: Setup, is_taken: bool) -> Setup
     requires { setup.takes_1012 ≡ false }
     ensures { result ≡ record setup { takes_1012 = is_taken } }
 {
-    if is_taken {
-        setup.with_1012()
-    } else {
-        setup
-    }
+    if is_taken { setup.with_1012() } else { setup }
 }
 
 // The setup of these parts, in which systems without a listed code have the MSM of the first one that has.

@@ -147,7 +147,12 @@ fn lacks_channel(
     slot < 28 && is_slot_given(surveys, station, taken, slot) && !slot_has_channel(channels, slot)
 }
 
-fn have_none(surveys: &[CaptureSurvey], station: u16, taken: TakenMessages, channels: &Channels) -> bool
+fn have_none(
+    surveys: &[CaptureSurvey],
+    station: u16,
+    taken: TakenMessages,
+    channels: &Channels,
+) -> bool
     ensures { result ≡ spec.have_none surveys.now station taken channels.now }
 {
     SLOTS.iter().any(|slot| lacks_channel(surveys, station, taken, channels, *slot))

@@ -263,7 +263,12 @@ fn channel_found(
 }
 
 // The channels of the slots of which the station has a value, by what its messages tell.
-fn channels_by(surveys: &[CaptureSurvey], station: u16, taken: TakenMessages, own: &Channels) -> Channels
+fn channels_by(
+    surveys: &[CaptureSurvey],
+    station: u16,
+    taken: TakenMessages,
+    own: &Channels,
+) -> Channels
     ensures { spec.HasChannelsFound surveys.now station taken own.now result }
 {
     let mut channels = Channels::new();

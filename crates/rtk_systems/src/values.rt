@@ -239,12 +239,7 @@ fn has_code_beside(
 }
 
 // Has a code of a system a value in a message of a station that a conversion takes?
-fn has_code_by(
-    system: System,
-    taken: TakenMessages,
-    code: AnyCode,
-    station: &StationSurvey,
-) -> bool
+fn has_code_by(system: System, taken: TakenMessages, code: AnyCode, station: &StationSurvey) -> bool
     ensures { result ≡ spec.has_code_by system taken code station.now }
 {
     if is_gps_system(system) {
