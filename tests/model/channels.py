@@ -20,9 +20,10 @@ Told = dict[int, "Counter[int]"]  # by slots, how often each channel is told
 
 
 def told_of_rows(message: Message) -> list[tuple[int, int]]:
-    """The slots of 1 to 27 of a message of GLONASS, each with the channel that its entry tells, as often as one does."""
+    """The slots of 1 to 27 of a message of GLONASS, each with the channel that its entry tells, if it tells one. Of entries of a 1012
+    with one slot the first one counts, which alone gives cells."""
     if message.header["number"] == LEGACY_GLONASS:
-        told = [(row["slot"], row["channel"]) for row in message.satellites]
+        told = [*{row["slot"]: row["channel"] for row in message.satellites[::-1]}.items()]
     else:
         rows = paired(set_bits(message.header["satellite_mask"], 64), message.satellites)
         told = [(slot, row.get("extended", TELLS_NONE)) for slot, row in rows]
