@@ -44,10 +44,10 @@ no-code-found ss links w station seconds near other taken same are dated refusal
 
 chosen-by : (ss : List CaptureSurvey) (w : Wanted) (skip_empty as_given : Bool) (station : ℕ) → IsChosenStation ss w.station station
     → (refusal : Refusal) → IsCaptureCause ss w skip_empty as_given station (captures_of ss station) refusal → IsCauseOf ss w skip_empty as_given refusal
-chosen-by ss w skip_empty as_given station chosen NoFrame cause = absurd cause.2.1
+chosen-by ss w skip_empty as_given station chosen NoFrame cause = absurd cause.2
 chosen-by ss w skip_empty as_given station chosen NoObservation cause = inr (station, chosen, cause)
-chosen-by ss w skip_empty as_given station chosen (NoStation n) cause = absurd cause.2.1
-chosen-by ss w skip_empty as_given station chosen SeveralStations cause = absurd cause.2.1
+chosen-by ss w skip_empty as_given station chosen (NoStation n) cause = absurd cause.2
+chosen-by ss w skip_empty as_given station chosen SeveralStations cause = absurd cause.2
 chosen-by ss w skip_empty as_given station chosen other cause = (station, chosen, cause)
 
 -- what keeps captures of the station that is converted from having a plan
