@@ -6,14 +6,11 @@ same bytes: each write sets the time of change to that of the clock, and no prog
 
 from __future__ import annotations
 
-import gzip
-import hashlib
 import os
 import stat
 import zlib
-from dataclasses import dataclass
 from pathlib import Path
-from typing import BinaryIO, Iterator, List, Optional, cast
+from typing import BinaryIO, Iterable, Iterator, List, NamedTuple, Optional, cast
 
 from .ends import Refused
 from .names import LINKS, capture_name
@@ -23,8 +20,7 @@ PIECE = 1 << 20  # bytes
 TICK = 5  # seconds; no later write shares the tick of a time that is older
 
 
-@dataclass(frozen=True)
-class Capture:
+class Capture(NamedTuple):
     """A capture that is there: the name that lists have, its file, and its link and hour."""
 
     name: str
@@ -38,8 +34,7 @@ class Capture:
         return self.name + (".gz" if self.path.suffix == ".gz" else "")
 
 
-@dataclass(frozen=True)
-class Sum:
+class Sum(NamedTuple):
     """The size of a file in bytes, and the SHA-256 of its bytes; of a gzipped capture both as it came."""
 
     size: int
@@ -76,37 +71,56 @@ def find_captures(directory: Path, span: Span) -> List[Capture]:
     return found
 
 
+def opened(path: Path) -> BinaryIO:
+    """Opens a file, of which a gzipped one is read as it was before."""
+    if path.suffix != ".gz":
+        return open(path, "rb")
+    import gzip  # here, because most runs do without it, and it would take a part of their time
+
+    return cast(BinaryIO, gzip.open(path))
+
+
 def pieces_of(path: Path) -> Iterator[bytes]:
     """The bytes of a file, of a gzipped one as they were before. Raises `Unread`."""
     try:
-        with cast(BinaryIO, gzip.open(path)) if path.suffix == ".gz" else open(path, "rb") as file:
+        with opened(path) as file:
             while piece := file.read(PIECE):
                 yield piece
     except (OSError, EOFError, zlib.error) as fault:
         raise Unread(f"can't read {path}: {getattr(fault, 'strerror', None) or fault}") from None
 
 
-def sum_of(path: Path) -> Sum:
-    """Size and sum of a file. Raises `Unread`."""
-    size, digest = 0, hashlib.sha256()
+def first_bytes(path: Path, size: int) -> Iterator[bytes]:
+    """The first bytes of a file, as many as it has of so many. Raises `Unread`."""
     for piece in pieces_of(path):
+        yield piece[:size]
+        size -= min(size, len(piece))
+        if not size:
+            break
+
+
+def sum_of_pieces(pieces: Iterable[bytes]) -> Sum:
+    """Size and sum of what comes in pieces."""
+    import hashlib  # here, because most runs do without it, and it would take a part of their time
+
+    size, digest = 0, hashlib.sha256()
+    for piece in pieces:
         size += len(piece)
         digest.update(piece)
     return Sum(size, digest.hexdigest())
 
 
+def sum_of(path: Path) -> Sum:
+    """Size and sum of a file. Raises `Unread`."""
+    return sum_of_pieces(pieces_of(path))
+
+
 def has_grown(path: Path, before: Sum) -> bool:
     """Whether a capture begins with all the bytes that it had before."""
-    left, digest = before.size, hashlib.sha256()
     try:
-        for piece in pieces_of(path):
-            digest.update(piece[:left])
-            left -= min(left, len(piece))
-            if not left:
-                break
+        return sum_of_pieces(first_bytes(path, before.size)) == before
     except Unread:
         return False
-    return not left and digest.hexdigest() == before.digest
 
 
 def look_at(path: Path) -> Optional[str]:

@@ -9,7 +9,7 @@ import sys
 import time
 from dataclasses import dataclass, field
 from pathlib import Path
-from typing import Dict, List, Optional, Sequence, Set, Tuple
+from typing import Dict, List, NamedTuple, Optional, Sequence, Set, Tuple
 
 from .captures import Sum, Unread, sum_of
 from .ends import DONE, REFUSED, Refused, Usage, say
@@ -26,8 +26,7 @@ SCRIPT = "delete-captures"
 LOOKED_AT = ("late", "conflict")  # counts of a report for which somebody may want the captures
 
 
-@dataclass(frozen=True)
-class Options:
+class Options(NamedTuple):
     """The words of the command: before which time a span is old, what is to be done, and which lengths count."""
 
     before: float

@@ -5,9 +5,8 @@ from __future__ import annotations
 
 import math
 import re
-from dataclasses import dataclass
 from pathlib import Path
-from typing import Dict, FrozenSet, Iterator, List, Optional, Set, Tuple
+from typing import Dict, FrozenSet, Iterator, List, NamedTuple, Optional, Set, Tuple
 
 from .captures import Sum
 from .comparison import Unlike, differences, lost_first_slips
@@ -21,13 +20,12 @@ from .systems import kinds_of, system_of, systems_of
 
 MOST_METRES = 1.0  # of a position that comes from the same antenna
 MOST_CONFLICTS = 0.01  # of the messages that were taken
-CONFLICT = re.compile(r"(?m)^link \d+ conflict \d+ (?:-|\S+ \S+)", re.ASCII)
-OF_OTHERS = re.compile(r"lost code \S+|(lost|changed) (position|channel \d+)|changed leap-seconds", re.ASCII)  # lines of `compare`
-OF_WHOLE_FILE = re.compile(r"lost slip .*", re.ASCII)  # also a line of `compare`
+CONFLICT = r"(?m)^link [0-9]+ conflict [0-9]+ (?:-|\S+ \S+)"
+OF_OTHERS = r"lost code \S+|(lost|changed) (position|channel [0-9]+)|changed leap-seconds"  # lines of `compare`
+OF_WHOLE_FILE = r"lost slip .*"  # also a line of `compare`
 
 
-@dataclass(frozen=True)
-class MadeBy:
+class MadeBy(NamedTuple):
     """What a file was made by: the number of the station, the MSM, the codes, the marker and the fields of the label, and the systems that
     were left out because of their clocks. A None is not known."""
 
@@ -43,8 +41,7 @@ class MadeBy:
         return kinds_of(self.msm, self.codes) if self.msm is not None else {}
 
 
-@dataclass(frozen=True)
-class Old:
+class Old(NamedTuple):
     """The files of before: what the list says that was made, and which of these are there with the bytes with which they were made;
     where the file of the span gets to, and whether it is there and can be read; what it was made by, its header, and the text of its
     report."""
@@ -76,8 +73,7 @@ class Old:
         return self.is_there and name != self.path.name and {name, self.path.name} <= self.intact
 
 
-@dataclass(frozen=True)
-class New:
+class New(NamedTuple):
     """The new files: what they were made by, what was made, where that of the span lies now, the text of the report, whether all is as in
     the list of before from which they were made, and whether captures lost bytes."""
 
@@ -186,7 +182,7 @@ def guard_records(program: Program, name: str, old: Old, new: New, now: Path) ->
             yield f"{name} was changed, and can't be compared: {fault}"
         return
     is_thin = name != old.path.name
-    others = [it for it in found.lines if OF_OTHERS.fullmatch(it) or (is_thin and OF_WHOLE_FILE.fullmatch(it))]
+    others = [it for it in found.lines if re.fullmatch(OF_OTHERS, it) or (is_thin and re.fullmatch(OF_WHOLE_FILE, it))]
     lines = [it for it in found.lines if it not in others]
     lost, changed = (count - sum(it.startswith(kind) for it in others) for kind, count in found.counts.items())
     if lost or (changed and not new.is_of_list):
@@ -217,8 +213,8 @@ def guard_position(name: str, old: Header, new: Header) -> Iterator[str]:
 
 def guard_conflicts(name: str, old: str, new: str) -> Iterator[str]:
     """Links of one station have the same values. Where many differ now and none did before, a link carries another station."""
-    conflicts, taken = len(set(CONFLICT.findall(new))), count_of(new, "taken")
-    if conflicts > MOST_CONFLICTS * taken and not CONFLICT.search(old):
+    conflicts, taken = len(set(re.findall(CONFLICT, new))), count_of(new, "taken")
+    if conflicts > MOST_CONFLICTS * taken and not re.search(CONFLICT, old):
         yield f"{name} would have conflicts in {conflicts} messages, where {taken} were taken, and had none: a link may be of another station"
 
 

@@ -3,9 +3,8 @@
 from __future__ import annotations
 
 import os
-from dataclasses import dataclass, field
 from pathlib import Path
-from typing import BinaryIO, Dict, List, Sequence
+from typing import BinaryIO, Dict, List, NamedTuple, Optional, Sequence, Tuple
 
 from .before import Before
 from .captures import Capture, Unread, pieces_of, sum_of
@@ -16,7 +15,7 @@ from .lists import Made, row_line
 from .names import Name, read_name
 from .places import folder_of, form_of, has_list, plain_name
 from .program import Program
-from .rinex import count_values, most_frequent_step, read_header
+from .rinex import Measure, read_header
 from .settings import DAY, Settings
 from .summaries import Told
 from .table import Row
@@ -26,8 +25,7 @@ CHECKED = "valid: "
 FIRST_DATE = "1980-01-06"  # that a file can have; a clock that was never set is before it
 
 
-@dataclass(frozen=True)
-class Job:
+class Job(NamedTuple):
     """What a run is to make: the file of a span of a station, by these settings."""
 
     settings: Settings
@@ -75,12 +73,12 @@ class Job:
         return {**fields_of_options(self.options), "marker": self.row.marker}
 
 
-@dataclass
 class Conversion:
     """What was made in a folder: the files by their names, the first one being that of the span; and the text of the report."""
 
-    made: Dict[str, Made] = field(default_factory=dict)
-    report: str = ""
+    def __init__(self) -> None:
+        self.made: Dict[str, Made] = {}
+        self.report = ""
 
 
 def seconds_of_thin(interval: str) -> int:
@@ -157,10 +155,9 @@ def convert(job: Job, told: Told, captures: Sequence[Capture], before: Before, w
     for link in links:
         link.unlink()
     name = str(job.name)
-    done.made[name] = cut_out(job, work, name, [])
+    done.made[name], step = cut_out(job, work, name, [])
     if not done.made[name].epochs:
         raise Refused(f"the captures have no epoch of this span{hint_of(done.report)}")
-    step = most_frequent_step(work / name)
     if step is not None and step != row.interval_ms:
         raise Refused(f"the interval is {interval_of(step) or f'{step} ms'}, and the row has {row.interval}")
     if read_header(work / name).position is None:
@@ -168,7 +165,7 @@ def convert(job: Job, told: Told, captures: Sequence[Capture], before: Before, w
     (work / f"{name}.report").write_text(done.report)
     for thin in thins_of(job, before):
         seconds = seconds_of_thin(thin.interval)
-        done.made[str(thin)] = cut_out(job, work, str(thin), ["--every", str(seconds)])
+        done.made[str(thin)], _ = cut_out(job, work, str(thin), ["--every", str(seconds)])
     (work / "whole").unlink()
 
 
@@ -181,8 +178,8 @@ def hint_of(report: str) -> str:
     return ": `rtcm2rinex summary` of a capture says which messages came"
 
 
-def cut_out(job: Job, work: Path, name: str, words: Sequence[str]) -> Made:
-    """Cuts the span out of the whole, and checks it."""
+def cut_out(job: Job, work: Path, name: str, words: Sequence[str]) -> Tuple[Made, Optional[int]]:
+    """Cuts the span out of the whole, and checks it. Answers what was made, and its step in ms."""
     whole, path = work / "whole", work / name
     job.program.write(path, ["cut", str(whole), "--from", job.span.start, "--until", text_of(job.span.end), *words])
     checked = work / "checked"
@@ -193,7 +190,8 @@ def cut_out(job: Job, work: Path, name: str, words: Sequence[str]) -> Made:
     if not told.startswith(CHECKED) or not words_of_check[0].isdecimal():
         raise Again("check: no answer")
     epochs = int(words_of_check[0])
-    return Made(path.stat().st_size, epochs, count_values(path), sum_of(path).digest) if epochs else Made(0, 0, 0, "-")
+    it = Measure(path)
+    return (Made(it.sum.size, epochs, it.values, it.sum.digest), it.step) if epochs else (Made(0, 0, 0, "-"), None)
 
 
 def label_files(job: Job, work: Path, done: Conversion) -> None:

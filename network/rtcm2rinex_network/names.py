@@ -3,8 +3,7 @@
 from __future__ import annotations
 
 import re
-from dataclasses import dataclass, replace
-from typing import List, Optional
+from typing import List, NamedTuple, Optional
 
 from .settings import DAY
 from .systems import TYPES
@@ -16,8 +15,7 @@ FORM = re.compile(rf"([A-Z0-9]{{4}}\d\d[A-Z]{{3}})_S_(\d{{11}})_({'|'.join(LENGT
 CAPTURE = re.compile(rf"link({LINK})/(\d{{9}}00)\.rtcm", re.ASCII)
 
 
-@dataclass(frozen=True)
-class Name:
+class Name(NamedTuple):
     """The name of a RINEX file: that of the station, the span, the interval and the type of the data."""
 
     name9: str
@@ -40,11 +38,11 @@ class Name:
 
     def with_interval(self, interval: str) -> Name:
         """The name of the same data in other steps."""
-        return replace(self, interval=interval)
+        return self._replace(interval=interval)
 
     def with_kind(self, kind: str) -> Name:
         """The name of data of another type."""
-        return replace(self, kind=kind)
+        return self._replace(kind=kind)
 
     @property
     def others(self) -> List[Name]:

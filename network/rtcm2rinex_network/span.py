@@ -6,9 +6,8 @@ import fcntl
 import os
 import time
 from contextlib import contextmanager
-from dataclasses import dataclass
 from pathlib import Path
-from typing import Dict, Iterator, List, Optional, Sequence
+from typing import Dict, Iterator, List, NamedTuple, Optional, Sequence
 
 from .after import call_after, note_after
 from .before import Before, list_of
@@ -117,8 +116,7 @@ def has_own(job: Job, captures: Sequence[Capture]) -> bool:
     return any(capture.hour in job.span.own_hours for capture in captures)
 
 
-@dataclass
-class Found:
+class Found(NamedTuple):
     """The captures that are there and can be read, with their sums in the list of now; and what `stat` said of each file, and when."""
 
     captures: List[Capture]

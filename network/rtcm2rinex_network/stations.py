@@ -6,7 +6,7 @@ import os
 import re
 from dataclasses import dataclass, field
 from pathlib import Path
-from typing import Dict, FrozenSet, Iterator, List, Optional, Set, Tuple
+from typing import Dict, FrozenSet, Iterator, List, NamedTuple, Optional, Set, Tuple
 
 from .ends import Ended
 from .lists import MADE, Record, list_of
@@ -30,16 +30,14 @@ NAMED = ("other-channel", "no-channel", "no-message", CLOCK)  # lines of a repor
 KINDS = ("capture", "file", "missing", "epochs", "unread", *COUNTED, "repeat", *NAMED, "position", "not-made", "table")
 
 
-@dataclass(frozen=True)
-class Alarm:
+class Alarm(NamedTuple):
     """What to look at, by one of the kinds, and in words."""
 
     kind: str
     text: str
 
 
-@dataclass(frozen=True)
-class Link:
+class Link(NamedTuple):
     """A link: the stamp of its newest capture, and the seconds since its last byte, if it has any."""
 
     number: int
@@ -47,8 +45,7 @@ class Link:
     age: Optional[float]
 
 
-@dataclass(frozen=True)
-class File:
+class File(NamedTuple):
     """A file that was made: its name, its epochs, whether it has a position, how many links it is of, the counts of its report, the slots
     or systems that lines of the report name, and the captures that could not be read."""
 
@@ -77,16 +74,14 @@ class Window:
     old: List[Span] = field(default_factory=list)
 
 
-@dataclass(frozen=True)
-class Listed:
+class Listed(NamedTuple):
     """What the list of a file says: how many epochs it has, and of which captures it was made, or was to be made."""
 
     epochs: int
     captures: FrozenSet[str]
 
 
-@dataclass(frozen=True)
-class Clock:
+class Clock(NamedTuple):
     """The time at which stations are looked at: UTC, and GPS time."""
 
     utc: float

@@ -7,9 +7,8 @@ from __future__ import annotations
 
 import re
 from collections import Counter
-from dataclasses import dataclass, field
 from pathlib import Path
-from typing import Dict, Iterator, Mapping, Sequence, Tuple, TypeVar
+from typing import Dict, Iterator, Mapping, NamedTuple, Sequence, Tuple, TypeVar
 
 from .captures import Unread, pieces_of
 from .ends import Again, Refused
@@ -18,8 +17,8 @@ from .systems import GLONASS, channels_of, words_of_channels
 from .table import Row
 
 CHANNELS = " channels "
-CLOCK = re.compile(r" clock ([A-Z]) ([+-])(\d+)\.(\d{3}) (\d+) of (\d+)", re.ASCII)
-EPOCHS = re.compile(r" epochs (1\d\d)\d (\d+)", re.ASCII)
+CLOCK = r" clock ([A-Z]) ([+-])([0-9]+)\.([0-9]{3}) ([0-9]+) of ([0-9]+)"
+EPOCHS = r" epochs (1[0-9][0-9])[0-9] ([0-9]+)"
 SYSTEMS = {"101": GLONASS, "108": GLONASS, "109": "E", "110": "S", "111": "J", "112": "C", "113": "I"}  # by the first digits of numbers
 RIGHT = 0  # ms that a clock is off if it is right
 WRONG_MS = 500  # from which on a clock makes the messages of others late
@@ -27,12 +26,12 @@ WRONG_MS = 500  # from which on a clock makes the messages of others late
 Key = TypeVar("Key", int, str)
 
 
-@dataclass
 class Summary:
     """What captures tell of a station: how many of them tell a channel of a slot, and how many clocks of a system are off by so many ms."""
 
-    channels: Counter[Tuple[int, int]] = field(default_factory=Counter)
-    clocks: Counter[Tuple[str, int]] = field(default_factory=Counter)
+    def __init__(self) -> None:
+        self.channels: Counter[Tuple[int, int]] = Counter()
+        self.clocks: Counter[Tuple[str, int]] = Counter()
 
     def add(self, other: Summary) -> None:
         """Adds what another capture tells."""
@@ -40,8 +39,7 @@ class Summary:
         self.clocks.update(other.clocks)
 
 
-@dataclass(frozen=True)
-class Told:
+class Told(NamedTuple):
     """A row as captures tell it, and how wrong the clocks are of the systems that are left out."""
 
     row: Row
@@ -73,10 +71,10 @@ def read_summary(text: str, station: str) -> Summary:
     for line in lines_of_station(text, station):
         if line.startswith(CHANNELS):
             found.channels.update(pair for word in line[len(CHANNELS):].split(",") for pair in channels_of(word).items())
-        elif match := CLOCK.fullmatch(line):
+        elif match := re.fullmatch(CLOCK, line):
             ms, count = int(match[2] + match[3] + match[4]), int(match[5])
             found.clocks.update({(match[1], ms): count, (match[1], RIGHT): int(match[6]) - count})
-        elif (match := EPOCHS.fullmatch(line)) and match[1] in SYSTEMS:
+        elif (match := re.fullmatch(EPOCHS, line)) and match[1] in SYSTEMS:
             epochs[SYSTEMS[match[1]]] += int(match[2])
     off = {system for system, _ in found.clocks}
     found.clocks.update({(system, RIGHT): count for system, count in epochs.items() if system not in off})
