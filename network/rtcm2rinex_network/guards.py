@@ -117,8 +117,8 @@ def guard_captures(before: Dict[str, Sum], found: Dict[str, Sum], unread: Set[st
 def guard_words(old: Old, new: MadeBy) -> Iterator[str]:
     """A table that was edited says how the station is now, and the file may be of the time before. Another number is another station,
     and another MSM has other values of the same codes. A code that the row names no more, and a field of the label that is another one
-    now, belong to another receiver or antenna. A field that was blank may be filled, and a code without a value may go. Codes of another
-    system may come."""
+    now, belong to another receiver or antenna. A field that was blank may be filled, and a code without a value may go, if the
+    file is as it was made or has no list. Codes of another system may come."""
     name = old.path.name
     by, path = old.by, old.file(name)
     if by.station not in (None, new.station):
@@ -128,7 +128,7 @@ def guard_words(old: Old, new: MadeBy) -> Iterator[str]:
             of = f" of {system}" if len(by.kinds) > 1 else ""
             yield f"{name} is of MSM{kind}{of}, and would be of MSM{now}{of}"
     dropped = [code for code in by.codes if code not in new.codes]
-    if dropped and path and name in old.intact:
+    if dropped and path and (by.station is None or name in old.intact):
         there = codes_with_values(path)
         dropped = [code for code in dropped if code in there]
     if dropped:
