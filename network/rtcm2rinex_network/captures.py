@@ -21,7 +21,8 @@ TICK = 5  # seconds; no later write shares the tick of a time that is older
 
 
 class Capture(NamedTuple):
-    """A capture that is there: the name that lists have, its file, and its link and hour."""
+    """A capture that is there: the name that lists have, its file, and its link and hour. The name ends in .gz if there is a plain capture
+    too."""
 
     name: str
     path: Path
@@ -31,7 +32,17 @@ class Capture(NamedTuple):
     @property
     def seen_name(self) -> str:
         """The name of its file below the folder of the station."""
-        return self.name + (".gz" if self.path.suffix == ".gz" else "")
+        return self.first_name + (".gz" if self.path.suffix == ".gz" else "")
+
+    @property
+    def is_second(self) -> bool:
+        """Whether it lies beside a plain capture."""
+        return self.name.endswith(".gz")
+
+    @property
+    def first_name(self) -> str:
+        """The name of the plain capture."""
+        return first_name(self.name)
 
 
 class Sum(NamedTuple):
@@ -45,14 +56,20 @@ class Sum(NamedTuple):
 
 
 class Unread(Exception):
-    """A capture can't be read, as a gzip file that is broken."""
+    """A capture can't be read."""
+
+
+class Broken(Unread):
+    """A gzip file is not whole, which no other try mends."""
+
+
+def first_name(name: str) -> str:
+    """The name that a capture has in lists if it is plain, or if no plain one is there."""
+    return name.removesuffix(".gz")
 
 
 def find_captures(directory: Path, span: Span) -> List[Capture]:
-    """The captures of the hours of a span, link by link and hour by hour.
-
-    A capture that is being compressed is there twice, and whole where it is plain.
-    """
+    """The captures of the hours of a span, link by link and hour by hour."""
     found = []
     for link in LINKS:
         folder = directory / f"link{link}"
@@ -61,14 +78,20 @@ def find_captures(directory: Path, span: Span) -> List[Capture]:
         if not os.access(folder, os.R_OK | os.X_OK):
             raise Refused(f"{folder} may not be read")
         for hour in span.hours:
-            name = capture_name(link, hour)
-            path = next((it for it in (directory / name, directory / f"{name}.gz") if it.is_file()), None)
-            if path is None:
-                continue
-            if not os.access(path, os.R_OK):
-                raise Refused(f"{path} may not be read")
-            found.append(Capture(name, path, link, hour))
+            found += captures_of(directory, capture_name(link, hour), link, hour)
     return found
+
+
+def captures_of(directory: Path, name: str, link: int, hour: int) -> List[Capture]:
+    """The capture of a link and an hour. A plain and a gzipped one may be there, as while it is compressed; if nothing of the name is a
+    file, what is there can't be read."""
+    paths = [directory / name, directory / f"{name}.gz"]
+    files = [it for it in paths if it.is_file()]
+    for path in files:
+        if not os.access(path, os.R_OK):
+            raise Refused(f"{path} may not be read")
+    there = files or [it for it in paths if os.path.lexists(it)][:1]
+    return [Capture(it, path, link, hour) for it, path in zip((name, f"{name}.gz"), there)]
 
 
 def opened(path: Path) -> BinaryIO:
@@ -86,8 +109,10 @@ def pieces_of(path: Path) -> Iterator[bytes]:
         with opened(path) as file:
             while piece := file.read(PIECE):
                 yield piece
-    except (OSError, EOFError, zlib.error) as fault:
-        raise Unread(f"can't read {path}: {getattr(fault, 'strerror', None) or fault}") from None
+    except (EOFError, zlib.error) as fault:
+        raise Broken(f"can't read {path}: {fault}") from None
+    except OSError as fault:
+        raise (Unread if fault.errno else Broken)(f"can't read {path}: {fault.strerror or fault}") from None
 
 
 def first_bytes(path: Path, size: int) -> Iterator[bytes]:
@@ -131,6 +156,14 @@ def look_at(path: Path) -> Optional[str]:
         return None
     times = (f"{ns // 10**9}.{ns % 10**9:09}" for ns in (it.st_mtime_ns, it.st_ctime_ns))
     return f"{it.st_size} {it.st_ino} {' '.join(times)}" if stat.S_ISREG(it.st_mode) else None
+
+
+def went(path: Path) -> bool:
+    """Whether a capture was a file when it was found, and is gone. Something else, as a link that leads nowhere, is no file that went."""
+    try:
+        return stat.S_ISREG(os.lstat(path).st_mode)
+    except FileNotFoundError:
+        return True
 
 
 def is_old(looked: str, now: float) -> bool:

@@ -10,7 +10,7 @@ import re
 from pathlib import Path
 from typing import Dict, List, NamedTuple, Tuple
 
-from .captures import Unread, pieces_of
+from .captures import Broken, Unread, pieces_of
 from .ends import Again
 from .program import Program, fault_of, of_program
 from .rinex import cell_of, epochs_of, read_header
@@ -52,6 +52,8 @@ def unpacked(path: Path, plain: Path) -> Path:
     try:
         with open(plain, "wb") as file:
             file.writelines(pieces_of(path))
+    except Broken as fault:
+        raise Unlike(str(fault)) from None
     except Unread as fault:
         raise Again(str(fault)) from None
     return plain

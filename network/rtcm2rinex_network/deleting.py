@@ -161,9 +161,9 @@ def fault_of_captures(folder: Folder, span: Span, file: str, record: Record) -> 
     if unread:
         return f"{file} is made without {' '.join(sorted(unread))}, which could not be read"
     for path in paths:
-        name = name_of(path)
-        if record.captures.get(name) != folder.sum(path) or name not in record.captures:
-            return f"{file} is not made of {name}"
+        sums = {record.captures.get(it) for it in (name_of(path), f"{name_of(path)}.gz")} - {None}
+        if folder.sum(path) not in sums:
+            return f"{file} is not made of {path.parent.name}/{path.name}"
     return ""
 
 
@@ -234,7 +234,7 @@ def delete(folder: Folder, paths: Sequence[Path]) -> None:
     for path in paths:
         for span in spans_of(hour_of_capture(f"{path.parent.name}/{path.name}") or 0, list(LENGTHS)):
             for name in folder.lists.get(span, []):
-                deleted.setdefault(folder.place_of(name[:-len(".captures")]) / name, set()).add(name_of(path))
+                deleted.setdefault(folder.place_of(name[:-len(".captures")]) / name, set()).update((name_of(path), f"{name_of(path)}.gz"))
     left = [path for path, captures in deleted.items() if not has_noted(path, captures)]
     for path in paths:
         path.unlink(missing_ok=True)

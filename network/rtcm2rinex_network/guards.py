@@ -8,7 +8,7 @@ import re
 from pathlib import Path
 from typing import Dict, FrozenSet, Iterator, List, NamedTuple, Optional, Set, Tuple
 
-from .captures import Sum
+from .captures import Sum, first_name
 from .comparison import Unlike, differences, lost_first_slips
 from .lists import Made, Record
 from .labels import fields_of_options, options_of
@@ -102,8 +102,13 @@ def old_files(path: Path, record: Record, intact: FrozenSet[str]) -> Old:
 
 def without_bytes(before: Dict[str, Sum], found: Dict[str, Sum]) -> List[str]:
     """The captures of before whose bytes no capture of the same hour has now, whichever link it is of."""
-    there = {(name.partition("/")[2], it) for name, it in found.items()}
-    return [name for name, it in before.items() if (name.partition("/")[2], it) not in there]
+    there = {(hour_of(name), it) for name, it in found.items()}
+    return [name for name, it in before.items() if (hour_of(name), it) not in there]
+
+
+def hour_of(name: str) -> str:
+    """The hour of a capture, as its name has it."""
+    return first_name(name).partition("/")[2]
 
 
 def guard_captures(before: Dict[str, Sum], found: Dict[str, Sum], unread: Set[str]) -> Iterator[str]:

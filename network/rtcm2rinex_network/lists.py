@@ -1,7 +1,7 @@
 """The list of a file, NAME.captures: what it was made from.
 
 It has the program's version, the row, and a line for each capture with its size and sum as it came, so a capture that is compressed
-later is the same. Then come these lines:
+later is the same. If a plain and a gzipped one have other bytes, each has a line. Then come these lines:
 
     unread CAPTURE                      a capture that could not be read, and was left out
     made FILE SIZE EPOCHS VALUES SUM    a file that was made; a thinned file without epochs is none, and its sum is -
@@ -26,7 +26,7 @@ from .systems import AUTO, DEFAULT_KIND, LETTERS, channels_of
 
 SUM = r"(\d+) ([0-9a-f]{64})"
 MADE = re.compile(r"made ([A-Z0-9_]+\.rnx) (\d+) (\d+)(?: (\d+) ([0-9a-f]{64}|-))?", re.ASCII)
-CAPTURE = r"link\d+/\d{11}\.rtcm"
+CAPTURE = r"link\d+/\d{11}\.rtcm(?:\.gz)?"
 ROW = re.compile(r"row (\S+) (\S+) (\S+) (\S+) (\S+) (\S+) (.*?)"
     rf"(?: msm ([4-7](?:,[{LETTERS}][4-7])*))?(?: channels ([0-9:,-]+|none|auto))?(?: leap_seconds (\d+))?(?: with-1012 yes)?(?: label (.*))?", re.ASCII)
 

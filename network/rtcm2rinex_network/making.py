@@ -109,10 +109,10 @@ def thins_of(job: Job, before: Before) -> List[Name]:
 
 def join_links(captures: Sequence[Capture], work: Path) -> List[Path]:
     """One file for each link, its captures in order. Files and no pipes: a file gives each read 512 bytes, so each run reads the links
-    in the same order."""
+    in the same order. Gzipped captures beside plain ones count as another link, behind all others."""
     links: List[Path] = []
-    for capture in captures:
-        link = work / f"link{capture.link}"
+    for capture in sorted(captures, key=lambda it: it.is_second):
+        link = work / f"link{capture.link}{'.second' if capture.is_second else ''}"
         with open(link, "ab") as file:
             copy(capture, file)
         if link not in links:

@@ -116,12 +116,22 @@ def make_folder(folder: Path) -> None:
     give_to_owner(folder, folder.parent)
 
 
+def opened_list(path: Path, makes: bool) -> BinaryIO:
+    """Opens a list to lock it. One that may not be written is read, which is enough for a run that finds nothing to do."""
+    try:
+        return open(path, "ab") if makes else open(path, "r+b")
+    except OSError:
+        if os.access(path, os.W_OK) or not path.is_file():
+            raise
+        return open(path, "rb")
+
+
 def lock(path: Path, makes: bool = True) -> BinaryIO:
     """Opens and locks a list, which is there after it. Another run may put a new list in its place meanwhile, and then that one is
     locked. If it is not to be made, a list that is gone raises a FileNotFoundError."""
     while True:
         try:
-            file: BinaryIO = open(path, "ab") if makes else open(path, "r+b")
+            file = opened_list(path, makes)
         except OSError as fault:
             if not makes and isinstance(fault, FileNotFoundError):
                 raise
@@ -194,7 +204,7 @@ def work_folder(folder: Path, name: str) -> Iterator[Path]:
     try:
         work.mkdir(0o700)
     except OSError as fault:
-        raise Again(f"can't write to {folder}: {fault.strerror}") from None
+        raise blamed(str(folder), f"can't write to {folder}: {fault.strerror}") from None
     try:
         yield work
     finally:

@@ -5,11 +5,10 @@ from __future__ import annotations
 import re
 import zlib
 from collections import Counter
-from contextlib import contextmanager
 from io import TextIOWrapper
 from itertools import islice
 from pathlib import Path
-from typing import Dict, Iterator, List, NamedTuple, Optional, Set, TextIO, Tuple
+from typing import Dict, Iterator, List, NamedTuple, Optional, Set, Tuple
 
 from .captures import opened, pieces_of, sum_of_pieces
 from .ends import Again
@@ -64,28 +63,36 @@ class Header:
         self.codes.setdefault(system, []).extend(names if system == GPS else [system + it for it in names])
 
 
-@contextmanager
-def open_text(path: Path) -> Iterator[TextIO]:
-    """Opens a file, which may be gzipped, and may be whole again at another try."""
+def lines_of(path: Path) -> Iterator[str]:
+    """The lines of a file, which may be gzipped, and may be whole again at another try."""
     try:
         with TextIOWrapper(opened(path), encoding="latin-1") as file:
-            yield file
-    except (EOFError, zlib.error) as fault:
+            yield from file
+    except (EOFError, zlib.error, OSError) as fault:
+        if getattr(fault, "errno", None):
+            raise
         raise Again(f"can't read {path}: {fault}") from None
+
+
+def as_far(lines: Iterator[str]) -> Iterator[str]:
+    """The same, as far as they can be read."""
+    try:
+        yield from lines
+    except Again:
+        return
 
 
 def read_header(path: Path) -> Header:
     """The header of a file, as far as it can be read."""
     found = Header()
     lines: Dict[str, str] = {}
-    with open_text(path) as file:
-        for line in islice(file, MOST_HEADER_LINES):
-            label = line[60:].strip()
-            lines.setdefault(label, line[:60])
-            if label == "SYS / # / OBS TYPES":
-                found.put_codes(line)
-            if label == "END OF HEADER":
-                break
+    for line in as_far(islice(lines_of(path), MOST_HEADER_LINES)):
+        label = line[60:].strip()
+        lines.setdefault(label, line[:60])
+        if label == "SYS / # / OBS TYPES":
+            found.put_codes(line)
+        if label == "END OF HEADER":
+            break
     found.marker = lines.get("MARKER NAME", "").strip()
     if match := re.match(r".{40}(\d{4})(\d\d)(\d\d) (\d\d)(\d\d)(\d\d) UTC", lines.get("PGM / RUN BY / DATE", "")):
         found.made = "{}-{}-{}T{}:{}:{}".format(*match.groups())
@@ -101,11 +108,11 @@ def read_header(path: Path) -> Header:
 
 def records_of(path: Path) -> Iterator[str]:
     """The lines behind the header."""
-    with open_text(path) as file:
-        for line in file:
-            if line[60:73] == "END OF HEADER":
-                break
-        yield from file
+    lines = lines_of(path)
+    for line in lines:
+        if line[60:73] == "END OF HEADER":
+            break
+    yield from lines
 
 
 def epochs_of(path: Path) -> Iterator[Tuple[str, Dict[str, str]]]:
@@ -124,13 +131,13 @@ def epochs_of(path: Path) -> Iterator[Tuple[str, Dict[str, str]]]:
 
 
 def count_epochs(path: Path) -> int:
-    """How many epochs the records of a file have."""
-    return sum(line[0] == ">" for line in records_of(path))
+    """How many epochs the records of a file have, as far as they can be read."""
+    return sum(line[0] == ">" for line in as_far(records_of(path)))
 
 
 def count_values(path: Path) -> int:
-    """How many numbers the records of a file have, beside the seconds of their epochs."""
-    return sum(line.count(".") - (line[0] == ">") for line in records_of(path))
+    """How many numbers the records of a file have, beside the seconds of their epochs, as far as they can be read."""
+    return sum(line.count(".") - (line[0] == ">") for line in as_far(records_of(path)))
 
 
 def counts_of_systems(path: Path, systems: str) -> Tuple[int, int]:

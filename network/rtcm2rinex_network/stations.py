@@ -4,6 +4,7 @@ from __future__ import annotations
 
 import os
 import re
+import stat
 from dataclasses import dataclass, field
 from pathlib import Path
 from typing import Dict, FrozenSet, Iterator, List, NamedTuple, Optional, Set, Tuple
@@ -126,12 +127,16 @@ class Station:
         if not names:
             self.alarm("capture", f"link{number}: no capture")
             return Link(number, None, None)
-        hour = hour_of_capture(f"{folder.name}/{names[-1]}") or 0
-        age = max(0.0, self.clock.utc - (folder / names[-1]).stat().st_mtime, self.clock.gps - hour - HOUR)
+        last, written = next(((it, at) for it in reversed(names) if (at := time_of_write(folder / it)) is not None), ("", None))
+        if written is None:
+            self.alarm("capture", f"link{number}: no capture can be read")
+            return Link(number, None, None)
+        hour = hour_of_capture(f"{folder.name}/{last}") or 0
+        age = max(0.0, self.clock.utc - written, self.clock.gps - hour - HOUR)
         limit = self.settings.number("LIVE_AGE", 300) if is_live else self.settings.number("CAPTURE_AGE", 7200)
         if age > limit:
             self.alarm("capture", f"link{number}: the last byte came {age_of(age)} ago")
-        return Link(number, names[-1][:11], age)
+        return Link(number, last[:11], age)
 
     # ------------------------------------------------------------ files
 
@@ -157,6 +162,8 @@ class Station:
                 self.look_back(folder, length, spans, newest)
         if not self.files:
             self.alarm("file", "there is no file")
+        if folder.is_dir() and not folder.stat().st_mode & stat.S_IWUSR:
+            self.alarm("file", f"{folder} may not be written")
         self.look_at_unread(folder, texts)
         self.look_at_notes(folder, texts)
 
@@ -317,8 +324,16 @@ def captures_in(folder: Path) -> List[str]:
 
 
 def is_capture(path: Path) -> bool:
-    """Whether a capture is there, or was compressed."""
-    return path.is_file() or path.with_name(f"{path.name}.gz").is_file()
+    """Whether a capture is there, or was compressed, or a link that leads nowhere has its name."""
+    return os.path.lexists(path) or os.path.lexists(f"{path}.gz")
+
+
+def time_of_write(path: Path) -> Optional[float]:
+    """When a file was written; None of one that went, or of a link that leads nowhere."""
+    try:
+        return os.stat(path).st_mtime
+    except FileNotFoundError:
+        return None
 
 
 def links_of(record: Record) -> int:
@@ -327,8 +342,8 @@ def links_of(record: Record) -> int:
 
 
 def text_if_there(path: Path) -> str:
-    """The text of a file; none if it is not there."""
+    """The text of a file; none if it is not there, or a folder has its name."""
     try:
         return path.read_text(errors="replace")
-    except FileNotFoundError:
+    except (FileNotFoundError, IsADirectoryError):
         return ""
