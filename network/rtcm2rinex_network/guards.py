@@ -160,7 +160,8 @@ def guard_compact(old: Old, made: Dict[str, Made]) -> Iterator[str]:
 
 
 def guard_counts(name: str, old: Old, new: New, file: str) -> Iterator[str]:
-    """A file that was moved away is compared by what its list counts. Of a new file with other systems those count that it had."""
+    """A file that was moved away is compared by what its list counts. Of a new file with other systems those count that it had. Where
+    bytes of its captures are there no more, counts alone do not tell that its values are."""
     listed, made, systems = old.made[name], new.made[file], systems_of(old.by.codes)
     epochs, values = made.epochs, made.values
     if systems != systems_of(new.by.codes):
@@ -169,6 +170,9 @@ def guard_counts(name: str, old: Old, new: New, file: str) -> Iterator[str]:
         yield f"{name} had {listed.epochs} epochs, and would have {epochs}"
     if values < listed.values:
         yield f"{name} had {listed.values} values, and would have {values}"
+    is_gone = name == old.path.name and not form_of(old.path).is_file()
+    if is_gone and new.lost_bytes and not listed.is_none and listed != made:
+        yield f"{name} is not there to be compared, and captures that it was made of lost bytes: nobody knows whether the new one is worse"
 
 
 def guard_records(program: Program, name: str, old: Old, new: New, now: Path) -> Iterator[str]:
@@ -238,6 +242,7 @@ def faults_of(program: Program, old: Old, new: New) -> Iterator[str]:
     """Why the records of the new files would be worse than those of before."""
     if old.is_there:
         yield from guard_position(old.path.name, old.header, read_header(new.path))
+    if old.is_there or old.made:
         yield from guard_conflicts(old.path.name, old.report, new.report)
     for file, it in new.made.items():
         name = old.name_of(file)

@@ -4,11 +4,12 @@ from __future__ import annotations
 
 import os
 from pathlib import Path
-from typing import BinaryIO, Dict, List, NamedTuple, Optional, Sequence, Tuple
+from typing import Dict, Iterator, List, NamedTuple, Optional, Sequence, Tuple
 
 from .before import Before
 from .captures import Capture, Unread, pieces_of, sum_of
 from .ends import Again, Refused
+from .frames import without_systems
 from .guards import count_of
 from .labels import fields_of_options
 from .lists import Made, row_line
@@ -107,24 +108,28 @@ def thins_of(job: Job, before: Before) -> List[Name]:
     return [job.name.with_interval(it) for it in wanted]
 
 
-def join_links(captures: Sequence[Capture], work: Path) -> List[Path]:
+def join_links(captures: Sequence[Capture], told: Told, work: Path) -> List[Path]:
     """One file for each link, its captures in order. Files and no pipes: a file gives each read 512 bytes, so each run reads the links
-    in the same order. Gzipped captures beside plain ones count as another link, behind all others."""
-    links: List[Path] = []
+    in the same order. Gzipped captures beside plain ones count as another link, behind all others. Messages of systems whose clocks are
+    wrong in a capture, where another link has them right, are left out."""
+    links: Dict[Path, List[Capture]] = {}
     for capture in sorted(captures, key=lambda it: it.is_second):
         link = work / f"link{capture.link}{'.second' if capture.is_second else ''}"
-        with open(link, "ab") as file:
-            copy(capture, file)
-        if link not in links:
-            links.append(link)
-    return links
+        links.setdefault(link, []).append(capture)
+    for link, parts in links.items():
+        left_out = ["".join(told.of_captures.get(it.path, ())) for it in parts]
+        with open(link, "wb") as file:
+            if any(left_out):
+                file.write(without_systems([(b"".join(bytes_of(it)), systems) for it, systems in zip(parts, left_out)]))
+            else:
+                file.writelines(piece for it in parts for piece in bytes_of(it))
+    return list(links)
 
 
-def copy(capture: Capture, file: BinaryIO) -> None:
-    """Appends the bytes of a capture."""
+def bytes_of(capture: Capture) -> Iterator[bytes]:
+    """The bytes of a capture."""
     try:
-        for piece in pieces_of(capture.path):
-            file.write(piece)
+        yield from pieces_of(capture.path)
     except Unread as fault:
         raise Again(str(fault)) from None
 
@@ -147,7 +152,7 @@ def time_of_making(job: Job, captures: Sequence[Capture], is_made: bool) -> str:
 def convert(job: Job, told: Told, captures: Sequence[Capture], before: Before, work: Path, is_made: bool, done: Conversion) -> None:
     """Converts the captures by the row as they tell it, and cuts the file and its thinned files out of what comes."""
     row = told.row
-    links = join_links(captures, work)
+    links = join_links(captures, told, work)
     made = time_of_making(job, captures, is_made)
     words = ["convert", *row.options(row.msm(job.settings)), "--near", row.near(job.span), "--made", made, "--window", row.window,
         *map(str, links)]
@@ -159,7 +164,7 @@ def convert(job: Job, told: Told, captures: Sequence[Capture], before: Before, w
     if not done.made[name].epochs:
         raise Refused(f"the captures have no epoch of this span{hint_of(done.report)}")
     if step is not None and step != row.interval_ms:
-        raise Refused(f"the interval is {interval_of(step) or f'{step} ms'}, and the row has {row.interval}")
+        raise Refused("; ".join([f"the interval is {interval_of(step) or f'{step} ms'}, and the row has {row.interval}", *told.doubts]))
     if read_header(work / name).position is None:
         done.report += "position none\n"
     (work / f"{name}.report").write_text(done.report)

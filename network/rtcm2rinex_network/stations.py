@@ -26,8 +26,8 @@ UNUSED = 10 * DAY  # a length whose newest file is so much older than that of an
 OFTEN = 2  # runs of a file that failed, after which it is an alarm
 CAPTURE = re.compile(r"(?m)^(?:unread )?(link\d+/\d{11}\.rtcm)\b", re.ASCII)
 COUNTED = ("late", "conflict", "refused", "foreign")
-CLOCK = "clock"  # a line of a report for each system whose clock is wrong
-NAMED = ("other-channel", "no-channel", "no-message", CLOCK)  # lines of a report that name slots of GLONASS or systems
+CLOCK = "clock"  # a line of a report for each system whose clock is wrong, or in a capture
+NAMED = ("other-channel", "no-channel", "no-message", "unchecked", CLOCK)  # lines of a report that name slots of GLONASS or systems
 KINDS = ("capture", "file", "missing", "epochs", "unread", *COUNTED, "repeat", *NAMED, "position", "not-made", "table")
 
 
@@ -194,7 +194,7 @@ class Station:
         since = self.clock.gps - it.name.span.end
         if since > FILE_AGES[it.name.span.length]:
             yield "file", f"the newest file of {it.name.span.length} is {it.name}, which ended {age_of(since)} ago"
-        if it.epochs < it.name.epochs:
+        if it.epochs != it.name.epochs:
             yield "epochs", f"{it.name}: {it.epochs} epochs of {it.name.epochs}"
         yield from self.faults_of_report(it)
 
@@ -263,7 +263,7 @@ class Station:
             for kind, text in self.faults_of_report(it) if it else []:
                 found.setdefault(kind, []).append(text)
         lacking = day.expected - day.epochs
-        if lacking and not (lacking == newest.name.epochs - newest.epochs and newest.name.span in lists):
+        if lacking > 0 and not (lacking == newest.name.epochs - newest.epochs and newest.name.span in lists):
             self.alarm("epochs", f"the last 24 h of {length} lack {lacking} epochs of {day.expected}: {day.made} of {day.due} files are made")
         for kind, texts in found.items():
             self.alarm(kind, f"{len(texts)} earlier files of the last 24 h, as {texts[0]}")
