@@ -1,6 +1,6 @@
 use Rattle.std.proofs.Common.{List, ℕ, sym, subst}
-use Rattle.rtk_plan.specs.declared.station_capture.StationCapture.{StationCapture}
-use Rattle.rtk_plan.specs.Plan.{AreStrays, IsSpanOf}
+use Rattle.rtk_captures.specs.declared.station_capture.StationCapture.{StationCapture}
+use Rattle.rtk_captures.specs.Dating.{AreStrays, IsSpanOf}
 use Rattle.rtk_plan.proofs.planning.plan_of.Goals as goal
 
 pub returns-clause-strays : goal.returns-clause-strays
