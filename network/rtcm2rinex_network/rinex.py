@@ -19,7 +19,7 @@ KEY = 29  # columns of an epoch's line up to the end of its seconds
 CELL, FIRST_CELL = 16, 3  # columns
 TYPES = 3  # of a code: range, phase and strength
 END_OF_HEADER = rb"(?m)^.{60}END OF HEADER.*\n"
-EPOCH = rb"(?m)^>.{12}(..) (..)(.{11})"  # the hour, minute and second of its line
+EPOCH = rb"\n>.{12}(..) (..)(.{11})"  # the hour, minute and second of its line, behind the end of the line before, which is found fast
 FIELDS = {  # by the options of `label`: the label of the line, and the columns
     "run-by": ("PGM / RUN BY / DATE", 20, 40),
     "marker-number": ("MARKER NUMBER", 0, 20),
@@ -188,7 +188,7 @@ class Measure:
         if not self.has_header:
             header = re.search(END_OF_HEADER, lines)
             lines, self.has_header = lines[header.end():] if header else b"", bool(header)
-        times = re.findall(EPOCH, lines)
+        times = re.findall(EPOCH, b"\n" + lines)
         self.values += lines.count(b".") - len(times)
         self.times += [(int(hour) * 3600 + int(minute) * 60) * 1000 + round(float(second) * 1000) for hour, minute, second in times]
 
