@@ -6,6 +6,7 @@ same bytes: each write sets the time of change to that of the clock, and no prog
 
 from __future__ import annotations
 
+import errno
 import os
 import stat
 import zlib
@@ -17,6 +18,7 @@ from .names import LINKS, capture_name
 from .times import Span
 
 PIECE = 1 << 20  # bytes
+NOWHERE = (errno.ENOENT, errno.ENOTDIR, errno.ELOOP)  # how `stat` fails at a name that leads to nothing
 TICK = 5  # seconds; no later write shares the tick of a time that is older
 
 
@@ -149,13 +151,21 @@ def has_grown(path: Path, before: Sum) -> bool:
 
 
 def look_at(path: Path) -> Optional[str]:
-    """What `stat` says of a file, as lists have it: size, inode, and the times of its last write and change. None if it is gone."""
+    """What `stat` says of a file, as lists have it: size, inode, and the times of its last write and change. None if it is gone, or if links
+    lead nowhere."""
     try:
         it = os.stat(path)
-    except FileNotFoundError:
+    except OSError as fault:
+        if fault.errno not in NOWHERE:
+            raise
         return None
     times = (f"{ns // 10**9}.{ns % 10**9:09}" for ns in (it.st_mtime_ns, it.st_ctime_ns))
     return f"{it.st_size} {it.st_ino} {' '.join(times)}" if stat.S_ISREG(it.st_mode) else None
+
+
+def is_capture(path: Path) -> bool:
+    """Whether a capture is there, or was compressed, or a link that leads nowhere has its name."""
+    return os.path.lexists(path) or os.path.lexists(f"{path}.gz")
 
 
 def went(path: Path) -> bool:

@@ -11,7 +11,7 @@ from dataclasses import dataclass, field
 from pathlib import Path
 from typing import Dict, List, NamedTuple, Optional, Sequence, Set, Tuple
 
-from .captures import Sum, Unread, sum_of
+from .captures import Sum, Unread, is_capture, sum_of
 from .ends import DONE, REFUSED, Refused, Usage, say
 from .guards import count_of
 from .lists import Record, read_list
@@ -157,7 +157,7 @@ def fault_of_file(folder: Folder, span: Span, list_name: str, options: Options) 
 def fault_of_captures(folder: Folder, span: Span, file: str, record: Record) -> str:
     """Whether the file lacks a capture that is there."""
     paths = folder.captures_of(span.hours)
-    unread = record.unread & {name_of(path) for path in paths}
+    unread = {it for it in record.unread if is_capture(folder.rinex.parent / it)}
     if unread:
         return f"{file} is made without {' '.join(sorted(unread))}, which could not be read"
     for path in paths:

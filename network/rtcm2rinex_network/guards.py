@@ -227,6 +227,15 @@ def guard_conflicts(name: str, old: str, new: str) -> Iterator[str]:
         yield f"{name} would have conflicts in {conflicts} messages, where {taken} were taken, and had none: a link may be of another station"
 
 
+def guard_epochs(name: str, old: Old, new: New) -> Iterator[str]:
+    """A span has so many epochs of its interval. A link whose clock is wrong, or which sends more often, adds epochs that no other one has,
+    so nothing of the old file is lost, and still it was the better one."""
+    it, path, now = read_name(name), old.file(name), new.made[new.path.name].epochs
+    before = old.made[name].epochs if name in old.made else count_epochs(path) if path else None
+    if it and before is not None and before <= it.epochs < now:
+        yield f"{name} would have {now} epochs, and its span has {it.epochs}: the clock of a link is wrong, or its interval"
+
+
 def may_be_fewer(old: Old, by: MadeBy, report: str) -> bool:
     """Whether fewer messages may be there than before. Messages of other systems count too, so then nobody knows."""
     return systems_of(old.by.codes) != systems_of(by.codes) or count_of(report, "taken") < count_of(old.report, "taken")
@@ -244,6 +253,7 @@ def faults_of(program: Program, old: Old, new: New) -> Iterator[str]:
         yield from guard_position(old.path.name, old.header, read_header(new.path))
     if old.is_there or old.made:
         yield from guard_conflicts(old.path.name, old.report, new.report)
+    yield from guard_epochs(old.path.name, old, new)
     for file, it in new.made.items():
         name = old.name_of(file)
         if name in old.made:

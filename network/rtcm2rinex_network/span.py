@@ -130,7 +130,7 @@ class Run:
 
     def sum_of_capture(self, capture: Capture, looked: Optional[str]) -> Optional[Sum]:
         """Size and sum of a capture, of which `stat` says this. None of a gzipped one that adds nothing to a plain one: it has the same bytes,
-        or it is not whole, as while a capture is compressed."""
+        or none, or it is not whole, as while a capture is compressed."""
         known = self.before.captures.get(capture.name)
         if looked is None:
             raise Unread(f"can't read {capture.path}: {'a link that leads nowhere' if capture.path.is_symlink() else 'no regular file'}")
@@ -144,7 +144,7 @@ class Run:
             if capture.is_second and not known:
                 return None
             raise
-        return None if capture.is_second and found == first else found
+        return None if capture.is_second and (found == first or not found.size) else found
 
     def is_as_made(self, name: str, due: Optional[Sum]) -> bool:
         """Whether a file is there with the bytes with which it was made."""

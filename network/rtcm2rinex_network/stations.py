@@ -9,6 +9,7 @@ from dataclasses import dataclass, field
 from pathlib import Path
 from typing import Dict, FrozenSet, Iterator, List, NamedTuple, Optional, Set, Tuple
 
+from .captures import is_capture
 from .ends import Ended
 from .lists import MADE, Record, list_of
 from .names import LINKS, Name, capture_name, hour_of_capture, read_name
@@ -114,8 +115,8 @@ class Station:
     # ------------------------------------------------------------ links
 
     def look_at_links(self, live: Set[int]) -> None:
-        """Looks at each link that has a folder, or a source."""
-        self.links = [self.link(it, it in live) for it in LINKS if it in live or (self.row.directory / f"link{it}").is_dir()]
+        """Looks at each link that has a folder, as one that is not mounted now, or a source."""
+        self.links = [self.link(it, it in live) for it in LINKS if it in live or os.path.lexists(self.row.directory / f"link{it}")]
         if not self.links:
             self.alarm("capture", "no link has a capture")
 
@@ -323,16 +324,11 @@ def captures_in(folder: Path) -> List[str]:
     return sorted(it for it in os.listdir(folder) if re.fullmatch(r"\d{9}00\.rtcm(\.gz)?", it, re.ASCII))
 
 
-def is_capture(path: Path) -> bool:
-    """Whether a capture is there, or was compressed, or a link that leads nowhere has its name."""
-    return os.path.lexists(path) or os.path.lexists(f"{path}.gz")
-
-
 def time_of_write(path: Path) -> Optional[float]:
     """When a file was written; None of one that went, or of a link that leads nowhere."""
     try:
         return os.stat(path).st_mtime
-    except FileNotFoundError:
+    except OSError:
         return None
 
 
