@@ -60,9 +60,9 @@ class Old(NamedTuple):
         return str(name.with_kind(before.kind)) if name and before else new
 
     def file(self, name: str) -> Optional[Path]:
-        """Where a file lies, if it and that of the span are there and can be read."""
+        """Where a file lies, if it and that of the span are there and can be read. One that no list counts is compared by itself."""
         form = form_of(self.path.with_name(name))
-        return form if self.is_there and form.is_file() and not is_compact(form) else None
+        return form if (self.is_there or name not in self.made) and form.is_file() and not is_compact(form) else None
 
     def is_same(self, name: str, made: Made) -> bool:
         """Whether a file is there as it is made now."""

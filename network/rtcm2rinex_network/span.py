@@ -117,10 +117,9 @@ class Run:
             it = look_at(capture.path)
             if it is None and went(capture.path):
                 raise Again("captures go while they are read")
-            if it is not None:
-                looked[capture.seen_name] = it
             try:
                 if found := self.sum_of_capture(capture, it):
+                    looked[capture.seen_name] = it or ""
                     self.now.captures[capture.name] = found
                     readable.append(capture)
             except Unread as fault:
@@ -131,12 +130,11 @@ class Run:
     def sum_of_capture(self, capture: Capture, looked: Optional[str]) -> Optional[Sum]:
         """Size and sum of a capture, of which `stat` says this. None of a gzipped one that adds nothing to a plain one: it has the same bytes,
         or none, or it is not whole, as while a capture is compressed."""
-        known = self.before.captures.get(capture.name)
+        before = self.before.captures
+        known = before.get(capture.seen_name if capture.seen_name in before else capture.name)
         if looked is None:
             raise Unread(f"can't read {capture.path}: {'a link that leads nowhere' if capture.path.is_symlink() else 'no regular file'}")
-        first = self.now.captures.get(capture.first_name)
-        is_told = known or (capture.is_second and first == self.before.captures.get(capture.first_name))
-        if is_told and self.before.seen.get(capture.seen_name) == looked:
+        if known and self.before.seen.get(capture.seen_name) == looked:
             return known
         try:
             found = sum_of(capture.path)
@@ -144,7 +142,8 @@ class Run:
             if capture.is_second and not known:
                 return None
             raise
-        return None if capture.is_second and (found == first or not found.size) else found
+        is_more = found.size and found != self.now.captures.get(capture.first_name)
+        return found if is_more or not capture.is_second else None
 
     def is_as_made(self, name: str, due: Optional[Sum]) -> bool:
         """Whether a file is there with the bytes with which it was made."""
@@ -186,7 +185,7 @@ class Run:
         be made. A file that is there was not changed."""
         gone = [name for name in self.before.captures if name not in self.now.captures]
         is_known = all(self.before.captures.get(name) == it for name, it in self.now.captures.items())
-        is_kept = all(map(self.is_intact, self.there()))
+        is_kept = all(self.is_intact(it) for it in self.there() if it in self.before.made)
         return bool(gone) and is_known and not self.now.unread and set(gone) <= self.before.deleted and is_kept
 
     def there(self) -> List[str]:

@@ -321,7 +321,15 @@ def captures_in(folder: Path) -> List[str]:
     """The names of the captures of a link, sorted."""
     if not folder.is_dir():
         return []
-    return sorted(it for it in os.listdir(folder) if re.fullmatch(r"\d{9}00\.rtcm(\.gz)?", it, re.ASCII))
+    return sorted(it for it in os.listdir(folder) if is_name_of_capture(f"{folder.name}/{it}"))
+
+
+def is_name_of_capture(name: str) -> bool:
+    """Whether a capture has this name, of a day that there is."""
+    try:
+        return hour_of_capture(name) is not None
+    except ValueError:
+        return False
 
 
 def time_of_write(path: Path) -> Optional[float]:
