@@ -232,8 +232,8 @@ def guard_epochs(name: str, old: Old, new: New) -> Iterator[str]:
     so nothing of the old file is lost, and still it was the better one."""
     it, path, now = read_name(name), old.file(name), new.made[new.path.name].epochs
     before = old.made[name].epochs if name in old.made else count_epochs(path) if path else None
-    if it and before is not None and before <= it.epochs < now:
-        yield f"{name} would have {now} epochs, and its span has {it.epochs}: the clock of a link is wrong, or its interval"
+    if it and before is not None and before <= it.most_epochs < now:
+        yield f"{name} would have {now} epochs, and its span has {it.most_epochs}: the clock of a link is wrong, or its interval"
 
 
 def may_be_fewer(old: Old, by: MadeBy, report: str) -> bool:

@@ -34,7 +34,17 @@ class Name(NamedTuple):
     @property
     def epochs(self) -> int:
         """How many epochs a file with this name has if none is missing; at least one."""
-        return max(1, LENGTHS[self.span.length] * 1000 // (ms_of(self.interval) or DAY * 1000))
+        return max(1, LENGTHS[self.span.length] * 1000 // self.interval_ms)
+
+    @property
+    def most_epochs(self) -> int:
+        """How many it may have: one more if its span is no multiple of the interval."""
+        return -(-LENGTHS[self.span.length] * 1000 // self.interval_ms)
+
+    @property
+    def interval_ms(self) -> int:
+        """The interval in ms."""
+        return ms_of(self.interval) or DAY * 1000
 
     def with_interval(self, interval: str) -> Name:
         """The name of the same data in other steps."""

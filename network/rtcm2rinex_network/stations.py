@@ -195,7 +195,7 @@ class Station:
         since = self.clock.gps - it.name.span.end
         if since > FILE_AGES[it.name.span.length]:
             yield "file", f"the newest file of {it.name.span.length} is {it.name}, which ended {age_of(since)} ago"
-        if it.epochs != it.name.epochs:
+        if not it.name.epochs <= it.epochs <= it.name.most_epochs:
             yield "epochs", f"{it.name}: {it.epochs} epochs of {it.name.epochs}"
         yield from self.faults_of_report(it)
 
