@@ -264,7 +264,7 @@ class Auto(Case):
         done = rtcm2rinex.auto(links, made=MADE, marker="BASE")
         self.assertEqual((done.text, done.report.counts), (example("systems.rnx"), Counts(66, 2, 0, 0, 41, 23, 0, 0, 10)))
         done = rtcm2rinex.auto(links, systems="RE", channels={10: -7}, leap_seconds=18)
-        self.assertIn(" --codes R1C,R2C,E1X,E5X --msm 7 --window 4096 --channels 10:-7 --leap-seconds 18 ", done.found.convert)
+        self.assertIn(" --codes R1C,R2C,E1X,E5X --msm 7 --window 4096 --channels 1:1,10:-7 --leap-seconds 18 ", done.found.convert)
         self.assertEqual(done.report.no_channel, ("R01",))
 
     def test_an_output(self) -> None:
