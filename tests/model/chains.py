@@ -121,14 +121,15 @@ def unchecked(messages: list[Message], letters: Iterable[str], offsets: Offsets)
     return [it for it in letters if it in sent and not offsets[it] and not is_first_timing(it, messages)]
 
 
-def clock_lines(messages: list[Message], letters: Iterable[str], near: int | None) -> list[str]:
+def clock_lines(messages: list[Message], letters: list[str], near: int | None) -> list[str]:
     """The lines of a summary, of these systems, which have values; the station's first date is this moment."""
     if not stages.SUMMARIZES_GLONASS:
         offsets = offsets_of(messages)
         return [line for letter in WITH_LINE for line in offset_lines(letter, offsets[letter])]
     offsets = offsets_of(messages, None if near is None else Date(near, own=False))
     lines = [line for letter in f"R{WITH_LINE}" for line in offset_lines(letter, offsets[letter])]
-    return lines + [f" unchecked {letter}" for letter in unchecked(messages, letters, offsets)]
+    with_values = [it for it in messages if letter_of(it) in letters]
+    return lines + [f" unchecked {letter}" for letter in unchecked(with_values, letters, offsets)]
 
 
 def week_lines(payloads: list[bytes]) -> list[str]:

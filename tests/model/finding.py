@@ -306,10 +306,10 @@ def first_told(now: int, captures: list[Capture], station: int) -> dict[int, Tol
 
 
 def named_moment(now: int, capture: Capture, station: int) -> Told | None:
-    """The moment that a date names in a capture without an epoch, chosen as among those that tell a first epoch."""
+    """The earliest moment that a date names in a capture without an epoch, among those that count as they do for a first epoch."""
     dates = [(at, it) for at, it in enumerate(capture.read) if not isinstance(it, Message)][:WAITING]
     named = [Told(moment, it, at) for at, it in dates for moment in [moment_named(now, it)] if moment is not None]
-    return next(iter(counting([it for it in named if FIRST_NEAR <= it.first <= LAST_NEAR], station)), None)
+    return min(counting([it for it in named if FIRST_NEAR <= it.first <= LAST_NEAR], station), key=lambda it: it.first, default=None)
 
 
 def moment_named(now: int, fields: Fields) -> int | None:
