@@ -10,6 +10,8 @@ from .after import check_after
 from .ends import DONE, REFUSED, Ended, Refused, Usage
 from .labels import Label, checked_options, labels_beside, read_labels, strays
 from .making import check_every
+from .names import read_name
+from .places import names_below
 from .program import Program, find_program
 from .settings import Settings, read_settings
 from .sources import faults_of_sources
@@ -37,7 +39,7 @@ def run_table(words: Sequence[str]) -> int:
 def columns_of(row: Row, settings: Settings) -> str:
     """A row as --rows prints it."""
     return "\t".join([row.name9, row.station, row.marker, row.interval, str(row.interval_ms), row.codes, row.window, row.msm(settings),
-        str(row.directory), *(row.glonass.get(name, "-") for name in ("channels", "leap_seconds"))])
+        str(row.directory), *(row.glonass.get(name, "-") for name in ("channels", "leap_seconds", "with-1012"))])
 
 
 def print_rows(settings: Settings) -> int:
@@ -81,7 +83,21 @@ def faults_of_rows(settings: Settings) -> Iterator[Tuple[Row, str]]:
             if options not in known:
                 known[options] = program.fault_of_codes(options)
             fault = known[options] or fault_of_label(program, settings, row)
-        yield row, fault
+        yield row, fault or fault_of_days(row)
+
+
+def fault_of_days(row: Row) -> str:
+    """What is wrong with a row that takes messages 1012, but whose station has spans of days; nothing if it is good."""
+    if not row.has_1012:
+        return ""
+    try:
+        names = [read_name(it[:-len(".captures")]) for it in names_below(row.directory / "rinex") if it.endswith(".captures")]
+    except OSError as fault:
+        return f"{fault.filename}: {fault.strerror}"
+    for name in filter(None, names):
+        if name.name9 == row.name9 and name.span.length == "01D" and row.dates.has(name.span.begin):
+            return f"with-1012=yes is for spans of an hour, and the station has the day file {name}"
+    return ""
 
 
 def program_if_there(settings: Settings) -> Optional[Program]:

@@ -9,9 +9,8 @@ import subprocess
 import sys
 import threading
 import time
-from dataclasses import dataclass
 from pathlib import Path
-from typing import BinaryIO, Callable, Iterator, List, NoReturn, Optional, Sequence
+from typing import BinaryIO, Callable, Iterator, List, NamedTuple, NoReturn, Optional, Sequence
 
 from .captures import Unread, pieces_of
 from .ends import DONE, REFUSED, Again, Ended, Refused, Usage, say
@@ -34,8 +33,7 @@ AFTER_HOUR = 2  # seconds in which what came before the end of an hour is writte
 LONGEST_HEADER = 8_192  # bytes
 
 
-@dataclass(frozen=True)
-class LiveJob:
+class LiveJob(NamedTuple):
     """What is converted while it comes: a link of a station, in spans of a length."""
 
     settings: Settings
@@ -61,7 +59,7 @@ class LiveJob:
     def words(self, span: Span, row: Row) -> List[str]:
         """The words of `convert` by a row as captures tell it. A number of epochs by which it is behind the stream stands for the window of
         the row."""
-        return ["convert", *row.options(row.msm(self.settings)), "--near", span.start, "--made", text_of(time.time()),
+        return ["convert", *row.options(row.msm(self.settings)), "--near", row.near(span), "--made", text_of(time.time()),
             "--window", self.settings.word("WINDOW", "4"), "stdin"]
 
 
@@ -216,6 +214,7 @@ def job_of(settings: Settings, word: str) -> LiveJob:
     length = settings.word("SPAN", "01H")
     row = find_row(settings.stations, match[1], time.time() + settings.leap_seconds)
     row.msm(settings)
+    row.refuse_long(length)
     settings.number("WAIT", 60)
     settings.word("WINDOW", "4")
     return LiveJob(settings, row, int(match[2] or 1), length, find_program(settings))

@@ -15,6 +15,7 @@ DEFAULT_KIND = "4"  # of MSM, if no word says another one
 KINDS = rf"[4-7](?:,([{LETTERS}])[4-7](?!.*,\1))*"  # one for all systems, and an exception for a system at most
 NO_KINDS = "not like 7 or 7,E4,C4, with kinds from 4 to 7 and each system once"
 SLOT = r"([1-9]|1[0-9]|2[0-7]):(?:-[1-7]|[0-6])"
+WITH_1012 = "with-1012"  # the word of a row that takes GLONASS of 1012 too
 NO_CHANNELS, AUTO = "none", "auto"  # in place of channels: there are none, or captures tell them
 
 

@@ -4,24 +4,22 @@ from __future__ import annotations
 
 import os
 import re
-from dataclasses import dataclass, replace
 from pathlib import Path
-from typing import Dict, Iterator, List, Optional, Tuple
+from typing import Dict, Iterator, List, NamedTuple, Optional, Tuple
 
 from .ends import Refused
 from .names import Name
-from .settings import Settings
-from .systems import (AUTO, DEFAULT_KIND, GLONASS, GPS, KINDS, NO_KINDS, by_slots, fault_of_channels, fault_of_codes, kinds_of,
-    system_of, systems_of, type_of_data, words_of_kinds)
-from .times import Span, ms_of, text_of, time_of
+from .settings import HOUR, Settings
+from .systems import (AUTO, DEFAULT_KIND, GLONASS, GPS, KINDS, NO_KINDS, WITH_1012, by_slots, fault_of_channels, fault_of_codes,
+    kinds_of, system_of, systems_of, type_of_data, words_of_kinds)
+from .times import LENGTHS, Span, ms_of, text_of, time_of
 
 COLUMNS = "station marker name9 interval codes window directory"
 NAME9 = r"[A-Z0-9]{4}[0-9]{2}[A-Z]{3}"
 FIRST, LAST = 0, 1 << 40  # the times of what has no date
 
 
-@dataclass(frozen=True)
-class Dates:
+class Dates(NamedTuple):
     """From when until when a row or a label holds: `begin` is in it, and `end` is not."""
 
     begin: int = FIRST
@@ -36,12 +34,11 @@ class Dates:
         return self.begin < other.end and other.begin < self.end
 
 
-@dataclass(frozen=True)
-class Row:
+class Row(NamedTuple):
     """A row of the table of stations, with the number of its line.
 
     `text` has its seven columns as the list of a file keeps them. `glonass` has its words channels=, which is auto by default if a code is
-    of GLONASS, and leap_seconds=. `fault` says what is wrong with the row, and is empty if nothing is.
+    of GLONASS, leap_seconds= and with-1012=. `fault` says what is wrong with the row, and is empty if nothing is.
     """
 
     number: int
@@ -97,8 +94,23 @@ class Row:
         codes = ",".join(it for it in self.code_names if system_of(it) not in left_out)
         glonass = {name: channels if it == AUTO else it for name, it in self.glonass.items()}
         if GLONASS in left_out:
-            glonass.pop("channels", None)
-        return replace(self, codes=codes, glonass=glonass)
+            glonass = {name: it for name, it in glonass.items() if name == "leap_seconds"}
+        return self._replace(codes=codes, glonass=glonass)
+
+    @property
+    def has_1012(self) -> bool:
+        """Whether messages 1012 are taken."""
+        return WITH_1012 in self.glonass
+
+    def near(self, span: Span) -> str:
+        """The time near which the captures of a span are dated: its begin, or with 1012, which tell no day, the middle of its hour. All
+        captures of an hour and of those beside it are within half a day of this time."""
+        return text_of(span.own_hours[0] + HOUR // 2) if self.has_1012 else span.start
+
+    def refuse_long(self, length: str) -> None:
+        """Refuses spans of this length if messages 1012 are taken and could get the wrong day."""
+        if self.has_1012 and LENGTHS[length] > HOUR:
+            raise Refused(f"{WITH_1012}=yes is for spans of an hour or less, because a 1012 tells no day")
 
     def name(self, span: Span) -> Name:
         """The name of the file of a span."""
@@ -112,7 +124,8 @@ class Row:
     @property
     def codes_and_channels(self) -> List[str]:
         """Its codes as options of `convert`, and what is told of GLONASS."""
-        return ["--codes", self.codes, *(word for name, it in self.glonass.items() for word in (f"--{name.replace('_', '-')}", it))]
+        words = [[f"--{name.replace('_', '-')}", *([] if name == WITH_1012 else [it])] for name, it in self.glonass.items()]
+        return ["--codes", self.codes, *(word for its in words for word in its)]
 
     def options(self, msm: str) -> List[str]:
         """Its options of `convert`, but for the window, with this MSM."""
@@ -140,14 +153,14 @@ def read_table(path: Path) -> List[Row]:
 def read_row(number: int, line: str, beside: Path) -> Row:
     """A row. A directory that does not begin with / lies beside the table."""
     columns = re.split(r"[ \t]+", line, maxsplit=6) + [""] * 7
-    directory, words, twice = split_words(columns[6], "msm", "channels", "leap_seconds", "from", "until")
+    directory, words, twice = split_words(columns[6], "msm", "channels", "leap_seconds", WITH_1012, "from", "until")
     dates, fault = read_dates(words)
     station, marker, name9, interval, codes, window = columns[:6]
     fault = fault_of(columns[:6], directory) or (f"{twice}= is there twice" if twice else "") or fault or fault_of_words(words, codes)
     glonass = {}
     if not fault and GLONASS in systems_of(codes.split(",")):
         glonass["channels"] = by_slots(words.get("channels", AUTO))
-    glonass.update({name: words[name] for name in ("leap_seconds",) if name in words})
+    glonass.update({name: words[name] for name in ("leap_seconds", WITH_1012) if name in words})
     return Row(number, " ".join([*columns[:6], directory]), station, marker, name9, interval, codes, window, beside / directory,
         words.get("msm"), glonass, dates, fault)
 
@@ -199,11 +212,15 @@ def fault_of(columns: List[str], directory: str) -> str:
 
 
 def fault_of_words(words: Dict[str, str], codes: str) -> str:
-    """What is wrong with the words msm=, channels= and leap_seconds= of a row with these codes; nothing if they are good."""
+    """What is wrong with the words msm=, channels=, leap_seconds= and with-1012= of a row with these codes; nothing if they are good."""
     if not re.fullmatch(KINDS, words.get("msm", DEFAULT_KIND)):
         return f"msm={words['msm']} is {NO_KINDS}"
     if not re.fullmatch("[1-9]?[0-9]", words.get("leap_seconds", "0")):
         return f"leap_seconds={words['leap_seconds']} is no number from 0 to 99"
+    if words.get(WITH_1012, "yes") != "yes":
+        return f"{WITH_1012}={words[WITH_1012]} is not yes"
+    if WITH_1012 in words and GLONASS not in systems_of(codes.split(",")):
+        return f"{WITH_1012}=yes is there without a code of R"
     return fault_of_channels(words.get("channels"), codes.split(","))
 
 

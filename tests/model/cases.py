@@ -15,7 +15,9 @@ import parts
 import qualities
 import station
 import summaries
+import systems_links
 from messages import CODES, SIGNALS, frames_of
+from mixed_model import convert_mixed
 from model import Setup, moment
 from pictures import svg_picture
 from station import NOON
@@ -124,6 +126,9 @@ def hold_to_examples():
     third = frames_of(session)[2].end
     assert example("dated.rtcm") == session[:third] + station.date(43_201) + session[third:]
     assert dated == dated_links.links_of(example("dated.rtcm"))
+    systems = [example("systems_link1.rtcm"), example("systems_link2.rtcm")]
+    assert systems == systems_links.links()
+    assert example("systems.rnx").decode() == convert_mixed(systems_links.options(), systems).file
 
 
 # ---------------------------------------------------------------- small captures, each with its report in words

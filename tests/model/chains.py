@@ -1,19 +1,23 @@
-"""The slow model, part of summaries: how far the clocks of systems are apart in chains of messages, and the weeks of Galileo and
-BeiDou that messages name."""
+"""The slow model, part of summaries and of `auto`: how far the clocks of systems are apart in chains of messages, and the weeks of
+Galileo and BeiDou that messages name."""
 
 from __future__ import annotations
 
 from collections import Counter
+from typing import Iterable, NamedTuple, Optional
 
-from clocks import DAY_MS, MOSCOW_MS, glonass_parts
-from msm import type_of
-from systems import BEIDOU, GLONASS
+import stages
+from clocks import glonass_moment, leap_seconds_at, moment_of
+from model import dated
+from msm import letter_of
+from systems import BEIDOU, BY_LETTER, GLONASS
 from wire import WEEK_MS, BitReader, Message
 
 MOST_CLOCKS = 32  # so many clocks of a chain are compared
 MOST_OFFSETS = 8  # so many offsets of a system are counted
+HALF_SECOND_MS = 500
 
-# The systems whose clocks others are compared with, and those with a line, both in their order.
+# The systems whose clocks others are compared with, in their order, and those of which a summary has a line.
 TIMING = "GEJSI"
 WITH_LINE = "ECJSI"
 
@@ -21,50 +25,111 @@ WITH_LINE = "ECJSI"
 WEEKS = {1042: (511, 13), 1045: (496, 12), 1046: (504, 12)}
 
 
-def chains_of(messages: list[Message]) -> list[list[tuple[str, int]]]:
-    """The chains that ended: of each clock the letter of its system and its time."""
-    chains: list[list[tuple[str, int]]] = [[]]
+class Date(NamedTuple):
+    """What clocks of GLONASS are dated by: a moment within half a week of them, and leap seconds if some are given. Where none are
+    given, they are those of the message's own moment, or if `own` is false of that moment alone."""
+
+    near: int
+    leap: Optional[int] = None
+    own: bool = True
+
+
+def chains_of(messages: Iterable[Message]) -> list[list[Message]]:
+    """The observations of the chains that ended."""
+    chains: list[list[Message]] = [[]]
     for message in messages:
         if "tow" in message.header:
-            chains[-1].append(_clock_of(message))
+            chains[-1].append(message)
             if not message.header.get("multiple_message", message.header.get("synchronous")):
                 chains.append([])
     return [chain[:MOST_CLOCKS] for chain in chains[:-1]]
 
 
-def _clock_of(message: Message) -> tuple[str, int]:
+def _ahead(message: Message, base: int, date: Date | None) -> int | None:
+    """How far the clock of a message is ahead of this time of week, modulo a week; unknown of GLONASS without a date."""
     clock = message.header["tow"]
-    if message.header["number"] == 1004:
-        return "G", clock
-    system, _ = type_of(message)
-    if system is GLONASS:
-        day, time_of_day = glonass_parts(clock)
-        return system.letter, (DAY_MS * day + time_of_day - MOSCOW_MS) % WEEK_MS
-    return system.letter, (clock + 14_000) % WEEK_MS if system is BEIDOU else clock
+    letter = letter_of(message)
+    if letter == BEIDOU.letter:
+        return (clock + 14_000 - base) % WEEK_MS
+    if letter != GLONASS.letter:
+        return (clock - base) % WEEK_MS
+    if date is None:
+        return None
+    moment = dated(date.near, base)
+    if date.leap is None and not date.own:
+        time = glonass_moment(clock, moment, leap_seconds_at(date.near))
+    else:
+        time = moment_of(GLONASS, clock, moment, date.leap)
+    return (time - moment) % WEEK_MS
 
 
-def clock_lines(messages: list[Message]) -> list[str]:
-    """A line for each system with an offset that is not 0, of which the most frequent is told."""
-    offsets: dict[str, Counter[int]] = {letter: Counter() for letter in "GRECJSI"}
+Offsets = dict[str, "Counter[int]"]  # by letters of systems; each is modulo a week
+
+
+def offsets_of(messages: Iterable[Message], date: Date | None = None) -> Offsets:
+    """How often the clock of each system is ahead by each offset."""
+    offsets: Offsets = {letter: Counter() for letter in BY_LETTER}
     for chain in chains_of(messages):
-        at = min(range(len(chain)), key=lambda at: (f"{TIMING}CR".index(chain[at][0]), at))
-        letter, base = chain.pop(at)
-        for other, time in chain if letter in TIMING else ():
-            counted = offsets[other]
-            ahead = (time - base) % WEEK_MS
-            if ahead in counted or len(counted) < MOST_OFFSETS:
+        at = min(range(len(chain)), key=lambda at: (f"{TIMING}CR".index(letter_of(chain[at]) or ""), at))
+        base = chain.pop(at)
+        if letter_of(base) not in TIMING:
+            continue
+        for message in chain:
+            counted = offsets[letter_of(message) or ""]
+            ahead = _ahead(message, base.header["tow"], date)
+            if ahead is not None and (ahead in counted or len(counted) < MOST_OFFSETS):
                 counted[ahead] += 1
-    return [line for letter in WITH_LINE for line in _line_of(letter, offsets[letter])]
+    return offsets
 
 
-def _line_of(letter: str, counted: Counter[int]) -> list[str]:
+def signed(ahead: int) -> int:
+    """An offset modulo a week, from half a week behind to half a week ahead."""
+    return ahead if ahead <= WEEK_MS // 2 else ahead - WEEK_MS
+
+
+def told_offset(counted: Counter[int]) -> int | None:
+    """The most frequent offset that is not 0; of two that are as frequent the one nearer to 0, and then the lesser."""
     told = [ahead for ahead in counted if ahead]
-    if not told:
+    return min(told, key=lambda ahead: (-counted[ahead], abs(signed(ahead)), signed(ahead)), default=None)
+
+
+def is_wrong(counted: Counter[int]) -> bool:
+    """Whether a clock is most often half a second off or more."""
+    told = told_offset(counted)
+    return told is not None and abs(signed(told)) >= HALF_SECOND_MS and counted[told] > counted[0]
+
+
+def offset_lines(letter: str, counted: Counter[int]) -> list[str]:
+    """The line of a system whose clock is not always right."""
+    told = told_offset(counted)
+    if told is None:
         return []
-    # of two that are as frequent and as near to 0, the one behind
-    ahead = min(told, key=lambda ahead: (-counted[ahead], min(ahead, WEEK_MS - ahead), -ahead))
-    sign, ms = ("+", ahead) if ahead <= WEEK_MS // 2 else ("-", WEEK_MS - ahead)
-    return [f" clock {letter} {sign}{ms // 1000}.{ms % 1000:03} {counted[ahead]} of {sum(counted.values())}"]
+    ms = abs(signed(told))
+    sign = "+" if signed(told) > 0 else "-"
+    return [f" clock {letter} {sign}{ms // 1000}.{ms % 1000:03} {counted[told]} of {sum(counted.values())}"]
+
+
+def is_first_timing(letter: str, messages: Iterable[Message]) -> bool:
+    """Whether others are compared with a system, and none that goes before it is sent."""
+    sent = {letter_of(it) for it in messages}
+    return letter in TIMING and not any(it in sent for it in TIMING[: TIMING.index(letter)])
+
+
+def unchecked(messages: list[Message], letters: Iterable[str], offsets: Offsets) -> list[str]:
+    """The systems of these that are sent and that no chain compares, but for the first one that others are compared with."""
+    sent = {letter_of(it) for it in messages}
+    return [it for it in letters if it in sent and not offsets[it] and not is_first_timing(it, messages)]
+
+
+def clock_lines(messages: list[Message], letters: list[str], near: int | None) -> list[str]:
+    """The lines of a summary, of these systems, which have values; the station's first date is this moment."""
+    if not stages.SUMMARIZES_GLONASS:
+        offsets = offsets_of(messages)
+        return [line for letter in WITH_LINE for line in offset_lines(letter, offsets[letter])]
+    offsets = offsets_of(messages, None if near is None else Date(near, own=False))
+    lines = [line for letter in f"R{WITH_LINE}" for line in offset_lines(letter, offsets[letter])]
+    with_values = [it for it in messages if letter_of(it) in letters]
+    return lines + [f" unchecked {letter}" for letter in unchecked(with_values, letters, offsets)]
 
 
 def week_lines(payloads: list[bytes]) -> list[str]:

@@ -10,15 +10,23 @@ from __future__ import annotations
 
 import sys
 from collections import Counter
-from itertools import combinations, groupby
+from functools import lru_cache
+from itertools import combinations
 from math import dist
 from pathlib import Path
 from typing import NamedTuple
 
+import stages
+from channels import orbit_of
+from choosing import Allowed, Chosen, Sent, Wanted, choose, has_value_of_1012, leap_of
+from clocks import glonass_moment, leap_seconds_at, near_of_span
 from equipment import equipment_of
-from messages import CODES, Refusal, cells_of, frames_of, read_message
+from messages import Refusal, frames_of
 from model import civil, moment
-from wire import MSMS, WEEK_MS, BitReader, Fields, Message, table
+from msm import letter_of, read_frame
+from systems import GLONASS
+from valued import cells_in, has_value, name_of_code, names_in
+from wire import WEEK_MS, BitReader, Fields, Message, table
 
 DAY_MS = 86_400_000
 HALF_WEEK_MS = WEEK_MS // 2
@@ -103,31 +111,47 @@ class Capture(NamedTuple):
     places: list[int]  # the byte at which the frame of each begins
     frames: int
     equipped: set[int]  # the stations of which messages tell an antenna
+    orbits: list[tuple[int, int]]  # the slots and the channels of 1020
+    dating: str  # the systems whose observations tell the station, dates and spans
 
     @classmethod
-    def of(cls, text: bytes) -> Capture:
+    @lru_cache(64)
+    def of(cls, text: bytes, dating: str) -> Capture:
         read: list[Message | Fields] = []
         places: list[int] = []
         frames = frames_of(text)
         equipped = {it[0] for frame in frames for it in [equipment_of(frame.payload)] if it}
+        orbits = [it for frame in frames for it in [orbit_of(frame.payload)] if it]
         for frame in frames:
-            message = read_message(frame.payload, MSMS)
+            message = read_frame(frame.payload)
             date = date_of(frame.payload)
             if isinstance(message, Refusal) and date is None:
                 continue
             read.append(date if isinstance(message, Refusal) else message)
             places.append(frame.place)
-        return cls(read, places, len(frames), equipped)
+        return cls(read, places, len(frames), equipped, orbits, dating)
 
     def messages(self) -> list[Message]:
         return [it for it in self.read if isinstance(it, Message)]
 
     def observing(self) -> list[int]:
         """The stations with observations, in the order in which they come."""
-        return [it.header["station"] for it in self.messages() if has_observation(it)]
+        return [it.header["station"] for it in self.messages() if self.has_observation(it)]
+
+    def has_observation(self, message: Message) -> bool:
+        """A range, a phase or a strength of a system that tells dates."""
+        return (letter_of(message) or "-") in self.dating and bool(names_in(message))
+
+    def observes(self, station: int, entry: Message | Fields) -> bool:
+        return isinstance(entry, Message) and entry.header["station"] == station and self.has_observation(entry)
 
     def of_station(self, station: int) -> list[Message]:
         return [it for it in self.messages() if it.header["station"] == station]
+
+    def sent(self, station: int) -> Sent:
+        """What it has of the station."""
+        own = [it for it in self.read if not isinstance(it, Message) and it["number"] == 1013 and it["station"] == station]
+        return Sent(self.of_station(station), [it["leap_seconds"] for it in own])
 
     def is_of_station(self, station: int) -> bool:
         """Whether a message of it came, be it one with observations, with a position, with a date, or with an antenna."""
@@ -141,29 +165,11 @@ class Capture(NamedTuple):
 
     def times(self, station: int) -> list[int]:
         """The times of week of the station's messages that have an observation."""
-        return [it.header["tow"] for it in self.messages() if is_observation_of(station, it)]
+        return [it.header["tow"] for it in self.messages() if self.observes(station, it)]
 
 
 def fields_of(entry: Message | Fields) -> Fields:
     return entry.header if isinstance(entry, Message) else entry
-
-
-def has_observation(message: Message) -> bool:
-    """A range, a phase or a strength."""
-    return "tow" in message.header and bool(codes_in(message))
-
-
-def is_observation_of(station: int, message: Message | Fields) -> bool:
-    return isinstance(message, Message) and message.header["station"] == station and has_observation(message)
-
-
-def codes_in(message: Message) -> set[str]:
-    """The codes that have a value."""
-    if "tow" not in message.header:
-        return set()
-    return {
-        code for _, code, cell in cells_of(message) if (cell.range, cell.phase, cell.strength) != (None, None, None)
-    }
 
 
 class Told(NamedTuple):
@@ -182,7 +188,7 @@ def tellings(now: int, capture: Capture, station: int) -> list[Told]:
     times = capture.times(station)
     told, epochs, waited = [], 0, 0
     for place, entry in enumerate(capture.read):
-        epochs += is_observation_of(station, entry)
+        epochs += capture.observes(station, entry)
         if isinstance(entry, Message) or not times:
             continue
         waited += epochs == 0
@@ -221,7 +227,7 @@ def second_begins(capture: Capture, told: list[Told], station: int) -> int | Non
     None without a second date, and if it came before all epochs."""
     own = [it for it in told if it.fields.get("station") == station]
     others = [it for it in own if it.first != own[0].first]
-    epochs = [at for at, it in enumerate(capture.read) if is_observation_of(station, it)]
+    epochs = [at for at, it in enumerate(capture.read) if capture.observes(station, it)]
     if not others or epochs[0] > others[0].at:
         return None
     second = others[0].at
@@ -263,8 +269,7 @@ class Found(NamedTuple):
     """What a conversion of captures is told."""
 
     station: int
-    msm: int  # its number
-    codes: list[str]
+    chosen: Chosen
     near: int
     by: Fields | None  # the message that told the date
     links: list[list[int]]  # the captures of each, by their places
@@ -273,6 +278,7 @@ class Found(NamedTuple):
     skipped: list[int]  # captures without a message of it
     few: list[str]  # codes with few phases
     stray: tuple[int, list[int]] | None  # an epoch more than a day after all others, and the captures that have it
+    is_long: bool  # GLONASS is asked for, and 1012 with a value are not dated right near any moment
 
 
 def station_of(captures: list[Capture], named: int | None) -> int:
@@ -284,19 +290,6 @@ def station_of(captures: list[Capture], named: int | None) -> int:
     if named is None and len(stations) > 1:
         raise Stopped("several stations", *sorted(stations))
     return stations.pop() if named is None else named
-
-
-def epochs_with_value(messages: list[Message], number: int) -> int:
-    """How many epochs of an MSM have a value, where its time changes."""
-    return len(list(groupby(it.header["tow"] for it in messages if it.header["number"] == number and codes_in(it))))
-
-
-def msm_of(links: list[list[Message]]) -> int:
-    """The MSM with most epochs with a value on one of the links, of two alike the greater; 1074 if there is none."""
-    epochs = {number: max(epochs_with_value(link, number) for link in links) for number in MSMS}
-    if not any(epochs.values()):
-        return 1074
-    return max(MSMS, key=lambda number: (epochs[number], number))
 
 
 def first_told(now: int, captures: list[Capture], station: int) -> dict[int, Told]:
@@ -313,10 +306,10 @@ def first_told(now: int, captures: list[Capture], station: int) -> dict[int, Tol
 
 
 def named_moment(now: int, capture: Capture, station: int) -> Told | None:
-    """The moment that a date names in a capture without an epoch, chosen as among those that tell a first epoch."""
+    """The earliest moment that a date names in a capture without an epoch, among those that count as they do for a first epoch."""
     dates = [(at, it) for at, it in enumerate(capture.read) if not isinstance(it, Message)][:WAITING]
     named = [Told(moment, it, at) for at, it in dates for moment in [moment_named(now, it)] if moment is not None]
-    return next(iter(counting([it for it in named if FIRST_NEAR <= it.first <= LAST_NEAR], station)), None)
+    return min(counting([it for it in named if FIRST_NEAR <= it.first <= LAST_NEAR], station), key=lambda it: it.first, default=None)
 
 
 def moment_named(now: int, fields: Fields) -> int | None:
@@ -341,31 +334,48 @@ def stray_of(epochs: list[list[int]], places: list[int]) -> tuple[int, list[int]
     return last, [at for at, of in zip(places, epochs) if last in of]
 
 
-def few_phases(taken: list[Message], codes: list[str]) -> list[str]:
+def few_phases(messages: list[Message], chosen: Chosen) -> list[str]:
     """The codes that have fewer than half of the phases that their satellites have in the code that has most. Of a 1004 and an
     MSM of one epoch the phases of a code are counted once."""
-    cells = [(it.header["number"], satellite, code, cell) for it in taken if "tow" in it.header for satellite, code, cell in cells_of(it)]
-    shown = {(satellite, code) for _, satellite, code, cell in cells if (cell.range, cell.phase, cell.strength) != (None, None, None)}
-    by_number = Counter((number, satellite, code) for number, satellite, code, cell in cells if cell.phase is not None)
-    phases: dict[tuple[int, str], int] = {}
+    channels = chosen.slots.channels if chosen.slots else {}
+    taken = [it for it in messages if it.header["number"] in chosen.numbers]
+    cells = [
+        (it.header["number"], satellite, name_of_code(satellite[0], code), cell)
+        for it in taken
+        for satellite, code, cell in cells_in(it, channels)
+        if satellite[0] in stages.PHASES
+    ]
+    shown = {(satellite, name) for _, satellite, name, cell in cells if has_value(cell)}
+    by_number = Counter((number, satellite, name) for number, satellite, name, cell in cells if cell.phase is not None)
+    phases: dict[tuple[str, str], int] = {}
     for (_, *of), count in by_number.items():
         phases[(*of,)] = max(phases.get((*of,), 0), count)
 
-    def count(code: str, other: str) -> int:
-        return sum(n for (satellite, it), n in phases.items() if it == other and (satellite, code) in shown)
+    def count(name: str, other: str) -> int:
+        return sum(n for (satellite, it), n in phases.items() if it == other and (satellite, name) in shown)
 
-    return [code for code in codes if 2 * count(code, code) < max(count(code, other) for other in CODES)]
+    others = {name for _, name in phases}
+    return [name for name in chosen.names if 2 * count(name, name) < max((count(name, other) for other in others), default=0)]
 
 
-def find(texts: list[bytes], now: int, station: int | None = None, near: int | None = None, as_given: bool = False,
-         skip_empty: bool = False) -> Found:
-    """What is found in these captures; `near` is the moment that is named, and `as_given` that each capture is a link."""
-    everything = [Capture.of(text) for text in texts]
+def stop_if_apart(near: int, links: list[list[int]], points: list[tuple[int, ...]]) -> None:
+    """Nothing is converted if the first epoch is out of range, if there are too many links, and if positions are far apart."""
+    if not FIRST_NEAR <= near <= LAST_NEAR:
+        raise Stopped("outside the dates")
+    if len(links) > MOST_LINKS:
+        raise Stopped("too many links", len(links))
+    if any(dist(a, b) > METRES_100 for a, b in combinations(points, 2)):
+        raise Stopped("positions differ")
+
+
+def find(texts: list[bytes], now: int, wanted: Wanted = Wanted()) -> Found:
+    """What is found in these captures by what is asked for."""
+    everything, near = [Capture.of(text, wanted.dating) for text in texts], wanted.near
     if not any(it.frames for it in everything):
         raise Stopped("no frame")
-    number = station_of(everything, station)
+    number = station_of(everything, wanted.station)
     skipped = [at for at, it in enumerate(everything) if not it.is_of_station(number)]
-    if skipped and not skip_empty:
+    if skipped and not wanted.skip_empty:
         raise Stopped("nothing of the station", *skipped)
     captures = [it for at, it in enumerate(everything) if at not in skipped]
     times = [capture.times(number) for capture in captures]
@@ -382,24 +392,41 @@ def find(texts: list[bytes], now: int, station: int | None = None, near: int | N
     near = min(first for first in firsts if first is not None) // 1000 * 1000
     if any(not -HALF_WEEK_MS <= it - near < HALF_WEEK_MS for of in epochs for it in of):
         raise Stopped("give them in parts")
-    if not FIRST_NEAR <= near <= LAST_NEAR:
-        raise Stopped("outside the dates")
     by = min(dating, default=None, key=lambda it: it.first)
-    links = links_of(epochs, as_given)
-    if len(links) > MOST_LINKS:
-        raise Stopped("too many links", len(links))
-    points = [point for capture in captures for point in capture.points(number)]
-    if not as_given and any(dist(a, b) > METRES_100 for a, b in combinations(points, 2)):
-        raise Stopped("positions differ")
+    links = links_of(epochs, wanted.as_given)
+    every = [it for of in epochs for it in of]
+    span, sent = (min(every), max(every)), [it.sent(number) for it in captures]
+    middle = near_with_1012(captures, number, epochs, leap_of(sent, span, near, wanted), near) if stages.TAKES_1012 else None
+    orbits = [it for capture in everything for it in capture.orbits]
+    allowed = Allowed(span, near, middle is not None)
+    chosen = choose(sent, links, orbits, allowed, wanted)
+    if not chosen.names:
+        raise Stopped("no code")
+    stop_if_apart(near, links, [] if wanted.as_given else [point for capture in captures for point in capture.points(number)])
+    near = middle if chosen.with_1012 and middle is not None else near
     places = [at for at in range(len(texts)) if at not in skipped]
-    msm = msm_of([[it for at in link for it in captures[at].of_station(number)] for link in links])
     messages = [it for capture in captures for it in capture.of_station(number)]
-    taken = [it for it in messages if it.header["number"] in (1004, msm)]
-    codes = [it for it in CODES if it in set().union(*map(codes_in, taken))]
     return Found(
-        number, msm, codes, near, None if by is None else by.fields, [[places[at] for at in link] for link in links], epochs,
-        [places[at] for at, of in enumerate(epochs) if not of], skipped, few_phases(taken, codes), stray_of(epochs, places),
+        number, chosen, near, None if by is None else by.fields, [[places[at] for at in link] for link in links], epochs,
+        [places[at] for at, of in enumerate(epochs) if not of], skipped, few_phases(messages, chosen), stray_of(epochs, places),
+        middle is None and GLONASS.letter in wanted.letters and any(has_value_of_1012(it) for it in messages),
     )
+
+
+def near_with_1012(captures: list[Capture], station: int, epochs: list[list[int]], leap: int | None, near: int) -> int | None:
+    """The moment near which the station's 1012 are dated right, if there is one."""
+    seconds = leap_seconds_at(near) if leap is None else leap
+    every = [it for of in epochs for it in of]
+    every += [it for capture, of in zip(captures, epochs) for it in moments_of_1012(capture, station, of, seconds)]
+    middle = near_of_span(min(every), max(every))
+    return middle if middle is not None and FIRST_NEAR <= middle <= LAST_NEAR else None
+
+
+# pins: day_time, day_time_from, moment_in_day, first_moment_at, middle_up, middle_second, can_date, dates_ends
+def moments_of_1012(capture: Capture, station: int, epochs: list[int], seconds: int) -> list[int]:
+    """The moments of the station's first and last 1012 with a value: within half a day of the first and of the last epoch."""
+    clocks = [it.header["tow"] for it in capture.of_station(station) if has_value_of_1012(it)]
+    return [glonass_moment(clocks[at], epochs[at], seconds) for at in (0, -1) if clocks and epochs]
 
 
 def links_of(epochs: list[list[int]], as_given: bool = False) -> list[list[int]]:
@@ -431,7 +458,8 @@ def main() -> None:
         about = [civil(it) if stopped.cause == "dates differ" and n else it for n, it in enumerate(stopped.about)]
         sys.exit(f"{stopped.cause}: {' '.join(map(str, about))}")
     by = found.by["number"] if found.by else "-"
-    print(f"station {found.station} msm {found.msm} codes {','.join(found.codes)} near {civil(found.near):%Y-%m-%dT%H:%M:%S}")
+    chosen = found.chosen
+    print(f"station {found.station} msm {chosen.msm} codes {','.join(chosen.names)} near {civil(found.near):%Y-%m-%dT%H:%M:%S}")
     print(f"by {by} links {found.links} from {civil(min(map(min, filter(None, found.epochs))))}")
 
 

@@ -15,13 +15,16 @@ from __future__ import annotations
 
 import sys
 
+import properties
+from autos import auto_as_modelled
 from captures import capture_of
 from program import Program
-from properties import ALL, FREE, OFTEN, SELDOM, VALID, case_of
+from properties import FREE, SELDOM, VALID, Property, case_of
 from workers import Looked, Task, counts_of_all, keep, parser_of, tally_of, tasks_of
 
 CAPTURES = 12_000  # so that the false preambles stand at each distance, from 0 to 1,029 bytes
 SEED = 20260524
+OFTEN = (*properties.OFTEN, Property(auto_as_modelled, 25))
 MORE_EACH = 4  # of the properties that few captures meet, or many, if none are drawn
 
 
@@ -51,7 +54,7 @@ def main() -> int:
     if tally is None:
         return 1
     # Nothing is due of what is drawn.
-    return counts_of_all(tally, {it: it.floor if words.draws is None or it in FREE else 0 for it in ALL})
+    return counts_of_all(tally, {it: it.floor if words.draws is None or it in FREE else 0 for it in (*FREE, *VALID, *SELDOM, *OFTEN)})
 
 
 if __name__ == "__main__":

@@ -138,7 +138,7 @@ class Cell(NamedTuple):
     lock_time: int  # ms
     half: bool
     source: int  # the message's number
-    offset: int | None  # of a phase of a 1004: in 0.0005 m from the L1 range
+    offset: int | None  # of a phase of a 1004 or a 1012: in 0.0005 m from the L1 range
 
 
 CellOf = tuple[int, str, Cell]  # with its satellite and code
@@ -191,8 +191,8 @@ def _legacy_cells(message: Message) -> list[CellOf]:
     for row in message.satellites:
         satellite = row["satellite"]
         if 1 <= satellite <= 32 and satellite not in seen:
-            cells.append((satellite, L1_CODES[row["l1_code"]], _legacy_cell(row, "1")))
-            cells.append((satellite, L2_CODES[row["l2_code"]], _legacy_cell(row, "2")))
+            cells.append((satellite, L1_CODES[row["l1_code"]], legacy_cell(row, "1")))
+            cells.append((satellite, L2_CODES[row["l2_code"]], legacy_cell(row, "2")))
         seen.add(satellite)
     return cells
 
@@ -202,7 +202,7 @@ def _l1_range(row: Fields) -> int:
     return 40 * row["l1_range"] + 2 * LIGHT * row["modulus_ambiguity"]
 
 
-def _legacy_cell(row: Fields, band: str) -> Cell:
+def legacy_cell(row: Fields, band: str) -> Cell:
     """Of L1 or L2, whose phase stands beside the L1 range. If L1 has no phase, it has no range either."""
     offset, lock, cnr = (row[f"l{band}_{name}"] for name in ("offset", "lock", "cnr"))
     has_phase = offset != -(1 << 19)

@@ -9,6 +9,7 @@ from dataclasses import replace
 from random import Random
 from typing import Callable, Iterable, Mapping, Sequence
 
+import stages
 from captures import CALM_WINDOW, LAST_MADE, LAST_NEAR, NEARS, STEPS, Capture, any_marker, any_times, any_window, dealt, with_noise
 from clocks import DAY_MS, LEAP_ROWS, clock_of, leap_seconds_at
 from mixed_model import Options
@@ -78,10 +79,13 @@ class Making:
             msm=msm or some_kinds(rng),
             channels=some_channels(rng, true) if "R" in letters else None,
             leap=rng.choice((None, None, None, *some_leaps(rng, near))) if "R" in letters else None,
+            with_1012=stages.CONVERTS_1012 and "R" in letters and rng.random() < 0.3,
         )
         voices = [self.voice(system) for system in SYSTEMS if self.is_sent(system.letter, letters)]
         rng.shuffle(voices)
         self.sender = MixedSender(rng, self.options, pick, is_calm, voices, true)
+        self.sender.is_chained = rng.random() < 0.7
+        self.orbits = rng.choice((0, 0, 0.3)) if self.has("R") else 0  # before how many messages a 1020 stands
 
     def is_sent(self, letter: str, letters: Sequence[str]) -> bool:
         return self.rng.random() < (0.93 if letter in letters else 0.2)
@@ -99,6 +103,13 @@ class Making:
         kinds = (kind,) if rng.random() < 0.95 else (rng.choice(KINDS),)
         return Voice(system, kinds, tuple(sorted(bits)), tuple(sorted(signals)))
 
+    def has(self, letter: str) -> bool:
+        return any(it.system.letter == letter for it in self.sender.voices)
+
+    def take(self, **values: object) -> None:
+        """Other options."""
+        self.options = self.sender.setup = replace(self.options, **values)
+
     def change(self, letter: str, **values: object) -> None:
         """The voice of this system with other values, if it has one."""
         voices = self.sender.voices
@@ -111,6 +122,8 @@ class Making:
             for payload in self.sender.epoch(at, time):
                 if self.rng.random() < others:
                     frames.append(self.sender.frame(self.sender.any_payload(time)))
+                if self.rng.random() < self.orbits:
+                    frames.append(self.sender.frame(self.sender.orbit()))
                 frames.append(self.sender.frame(payload))
         return frames
 
@@ -158,12 +171,15 @@ def channels(rng: Random, turn: int, letters: str) -> Capture:
     making.sender.faith = rng.choice((*[SELDOM_TRUE] * 4, ALL_TRUE))
     slots = rng.sample(SLOTS, rng.randint(1, 6)) + rng.sample((25, 26, 27, 28), 2)
     making.change("R", bits=tuple(sorted(set(slots))), parts=rng.choice((1, 2)))
+    making.orbits = rng.choice((0, 0.3, 0.8))
+    if rng.random() < 0.2:
+        making.sender.channels = dict.fromkeys(SLOTS, rng.randint(-7, 6))
     times = in_order(rng, making.options.near, rng.choice(STEPS), rng.randint(1, 6))
     return making.capture(dealt(rng, making.frames(times), rng.choice((1, 2))))
 
 
 # How far a clock is ahead: GPS time in place of BeiDou's, leap seconds, a day, parts of a second.
-AHEAD = (*[14_000] * 3, -14_000, 1000, 1000, -1000, 18_000, DAY_MS, DAY_MS, -DAY_MS, 3 * DAY_MS, 1, 1, 1, 1, -1, -1, 499, 500)
+AHEAD = (*[14_000] * 3, -14_000, 1000, 1000, -1000, 18_000, *[DAY_MS] * 3, -DAY_MS, 3 * DAY_MS, *[1] * 5, -1, -1, 499, 500)
 
 
 def clocks(rng: Random, turn: int, letters: str) -> Capture:
@@ -171,7 +187,8 @@ def clocks(rng: Random, turn: int, letters: str) -> Capture:
     off, is_long = rng.choice(("C", "R", "C", "R", rng.choice(letters))), turn % 8 == 0
     window, step = (64, 200) if is_long else (rng.choice((4, 13, 14, 64)), rng.choice((1000, 200)))
     making = Making(rng, some_letters(rng, letters, off, rng.choice(letters))[:4], some_near(rng), window, True)
-    making.change(off, ahead=14_000 if is_long else rng.choice(AHEAD))
+    making.change(off, ahead=14_000 if is_long else rng.choice(AHEAD), right=rng.choice((0, 0, 0.3, 0.6)))
+    making.sender.is_chained = rng.random() < 0.9
     for voice in making.sender.voices:
         making.change(voice.system.letter, bits=voice.bits[: 1 if is_long else 2], signals=voice.signals[:1])
     times = in_order(rng, making.options.near + rng.randrange(1000), step, 80 if is_long else rng.randint(5, 24))
@@ -189,7 +206,7 @@ TURNS = (
 def turns(rng: Random, turn: int, letters: str) -> Capture:
     """Over the end of a day, a week or a leap second, or half a week from the reference."""
     first, leap = LEAP_ROWS[turn % len(LEAP_ROWS)]
-    middle = rng.choice((rng.choice(TURNS), first, first - 1000 * leap))
+    middle = rng.choice((rng.choice(TURNS), first, first, first - 1000 * leap))
     off = rng.choice((0, 0, 1000, -1000, DAY_MS // 2, -DAY_MS, 200_000_000, -200_000_000, WEEK_MS // 2, WEEK_MS // 2 + 1000, -WEEK_MS // 2))
     near = max(NEARS[0], (middle + off) // 1000 * 1000)
     is_calm = rng.random() < 0.6
@@ -274,6 +291,33 @@ def silent(rng: Random, turn: int, letters: str) -> Capture:
     return making.capture(dealt(rng, frames, rng.choice((1, 2))))
 
 
+# Steps of epochs of 1012: a second, and so much that some epochs last 26 hours.
+STEPS_OF_1012 = (1000, 1000, 1000, 30_000, 900_000, 2 * 3_600_000)
+
+
+def before_msm(rng: Random, turn: int, letters: str) -> Capture:
+    """1004, also of SBAS, with 1012, mostly without MSM: within half a day of the reference, and beyond. A lone 1012 may be first."""
+    chosen = some_letters(rng, letters, "G", "R", *rng.choice(((), ("S",))))
+    window, is_calm = rng.choice((CALM_WINDOW, CALM_WINDOW, 4)), rng.random() < 0.6
+    making = Making(rng, chosen, some_near(rng), window, is_calm, rng.choice((pick_any, pick_near_lock(1000))))
+    making.take(with_1012=stages.CONVERTS_1012 and "R" in chosen and rng.random() < 0.9)
+    making.sender.satellites += rng.sample(range(40, 59), 2) * rng.choice((0, 1, 2)) + rng.sample(range(1, 33), 4)
+    making.sender.most = rng.choice((3, 8, 31))
+    making.sender.legacies = dict.fromkeys(making.sender.legacies, rng.choice((0.6, 1)))
+    making.sender.without_day = rng.choice((0, 0, 0.3))
+    slots = rng.sample(SLOTS, rng.randint(1, 8)) + rng.choice(([], [33], [25, 26, 27, 28]))
+    making.change("R", bits=tuple(sorted({*slots, *rng.choice(((), (63, 64)))})), begin=rng.choice((0, 0, 1)))
+    making.change("G", begin=rng.choice((0, 0, 1)))
+    if rng.random() < 0.6:
+        making.sender.voices = [it._replace(kinds=()) for it in making.sender.voices if it.system.letter in "GR"]
+    step = rng.choice(STEPS_OF_1012)
+    count = rng.choice((rng.randint(2, 8), 14))
+    half = DAY_MS // 2
+    first = making.options.near + rng.choice((0, 1, -step * count // 2 // 1000 * 1000, half - 1000, half, -half, -half - 1000))
+    frames = making.frames(in_order(rng, first, step, count), 0.1)
+    return making.capture(dealt(rng, frames, rng.choice((1, 1, 2, 3))))
+
+
 def streams(rng: Random, turn: int, letters: str) -> Capture:
     """A stream of four systems, or of as many as there are, that fits its window."""
     chosen = ["G", "R", "E", "C"] if set("GREC") <= set(letters) else some_letters(rng, letters)
@@ -307,7 +351,7 @@ def whole(rng: Random, turn: int, letters: str) -> Capture:
 
 
 SCENES: tuple[Callable[[Random, int, str], Capture], ...] = (
-    systems, channels, clocks, turns, spans, kinds, parts, odd, late, silent, noisy, streams
+    systems, channels, clocks, turns, spans, kinds, parts, odd, late, silent, noisy, before_msm, streams
 )  # fmt: skip
 
 

@@ -5,9 +5,9 @@ from __future__ import annotations
 from fractions import Fraction
 from typing import Mapping
 
-from messages import FINE_LOCK_TIMES, LIGHT, Cell, legacy_lock_time, msm_lock_time, set_bits
-from msm import type_of
-from systems import GLONASS, SBAS, System, carrier
+from messages import FINE_LOCK_TIMES, LIGHT, Cell, cells_of, legacy_cell, legacy_lock_time, msm_lock_time, set_bits
+from msm import LEGACY, LEGACY_GLONASS, type_of
+from systems import GLONASS, SBAS, carrier
 from wire import Fields, Message, paired
 
 Channels = Mapping[int, int]  # slots of GLONASS with their channels, -7 to 6
@@ -45,6 +45,18 @@ def normal_channels(message: Message, channels: Channels) -> dict[int, int]:
     slots = set_bits(message.header["satellite_mask"], 64)
     sent = {slot: row.get("extended") for slot, row in paired(slots, message.satellites)}
     return {slot: normal_channel(sent[slot], channels.get(slot)) for slot in slots}
+
+
+def marked_slots(message: Message, channels: Channels) -> tuple[set[int], set[int]]:
+    """Of a message of GLONASS the slots that tell another channel than the given one, and those without a given one."""
+    if message.header["number"] == LEGACY_GLONASS:
+        normal = [(row["slot"], normal_channel_1012(row["channel"], channels.get(row["slot"]))) for row in message.satellites]
+        marks = (CONTRADICTED_1012, NO_CHANNEL_1012)
+    else:
+        normal = [*normal_channels(message, channels).items()]
+        marks = (CONTRADICTED, NO_CHANNEL)
+    contradicted, missing = ({slot for slot, channel in normal if channel == mark} for mark in marks)
+    return contradicted, missing
 
 
 def all_cells(message: Message, channels: Channels) -> list[MixedCell]:
@@ -134,19 +146,28 @@ def _cell_1012(row: Fields, band: str, channel: int | None) -> Cell:
         lock_time=legacy_lock_time(row[f"l{band}_lock"]),
         half=False,
         source=1012,
-        offset=offset if has_phase else None,
+        offset=offset if has_phase and frequency is not None else None,
     )
-
-
-def rolls_of_1012(rise: int, band: str) -> int:
-    """By how many times 1500 cycles a phase jumped whose offset rose by so many units of 0.0005 m. The carrier is that of
-    channel 0."""
-    frequency = carrier(GLONASS, band, 0)
-    assert frequency is not None
-    cycles = Fraction(rise, 2000) * frequency / LIGHT
-    return -1 if cycles > 750 else 1 if cycles < -750 else 0
 
 
 def sbas_of_1004(row: Fields) -> tuple[str, str] | None:
     """The satellite and the code of an entry of a 1004 that is of SBAS, whose L1 fields alone are used."""
     return (f"{SBAS.letter}{row['satellite'] - 20}", "1C") if 40 <= row["satellite"] <= 58 else None
+
+
+def has_sbas(message: Message) -> bool:
+    """Whether a message is a 1004 with a satellite of SBAS."""
+    return message.header["number"] == LEGACY and any(sbas_of_1004(row) for row in message.satellites)
+
+
+def cells_of_1004(message: Message, with_sbas: bool) -> list[MixedCell]:
+    """The cells of GPS, and those of the first entry of each satellite of SBAS, in the order of the message."""
+    cells: list[MixedCell] = []
+    seen = set()
+    for row in message.satellites:
+        satellite, sbas = row["satellite"], sbas_of_1004(row)
+        if satellite not in seen:
+            cells += [(f"G{it:02}", code, cell) for it, code, cell in cells_of(message) if it == satellite]
+            cells += [(*sbas, legacy_cell(row, "1"))] if with_sbas and sbas else []
+        seen.add(satellite)
+    return cells

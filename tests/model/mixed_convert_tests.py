@@ -15,8 +15,8 @@ from mixed_model import Options, convert_mixed, kinds_of
 from model import COUNTS, Conversion, convert, moment
 from msm import message_of, payload_of_msm
 from station import legacy_of
-from systems import BEIDOU, GALILEO, GLONASS, GPS, LETTERS, QZSS, System, number_of
-from tested import NOON, message_of_row, row_named, run_tests, same, test
+from systems import BEIDOU, GALILEO, GLONASS, GPS, LETTERS, QZSS
+from tested import NOON, message_of_row, one_cell, row_named, run_tests, same, test, without_cells
 from wire import Fields, frame_of, payload_of
 
 MADE = moment("2024-05-17T13:00:00")
@@ -30,17 +30,6 @@ def options_of(codes: str, msm: str | None = None, channels: dict[int, int] | No
 def report(lines: list[str], **counts: int) -> str:
     """Lines of a report, and its counts; those that are not named are 0."""
     return "".join(f"{line}\n" for line in [*lines, *(f"{name} {counts.get(name, 0)}" for name in COUNTS)])
-
-
-def one_cell(system: System, kind: int, time: int, bit: int, signal: int, **values: int) -> bytes:
-    """The frame of an MSM of one cell, whose rough range is 70 ms."""
-    header = {"number": number_of(system, kind), "station": 1, "tow": clock_of(system, time)}
-    return frame_of(payload_of_msm(message_of(header, {bit: {"rough_ms": 70}}, {(bit, signal): values})))
-
-
-def without_cells(system: System, kind: int, clock: int) -> bytes:
-    """The frame of an MSM without satellites."""
-    return frame_of(payload_of_msm(message_of({"number": number_of(system, kind), "station": 1, "tow": clock}, {}, {})))
 
 
 def legacy(time: int) -> bytes:

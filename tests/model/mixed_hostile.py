@@ -1,6 +1,6 @@
 #!/usr/bin/env python3
 """Converts captures of several systems that are made from a seed, and compares file, report and status with the slow model's; and so
-the summary of their bytes.
+the summary of their bytes, and what `auto` finds and writes.
 
     mixed_hostile.py --program PATH [--captures N] [--seed N] [--first N] [--jobs N] [--to-first-failure] [--keep FOLDER]
                      [--systems LETTERS]
@@ -15,7 +15,9 @@ from __future__ import annotations
 import sys
 from random import Random
 
+import auto_marks
 import mixed_marks
+from autos import auto_as_modelled
 from chains import WEEKS
 from messages import frames_of
 from mixed_captures import mixed_capture
@@ -81,11 +83,14 @@ def summarized_with_systems(case: Case) -> Answer:
     return ends_with(case.program.on(text, "summary"), 0, summary_of(text).encode(), b"")
 
 
-FREE = (Property(as_modelled, 100), Property(file_is_valid, 100), Property(same_however_dealt, 8), Property(summarized_with_systems, 100))
+FREE = (
+    Property(as_modelled, 100), Property(file_is_valid, 100), Property(same_however_dealt, 7), Property(summarized_with_systems, 100),
+    Property(auto_as_modelled, 100),
+)  # fmt: skip
 # Each capture has one more: of those whose premises it seldom meets, and else of the others.
 SELDOM = (Property(same_in_any_order, 10), Property(same_dealt_to_two, 5), Property(same_with_link_before, 2))
 OFTEN = (Property(same_with_link_again, 10), Property(same_on_standard_input, 10))
-MARKS = mixed_marks.properties()
+MARKS = mixed_marks.properties() + auto_marks.properties()
 
 
 def inspect(task: Task, program: Program) -> Looked:

@@ -9,16 +9,16 @@ from __future__ import annotations
 from dataclasses import dataclass
 from typing import Iterable, Mapping, Optional
 
+import stages
 from clocks import moment_of
-from messages import Cell, Refusal, cells_of
-from mixed_cells import CONTRADICTED, NO_CHANNEL, Channels, MixedCell, all_cells, normal_channels
+from messages import Cell, Refusal
+from mixed_cells import Channels, MixedCell, all_cells, cells_of_1004, cells_of_1012, has_sbas, marked_slots
 from mixed_files import MixedSetup, listed, records_of, text_of
 from model import Conversion, Judged, Kept, Setup, dated, found_frames, report_of
-from msm import read_any, type_of
-from systems import BY_LETTER, GLONASS, GPS, LETTERS, System, number_of
+from msm import LEGACY, LEGACY_GLONASS, letter_of, read_any, system_of
+from systems import BY_LETTER, GLONASS, GPS, LETTERS, SBAS, number_of
 from wire import Message
 
-LEGACY = 1004
 DEFAULT_KIND = "4"
 
 
@@ -47,6 +47,7 @@ class Options:
     msm: Optional[str] = None
     channels: Optional[Channels] = None
     leap: Optional[int] = None
+    with_1012: bool = False
 
     @property
     def codes(self) -> dict[str, tuple[str, ...]]:
@@ -68,7 +69,8 @@ class Options:
             "--leap-seconds": self.leap,
         }
         plain = Setup(self.station, self.near, self.made, self.marker, self.names, self.window)
-        return plain.words() + [f"{name}={value}" for name, value in more.items() if value is not None]
+        given = [f"{name}={value}" for name, value in more.items() if value is not None]
+        return plain.words() + given + ["--with-1012"] * self.with_1012
 
 
 class Taking:
@@ -80,7 +82,10 @@ class Taking:
         channels = {} if options.channels is None else options.channels
         self.file = MixedSetup(options.near, options.made, options.marker, options.codes, channels, options.leap, options.station)
         self.letters = self.file.letters
-        self.numbers = frozenset(number_of(BY_LETTER[it], options.kinds[it]) for it in self.letters)
+        self.with_1012 = options.with_1012
+        self.with_sbas = stages.CONVERTS_SBAS and SBAS.letter in self.letters
+        numbers = [number_of(BY_LETTER[it], options.kinds[it]) for it in self.letters]
+        self.numbers = frozenset(numbers + [LEGACY_GLONASS] * options.with_1012)
         self.read_before: dict[bytes, Message | Refusal] = {}  # links tell the same
         self.cells_before: dict[Message, list[MixedCell]] = {}
 
@@ -90,10 +95,12 @@ class Taking:
         return self.read_before[payload]
 
     def _read(self, payload: bytes) -> Message | Refusal:
-        """A 1004 is of GPS: if no code of GPS is listed, it is another message, whatever is wrong with it."""
-        message = read_any(payload, self.numbers)
+        """A 1004 is of GPS, and may have satellites of SBAS: if no code of these is listed, it is another message, whatever is wrong
+        with it."""
+        message = read_any(payload, self.numbers, self.with_1012)
         number = message.number if isinstance(message, Refusal) else message.header["number"]
-        return Refusal("M2", LEGACY) if number == LEGACY and GPS.letter not in self.letters else message
+        takes = GPS.letter in self.letters or self.with_sbas
+        return message if number != LEGACY or takes else Refusal("M2", LEGACY)
 
     def time_of(self, message: Message) -> int | None:
         """The moment of observations, which is told by the clock of their system."""
@@ -111,23 +118,13 @@ class Taking:
 
     def _cells_of(self, message: Message) -> list[MixedCell]:
         if message.header["number"] == LEGACY:
-            return [(f"G{satellite:02}", code, cell) for satellite, code, cell in cells_of(message)]
+            return cells_of_1004(message, self.with_sbas)
+        if message.header["number"] == LEGACY_GLONASS:
+            return cells_of_1012(message, self.file.channels)
         return all_cells(message, self.file.channels)
 
     def name_of(self, satellite: str) -> str:
         return satellite
-
-
-def system_of(message: Message) -> System | None:
-    """The system of observations; nothing of a message of the station."""
-    if "tow" not in message.header:
-        return None
-    return GPS if message.header["number"] == LEGACY else type_of(message)[0]
-
-
-def letter_of(message: Message) -> str | None:
-    system = system_of(message)
-    return None if system is None else system.letter
 
 
 def observations(judged: Iterable[Judged], kinds: tuple[str, ...]) -> list[Message]:
@@ -142,15 +139,11 @@ DATED = ("taken", "repeat", "conflict", "late")
 
 def channel_lines(taking: Taking, judged: Iterable[Judged]) -> list[str]:
     """The slots of dated messages that name another channel than the given one, and those without a given one."""
-    normal = [
-        (slot, channel)
-        for message in observations(judged, DATED)
-        if letter_of(message) == GLONASS.letter
-        for slot, channel in normal_channels(message, taking.file.channels).items()
-    ]
+    dated_messages = [it for it in observations(judged, DATED) if letter_of(it) == GLONASS.letter]
+    marked = [marked_slots(message, taking.file.channels) for message in dated_messages]
     lines = []
-    for word, mark in (("other-channel", CONTRADICTED), ("no-channel", NO_CHANNEL)):
-        slots = sorted({slot for slot, channel in normal if channel == mark})
+    for at, word in enumerate(("other-channel", "no-channel")):
+        slots = sorted({slot for it in marked for slot in it[at]})
         names = [name for name in map(GLONASS.name, slots) if name is not None]
         lines.append(" ".join([word, *(names or "-")]))
     return lines
@@ -159,7 +152,8 @@ def channel_lines(taking: Taking, judged: Iterable[Judged]) -> list[str]:
 def lines_of_systems(taking: Taking, judged: list[Judged]) -> list[str]:
     """What the report says of systems before its counts; nothing if GPS alone is listed."""
     lines = channel_lines(taking, judged) if GLONASS.letter in taking.letters else []
-    heard = {letter_of(message) for message in observations(judged, ("taken",))}
+    taken = observations(judged, ("taken",))
+    heard = {letter_of(message) for message in taken} | {SBAS.letter for message in taken if taking.with_sbas and has_sbas(message)}
     silent = [letter for letter in taking.letters if letter not in heard]
     if taking.letters != GPS.letter and silent:
         lines.append(" ".join(["no-message", *silent]))

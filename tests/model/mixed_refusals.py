@@ -15,6 +15,7 @@ from itertools import combinations
 from pathlib import Path
 from typing import NamedTuple, Optional, Union
 
+import stages
 from program import Ended, Program
 from systems import SYSTEMS
 
@@ -29,6 +30,7 @@ GOOD: dict[str, Value] = {
     "--msm": None,
     "--channels": "1:1,9:-6",
     "--leap-seconds": None,
+    "--with-1012": None,
     "links": ["empty"],
 }
 
@@ -45,6 +47,8 @@ def fault(lines: Optional[str], **words: Value) -> Fault:
 
 
 CODES, CHANNELS, NEED = "bad --codes\n", "bad --channels\n", "R codes need --channels\n"
+NEEDS_R = "--with-1012 needs R codes\n"
+FLAGS = ("--with-1012",)
 OF_GPS = "GPS codes have two characters: 1C\n"
 
 # The codes of each system, in the order of the tables.
@@ -121,6 +125,22 @@ def needs() -> list[Fault]:
     return [fault(NEED, channels=None), fault(NEED, channels=None, codes="R2P"), fault(NEED, channels=None, leap_seconds="18", msm="7,R5")]
 
 
+def needs_of_1012() -> list[Fault]:
+    """A 1012 is of GLONASS. It is looked for behind the channels, and before the links."""
+    if not stages.CONVERTS_1012:
+        return []
+    without = {"with_1012": "", "codes": "1C,E1X", "channels": None}
+    return [
+        fault(NEEDS_R, **without),
+        fault(NEEDS_R, **without, links=["empty"] * 17),
+        fault(NEEDS_R, **without, near="1980-01-06T00:00:00"),
+        fault(CHANNELS, **{**without, "channels": "1:1"}),
+        fault(NEED, with_1012="", channels=None),
+        fault("bad --marker\n", **without, marker=" X"),
+        fault(CODES, **{**without, "codes": "1C,1C"}),
+    ]
+
+
 def combined() -> list[Fault]:
     """Two causes at once: the one that is looked for first is told."""
     pairs = [(one, other) for one, other in combinations(ORDER, 2) if not set(one.words) & set(other.words)]
@@ -138,6 +158,7 @@ ACCEPTED = (
     {"--msm": "7,E7"},
     {"--leap-seconds": "0"},
     {"--leap-seconds": "99"},
+    *({"--with-1012": ""} for _ in range(stages.CONVERTS_1012)),
     {"--codes": ",".join(code if it.letter == "G" else it.letter + code for it in SYSTEMS[::-1] for code in it.codes[::-1])},
 )
 
@@ -148,7 +169,7 @@ def words_of(words: dict[str, Value]) -> list[str]:
         given["--channels"] = words.get("--channels")
     links = given.pop("links")
     assert isinstance(links, list)
-    return ["convert", *(f"{name}={value}" for name, value in given.items() if value is not None), *links]
+    return ["convert", *(name if name in FLAGS else f"{name}={value}" for name, value in given.items() if value is not None), *links]
 
 
 def difference(ended: Ended, it: Fault) -> str:
@@ -164,7 +185,7 @@ def difference(ended: Ended, it: Fault) -> str:
 def faults_of(program: Program) -> list[str]:
     """How each row fails, or nothing."""
     program.write("empty", b"")
-    refused = [*ORDER, *codes_refused(), *repeated_codes(), *channels_refused(), *refused_by_clap(), *needs(), *combined()]
+    refused = [*ORDER, *codes_refused(), *repeated_codes(), *channels_refused(), *refused_by_clap(), *needs(), *needs_of_1012(), *combined()]
     faults = []
     for it in refused:
         wrong = difference(program.run(words_of(it.words)), it)

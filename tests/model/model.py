@@ -2,7 +2,6 @@
 
 It keeps all that came and looks back over it; nothing is closed, written early or forgotten.
 """
-# pins: band_at
 # refuses: a body of a conversion that is wrong in the same way as its definition, at the values of 12,000 captures
 
 from __future__ import annotations
@@ -65,6 +64,9 @@ class Setup:
 
 
 FIRST_DAY = datetime(1980, 1, 6)
+# The carriers in Hz by which rolls of the messages before MSM are counted, by their numbers and by bands. A channel of GLONASS changes
+# little, so they are those of channel 0.
+ROLLING = {1004: FREQUENCY, 1012: {"1": 1_602_000_000, "2": 1_246_000_000}}
 
 
 def civil(time: int) -> datetime:
@@ -215,7 +217,7 @@ def rolls_between(before: Cell, now: Cell, code: str) -> int:
     if before.offset is None or now.offset is None:
         return 0
     # the change in cycles times c: more than half of 1500 cycles is a jump
-    change = (now.offset - before.offset) * FREQUENCY[code[0]]
+    change = (now.offset - before.offset) * ROLLING[now.source][code[0]]
     half = 750 * 2000 * LIGHT
     return -1 if change > half else 1 if change < -half else 0
 
@@ -226,7 +228,7 @@ def step(before: Step | None, epoch: int, cell: Cell, code: str) -> tuple[bool, 
         return False, 0
     shorter = cell.source == before.cell.source and cell.lock_time < before.cell.lock_time
     slip = shorter or cell.lock_time < epoch - before.epoch
-    if slip or cell.source != 1004 or before.cell.source != 1004:
+    if slip or cell.source not in ROLLING or before.cell.source != cell.source:
         return slip, 0
     return slip, before.rolls + rolls_between(before.cell, cell, code)
 

@@ -2,10 +2,11 @@
 
 from __future__ import annotations
 
-from clocks import is_clock
+import stages
+from clocks import DAY_MS, UNKNOWN_DAY, glonass_clock, is_clock
 from messages import Refusal, read_message
-from systems import TYPES, System
-from wire import HEADERS, MSM_CELL, MSM_SATELLITE, BitReader, BitWriter, Fields, Message, ones, table
+from systems import GLONASS, GPS, TYPES, System
+from wire import HEADERS, MSM_CELL, MSM_SATELLITE, MSMS, BitReader, BitWriter, Fields, Message, ones, table
 
 # The fields of an MSM are those of GPS, whatever the system; they depend on the kind.
 HEADER = HEADERS[1074]
@@ -19,9 +20,26 @@ SATELLITE_1012 = table(
 )
 
 
+LEGACY, LEGACY_GLONASS = 1004, 1012
+# The MSM of other systems than GPS.
+BESIDE_GPS = frozenset(number for number, (system, _) in TYPES.items() if system is not GPS)
+
+
 def type_of(message: Message) -> tuple[System, int]:
     """The system and the kind of an MSM."""
     return TYPES[message.header["number"]]
+
+
+def system_of(message: Message) -> System | None:
+    """The system of observations; nothing of a message of the station."""
+    if "tow" not in message.header:
+        return None
+    return {LEGACY: GPS, LEGACY_GLONASS: GLONASS}.get(message.header["number"]) or type_of(message)[0]
+
+
+def letter_of(message: Message) -> str | None:
+    system = system_of(message)
+    return None if system is None else system.letter
 
 
 def payload_of_msm(message: Message) -> bytes:
@@ -37,13 +55,25 @@ def payload_of_msm(message: Message) -> bytes:
 
 
 def read_any(payload: bytes, numbers: frozenset[int], takes_unknown_day: bool = False) -> Message | Refusal:
-    """The message that a payload begins with, or the first cause why there is none. Of the MSM these numbers are read."""
+    """The message that a payload begins with, or the first cause why there is none. Of the MSM and 1012 these numbers are read."""
     if 8 * len(payload) < 12:
         return Refusal("M1", None)
     number = BitReader(payload).take(12)
+    if number == LEGACY_GLONASS and number in numbers:
+        return read_1012(payload)
     if number in TYPES and number in numbers:
         return _read_msm(payload, number, takes_unknown_day)
     return read_message(payload, ())
+
+
+def read_frame(payload: bytes) -> Message | Refusal:
+    """The message that a payload begins with: of GPS or a station, or an MSM of another system."""
+    read = read_message(payload, MSMS)
+    if not isinstance(read, Refusal) or read.fault != "M2":
+        return read
+    if stages.FINDS_1012:
+        return read_any(payload, BESIDE_GPS | {LEGACY_GLONASS}, True)
+    return read_any(payload, BESIDE_GPS)
 
 
 def _read_msm(payload: bytes, number: int, takes_unknown_day: bool) -> Message | Refusal:
@@ -86,8 +116,23 @@ def message_of(header: Fields, satellites: dict[int, Fields], cells: dict[tuple[
     )
 
 
-def read_1012(payload: bytes) -> Message:
-    """A 1012, which is whole."""
+def read_1012(payload: bytes) -> Message | Refusal:
+    """A 1012; its time of the week is the clock of an MSM of GLONASS that does not know the day."""
     bits = BitReader(payload)
-    header = bits.take_row(HEADER_1012)
-    return Message(header, [bits.take_row(SATELLITE_1012) for _ in range(header["satellites"])])
+    try:
+        header = bits.take_row(HEADER_1012)
+        if header["clock"] >= DAY_MS + 1000:
+            return Refusal("M4", LEGACY_GLONASS)
+        header["tow"] = glonass_clock(UNKNOWN_DAY, header["clock"])
+        return Message(header, [bits.take_row(SATELLITE_1012) for _ in range(header["satellites"])])
+    except EOFError:
+        return Refusal("M3", LEGACY_GLONASS)
+
+
+def payload_of_1012(message: Message) -> bytes:
+    """The message's bytes, with zero bits up to a whole one."""
+    bits = BitWriter()
+    bits.put_row(HEADER_1012, message.header)
+    for row in message.satellites:
+        bits.put_row(SATELLITE_1012, row)
+    return bits.to_bytes()

@@ -14,25 +14,24 @@ import re
 from collections import Counter
 from dataclasses import dataclass
 from datetime import timedelta
-from itertools import groupby, zip_longest
+from itertools import zip_longest
 from random import Random
 from typing import Callable, Iterable, NamedTuple, Optional
 
-import finding
 import qualities
-from captures import LAST_MADE, Capture
+from captures import Capture
 from checker import fault
 from damages import damaged_file
-from finding import EPHEMERIS, FIRST_DAY, SYSTEM_PARAMETERS, TEXT, Found, Stopped, find
-from messages import Placed, Refusal, frames_of, read_message, show_line
-from model import COUNTS, KINDS, Conversion, Judged, Setup, civil, convert, moment, report_of
+from finding import EPHEMERIS, FIRST_DAY, SYSTEM_PARAMETERS, TEXT, Found
+from messages import Placed, frames_of, show_line
+from model import COUNTS, KINDS, Conversion, Judged, Setup, convert, report_of
 from parts import Part, part_of, records_of
 from passes import file_of_passes
 from pictures import svg_picture, text_picture
 from program import Ended, Program
 from sender import pick_any
-from summaries import UNTAKEN, look_of, sh_quoted, summary_of
-from wire import MSMS, WEEK_MS, BitWriter, Fields, Message, frame_of
+from summaries import summary_of
+from wire import MSMS, WEEK_MS, BitWriter, frame_of
 
 MOST_LINKS = 16
 HOLDS = ""
@@ -49,6 +48,7 @@ class Case:
     program: Program
     base: Ended
     rng: Random
+    found: Found | None = None  # what `auto` found, if it made a file
 
     def convert(self, links: list[bytes], on_stdin: int | None = None) -> Ended:
         return self.program.convert(self.capture.setup, links, on_stdin)
@@ -189,119 +189,6 @@ def summarized_as_modelled(case: Case) -> Answer:
     return ends_with(case.program.on(text, "summary"), 0, summary_of(text).encode(), b"")
 
 
-# By their bytes, as link1, link10, .., link2: another order than that of their numbers.
-NAMES = sorted(f"link{at}" for at in range(1, 1000))
-
-
-def name_of(at: int) -> str:
-    """The name of the capture at this place."""
-    return NAMES[at]
-
-
-def auto_as_modelled(case: Case) -> Answer:
-    """`auto` of the links, whole or in parts and with dates among their frames, says the values that the slow model finds and
-    how it went, and writes the file of these values; or it writes nothing, and names the cause that the model finds."""
-    rng, setup = case.rng, case.capture.setup
-    texts = [with_dates(rng, setup, part) for text in case.links for part in parts_of(rng, text)]
-    rng.shuffle(texts)
-    if rng.random() < 0.1:
-        texts.append(rng.choice((b"", b"\x1f\x8b\x08")))
-    now = rng.choice((setup.made, LAST_MADE, min(setup.near + rng.randint(0, 1100 * WEEK_MS), LAST_MADE) // 1000 * 1000))
-    station, near = rng.choice((None, setup.station)), rng.choice((None, None, None, setup.near))
-    as_given, skip_empty = rng.random() < 0.2, rng.random() < 0.4
-    if station is None:
-        # what is kept of a capture is of one station: of that of its first message, before any has an observation
-        texts.sort(key=lambda it: not finding.Capture.of(it).observing())
-    made = f"{civil(now):%Y-%m-%dT%H:%M:%S}"
-    options = [f"--made={made}", f"--marker={setup.marker}", f"--window={setup.window}"]
-    options += [] if station is None else [f"--station={station}"]
-    options += [] if near is None else [f"--near={civil(near):%Y-%m-%dT%H:%M:%S}"]
-    options += ["--links-as-given"] * as_given + ["--skip-empty"] * skip_empty
-    names = [name_of(at) for at in range(len(texts))]
-    for name, text in zip(names, texts):
-        case.program.write(name, text)
-    # the order of the captures makes no difference, since their names count
-    run = case.program.run(["auto", *options, *(names if as_given else rng.sample(names, len(names)))])
-    try:
-        found = find(texts, now, station, near, as_given, skip_empty)
-    except Stopped as stopped:
-        listed = stations_text(stopped.about, texts) if "station" in STOPPED[stopped.cause] else ""
-        if stopped.cause in ("two dates", "no date"):
-            listed = re.escape(two_dates_text(now, texts, station, *stopped.about) if stopped.about else to_come_text(now, texts))
-        line = f"rtcm2rinex: {STOPPED[stopped.cause]}\n".replace("STATION", str(station)) + listed
-        is_said = re.match(line.encode(), run.err)
-        return ends_with(run, 3, b"", None) or (HOLDS if is_said else f"{run.err!r} and not {line!r}")
-    said = Setup(found.station, found.near, now, setup.marker, tuple(found.codes), setup.window, found.msm - 1070)
-    due = convert(said, [b"".join(texts[at] for at in link) for link in found.links])
-    text = auto_text(found, said, due, texts, near is None).encode()
-    if len(found.links) > 1:
-        # The reads of several links are cut elsewhere where their captures end: what was told before is told again, or the other
-        # way round; and if something is late or in conflict, it may be something else.
-        if re.search(rb"^(late|conflict) [1-9]", run.err + text, re.M):
-            is_said = run.err.startswith(text[: text.index(b"\nframes ")])
-            return HOLDS if is_said and run.status in (0, 3) else f"{run.err!r} and not {text!r}"
-        text, told = (re.sub(rb"^(taken|repeat) \d+$", b"", it, flags=re.M) for it in (text, run.err))
-        run = run._replace(err=told)
-    return ends_with(run, 0 if due.epochs else 3, due.file.encode(), text)
-
-
-def stations_text(stations: tuple[object, ...], texts: list[bytes]) -> str:
-    """A line for each of these stations and each capture with observations of it, with how many epochs its messages have."""
-    captures = [finding.Capture.of(text) for text in texts]
-    times = {(it, at): [of.header["tow"] for of in capture.of_station(it) if "tow" in of.header]
-             for it in stations for at, capture in enumerate(captures, 1) if it in capture.observing()}
-    return "".join(f" station {it} in {name_of(at - 1)}: {len(list(groupby(of)))} epochs\n" for (it, at), of in times.items())
-
-
-STOPPED = {
-    "no frame": "the captures have no frame of RTCM 3",
-    "no observation": "the captures have no GPS observations that are read",
-    "no such station": "station STATION has no GPS observations that are read",
-    "several stations": "several stations have GPS observations; choose one by --station",
-    "nothing of the station": r"captures have nothing of [^;]*; --skip-empty leaves them out",
-    "dates differ": "the captures tell dates that differ; choose one by --near",
-    "two dates": "a capture tells two dates; part it, or choose one by --near",
-    "no date": "the captures tell no date; give one, as in --near GPS-TIME-WITHIN-HALF-A-WEEK",
-    "give them in parts": "the captures are longer than half a week; convert them in parts",
-    "outside the dates": "the first epoch is not dated from 1980-01-13 to 2099-12-31; choose a date by --near",
-    "too many links": "more than 16 captures are of the same time, and 16 links are taken",
-    "positions differ": "the station stands at positions that differ; --links-as-given takes them for one",
-}
-
-
-def date_text(fields: Fields, moment: int, name: str) -> str:
-    """A date, the message that tells it, and its capture."""
-    station = f" of station {fields['station']}" if "station" in fields else ""
-    return f" {shown_time(moment)} by {fields['number']}{station} in {name}"
-
-
-def two_dates_text(now: int, texts: list[bytes], station: int | None, at: int, byte: int) -> str:
-    """The dates of the captures that tell several, and the commands that part the one at this place at a byte."""
-    captures = [finding.Capture.of(text) for text in texts]
-    number = finding.station_of(captures, station)
-    told = [distinct(finding.counting(finding.tellings(now, it, number), number)) for it in captures]
-    lines = [date_text(it.fields, it.first, name_of(place)) for place, of in enumerate(told) for it in of if len(of) > 1]
-    kept = [place for place, it in enumerate(captures) if it.is_of_station(number)]
-    name = name_of(kept[at])
-    lines += [f" {name}: the second date begins at byte {byte}; these commands part it there:"]
-    lines += [f"head -c {byte} {name} >{name}.1", f"tail -c +{byte + 1} {name} >{name}.2"]
-    return "".join(f"{line}\n" for line in lines)
-
-
-def to_come_text(now: int, texts: list[bytes]) -> str:
-    """The first date of each capture that is passed over since it is to come."""
-    dates = [(at, finding.first_to_come(now, finding.Capture.of(text))) for at, text in enumerate(texts)]
-    moments = [(at, it, finding.DAY_MS * (it["day"] - FIRST_DAY) + 1000 * it["second"]) for at, it in dates if it is not None]
-    return "".join(f"{date_text(it, moment, name_of(at))}: it is after the time of making\n" for at, it, moment in moments)
-
-
-def parts_of(rng: Random, text: bytes) -> list[bytes]:
-    """One part, or up to three, cut behind frames."""
-    pieces = pieces_of(text)
-    cuts = sorted(rng.choices(range(len(pieces)), k=rng.choice((0, 0, 1, 2))))
-    return [b"".join(pieces[at:end]) for at, end in zip([0, *cuts], [*cuts, len(pieces)])]
-
-
 def with_dates(rng: Random, setup: Setup, text: bytes) -> bytes:
     """Up to three frames with a date among those of a capture: most often of the station, and near the reference."""
     pieces = pieces_of(text)
@@ -317,109 +204,6 @@ def with_dates(rng: Random, setup: Setup, text: bytes) -> bytes:
         bits.put_row(table, values)
         pieces.insert(rng.randrange(len(pieces)), frame_of(bits.to_bytes() + rng.randbytes(rng.choice((0, 3, 4, 120, 260)))))
     return b"".join(pieces)
-
-
-def epochs_of(file: str) -> list[int]:
-    """The moments of the records of a file."""
-    lines = file.split("END OF HEADER")[1].splitlines()
-    times = [(f"{line[2:6]}-{line[7:9]}-{line[10:12]}T{line[13:15]}:{line[16:18]}:{line[19:21].replace(' ', '0')}", line[22:25])
-             for line in lines if line.startswith(">")]
-    return [moment(time) + int(ms) for time, ms in times]
-
-
-def gap_lines(epochs: list[int]) -> list[str]:
-    """The ten longest steps that are longer than 60 s and than ten intervals, and how many more there are."""
-    steps = [(after - before, before, after) for before, after in zip(epochs, epochs[1:])]
-    counts = Counter(step for step, *_ in steps)
-    interval = min(counts, key=lambda step: (-counts[step], step), default=0)
-    gaps = sorted((it for it in steps if it[0] > max(60_000, 10 * interval)), key=lambda it: (-it[0], it[1]))
-    lines = [f" gap {shown_time(before)} until {shown_time(after)}" for _, before, after in gaps[:10]]
-    return lines + [f" more-gaps {len(gaps) - 10}"] * (len(gaps) > 10)
-
-
-def shown_time(at: int) -> str:
-    return f"{civil(at):%Y-%m-%dT%H:%M:%S}"
-
-
-def distinct(told: list[finding.Told]) -> list[finding.Told]:
-    """The first message that tells each first epoch, of the first 16 that differ."""
-    return list({it.first: it for it in told[::-1]}[first] for first in dict.fromkeys(it.first for it in told))[:16]
-
-
-SYSTEMS = {108: "GLONASS", 109: "Galileo", 110: "SBAS", 111: "QZSS", 112: "BeiDou", 113: "NavIC"}
-
-
-def auto_text(found: Found, said: Setup, due: Conversion, texts: list[bytes], is_told: bool) -> str:
-    """What `auto` says of a conversion that is done."""
-    epochs = epochs_of(due.file)
-    source = "--near"
-    if is_told and "week" in found.by:
-        first = min(epochs, default=said.near)
-        others = [f"{civil(at):%Y-%m-%d}" for at in (first - 1024 * WEEK_MS, first + 1024 * WEEK_MS) if 0 <= at <= LAST_MADE + 999]
-        source = f"1019 (or {', '.join(others)})"
-    elif is_told:
-        source = str(found.by["number"]) + (f" of station {found.by['station']}" if found.by["station"] != said.station else "")
-    lines = [" the same by hand:"]
-    marker = said.marker.lstrip("-")
-    words = (f"rtcm2rinex convert --station {said.station} --near {civil(said.near):%Y-%m-%dT%H:%M:%S}"
-             f" --made {civil(said.made):%Y-%m-%dT%H:%M:%S} --marker {'-' * (len(said.marker) - len(marker))}{sh_quoted(marker)}"
-             f" --codes {','.join(said.codes)}{'' if said.msm == 4 else f' --msm {said.msm}'} --window {said.window}")
-    cats = ["cat " + " ".join(map(name_of, link)) for link in found.links]
-    if len(cats) == 1 < len(found.links[0]):
-        lines.append(f"{cats[0]} | {words} stdin")
-    else:
-        lines += ["mkdir joined &&"] * any(len(link) > 1 for link in found.links)
-        lines += [f"{cat} >joined/{at}.rtcm &&" for at, cat in enumerate(cats, 1) if len(found.links[at - 1]) > 1]
-        files = [f"joined/{at}.rtcm" if len(link) > 1 else name_of(link[0]) for at, link in enumerate(found.links, 1)]
-        lines.append(f"{words} {' '.join(files)}")
-    lines += due.report.splitlines()[-9:]
-    counts = dict(line.split(" ") for line in lines[-9:])
-    if epochs:
-        lines.append(f" from {shown_time(epochs[0])} until {shown_time(epochs[-1])} by {source}")
-    if re.search(r"^ {8}0\.0000 {8}0\.0000 {8}0\.0000 +APPROX POSITION XYZ", due.file, re.M):
-        lines.append(" no-position: the header has zeros, as no 1005 or 1006 came in time, or the first one has zeros")
-    lines += gap_lines(epochs)
-    conflicts = sum(" conflict " in line for line in due.report.splitlines()[:-9])
-    lines += [f" conflict {conflicts}: later copies differ from the first, which the file has"] * (conflicts > 0)
-    kept = [at for at in range(len(texts)) if at not in found.skipped]
-    captures = {at: finding.Capture.of(texts[at]) for at in kept}
-    told = {at: distinct(finding.counting(finding.tellings(said.made, it, said.station), said.station)) for at, it in captures.items()}
-    if is_told:
-        lines += [f" undated {name_of(at)}: dated near the others" for (at, of), epochs in zip(told.items(), found.epochs) if epochs and not of]
-    passed = {at: distinct(finding.passed_over(finding.tellings(said.made, it, said.station), said.station)) for at, it in captures.items()}
-    others = [(at, it) for at, epochs in zip(kept, found.epochs) for it in told[at] + passed[at] if it.first != epochs[0]]
-    lines += [f" other-date{date_text(it.fields, it.first, name_of(at))}" for at, it in others]
-    lines += [f" few-phases {code}: its satellites have more than twice as many in another code" for code in found.few]
-    moment, strays = found.stray or (0, [])
-    lines += [f" stray {name_of(at)} {shown_time(moment)}" for at in strays]
-    with_stray = {number for number, link in enumerate(found.links, 1) if set(link) & set(strays)}
-    by_stray = sum(line.split()[2] == "late" and int(line.split()[1]) in with_stray for line in due.report.splitlines()[:-9])
-    of_them = f", {by_stray} of them on a link with the stray epoch" if by_stray else ""
-    late = f" late {counts['late']}: observations after {said.window} newer epochs, and new positions after {said.window} epochs, are left out"
-    lines += [late + of_them] * (counts["late"] != "0")
-    looks = {at: look_of(texts[at]) for at in found.skipped if not frames_of(texts[at])}
-    shown = {"unknown": "", "empty": " is empty", "gzip": " looks like gzip; unpack it: gzip -dc NAME >NAME.rtcm"}
-    lines += [f" skipped {name_of(at)}{shown.get(looks.get(at), '').replace('NAME', name_of(at))}" for at in found.skipped]
-    falls = [at for at, of in zip(kept, found.epochs) if of != sorted(of)]
-    lines += [f" {'no-epoch' if at in found.without else 'time-falls'} {name_of(at)}" for link in found.links for at in link
-              if at in found.without + falls]
-    read = [read_message(it.payload, MSMS) for text in texts for it in frames_of(text)]
-    others = Counter(it.number for it in read if isinstance(it, Refusal) and it.fault == "M2")
-    others.update(it.header["number"] for it in read if isinstance(it, Message) and it.header["station"] == said.station
-                  and it.header["number"] in MSMS and it.header["number"] != found.msm)
-    numbers = [*sorted(set(others) & set(MSMS)), *(it for it in sorted(others) if it in UNTAKEN or 1009 <= it <= 1012 or 1081 <= it <= 1137)]
-    left_out = [f" not in the file: {SYSTEMS.get(it // 10, 'GLONASS') if it > 1080 or 1009 <= it <= 1012 else 'GPS'} {it}, {others[it]} messages"
-                for it in numbers]
-    doppler = sum(isinstance(it, Message) and it.header["station"] == said.station and it.header["number"] == found.msm for it in read)
-    at = sum(it in MSMS for it in numbers)
-    left_out[at:at] = [f" not in the file: Doppler of {found.msm}, {doppler} messages"] * (found.msm in (1075, 1077) and doppler > 0)
-    has_sbas = [any(40 <= row["satellite"] <= 58 for row in it.satellites) for it in read if isinstance(it, Message)
-                and it.header["number"] == 1004 and it.header["station"] == said.station]
-    at += doppler > 0 and found.msm in (1075, 1077)
-    left_out[at:at] = [f" not in the file: SBAS of 1004, {sum(has_sbas)} messages"] * any(has_sbas)
-    lines += left_out
-    lines += ["rtcm2rinex: no record came; the file is a header alone"] * (due.epochs == 0)
-    return "".join(f"{line}\n" for line in lines)
 
 
 def any_file(case: Case) -> str:
@@ -676,11 +460,8 @@ OFTEN = (
     Property(shown_as_modelled, 20),
     Property(hex_shown_as_bytes, 20),
     Property(summarized_as_modelled, 20),
-    Property(auto_as_modelled, 25),
     Property(charted_as_modelled, 20),
     Property(assessed_as_modelled, 20),
     Property(cut_as_modelled, 15),
     Property(faults_are_named, 10),
 )
-
-ALL = FREE + VALID + SELDOM + OFTEN

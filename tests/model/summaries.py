@@ -8,17 +8,16 @@ from collections import Counter
 from datetime import datetime, timedelta
 from itertools import groupby
 
-from chains import clock_lines, week_lines
+from chains import Date, clock_lines, is_wrong, offsets_of, week_lines
+from channels import most_told, told_by
+from choosing import DEFAULT_KIND, has_value_of_1012, kind_of, names_shown, numbers_of, slots_shown
 from equipment import Told, equipment_lines, equipment_of
-from finding import date_of
-from messages import CODES, Refusal, cells_of, frames_of, read_message, set_bits
-from mixed_cells import all_cells
-from msm import read_any, type_of
-from systems import GLONASS, GPS, INDEX, SYSTEMS, TYPES
-from wire import MSMS, Fields, Message, paired
-
-# The MSM of other systems than GPS.
-BESIDE_GPS = frozenset(number for number, (system, _) in TYPES.items() if system is not GPS)
+from finding import FIRST_DAY, date_of
+from messages import CODES, Refusal, cells_of, frames_of
+from msm import BESIDE_GPS, LEGACY_GLONASS, letter_of, read_frame
+from systems import GLONASS, GPS, INDEX, LETTERS
+from valued import NAMES, has_value, letter_of_name, names_in, shown_in
+from wire import MSMS, WEEK_MS, Fields, Message
 
 UNTAKEN = (1001, 1002, 1003, 1071, 1072, 1073)
 NO_DATE = "GPS-TIME-WITHIN-HALF-A-WEEK"
@@ -53,17 +52,6 @@ def summary_of(text: bytes, name: str = "file") -> str:
     return "".join(f"{line}\n" for line in lines)
 
 
-def read_frame(payload: bytes) -> Message | Refusal:
-    """The message that a payload begins with: of GPS or a station, or an MSM of another system."""
-    read = read_message(payload, MSMS)
-    return read_any(payload, BESIDE_GPS) if isinstance(read, Refusal) and read.fault == "M2" else read
-
-
-def is_of_gps(read: Message | Refusal) -> bool:
-    """A message that is no MSM of another system."""
-    return not isinstance(read, Refusal) and read.header["number"] not in BESIDE_GPS
-
-
 def look_of(text: bytes) -> str:
     """What a file looks like that has no frame."""
     for mark, look in reversed(MARKS.items()):
@@ -88,6 +76,11 @@ def civil_of(date: Fields) -> str | None:
     return moment.isoformat() if is_date else None
 
 
+def moment_of_date(date: Fields) -> int:
+    """The same as a moment, in ms."""
+    return 86_400_000 * (date["day"] - FIRST_DAY) + 1000 * date["second"]
+
+
 def sh_quoted(name: str) -> str:
     return ("./" if name.startswith("-") else "") + shlex.quote(name).replace("'\"'\"'", r"'\''")
 
@@ -105,15 +98,12 @@ def unread_lines(faults: Counter[Refusal]) -> list[str]:
 
 def station_lines(name: str, station: int, messages: list[Message], dated: list[Fields], told: list[Told]) -> list[str]:
     counts = Counter(it.header["number"] for it in messages)
-    observations = [it for it in messages if is_of_gps(it) and "tow" in it.header]
-    others = [it for it in messages if not is_of_gps(it)]
+    observations = [it for it in messages if letter_of(it) == GPS.letter]
+    others = [it for it in messages if letter_of(it) not in (None, GPS.letter)]
     times = [it.header["tow"] for it in observations]
     shown = [entry for it in observations for entry in entries_of(it)]
-    of_others = {(satellite, code) for it in others for satellite, code in signals_of(it)}
-    found = {f"G{it:02}" for _, _, it, _ in shown} | {satellite for satellite, _ in of_others}
-    codes = codes_of(shown, (1004, *MSMS))
-    letters_and_codes = {(satellite[0], code) for satellite, code in of_others}
-    all_codes = [*codes, *(f"{it.letter}{code}" for it in SYSTEMS for code in it.codes if (it.letter, code) in letters_and_codes)]
+    found = {satellite for it in messages for satellite, _ in shown_in(it)}
+    names = {name for it in messages for name in names_in(it)}
     by_number = {number: [it for it in dated if it["number"] == number] for number in (1013, 1029)}
     first = (by_number[1013] + by_number[1029])[:1]
     lines = [
@@ -123,41 +113,27 @@ def station_lines(name: str, station: int, messages: list[Message], dated: list[
         *(f" date {civil_of(its[0])} {number} {len(its)}" for number, its in by_number.items() if its),
         *equipment_lines(told),
         f" satellites {' '.join(sorted(found, key=INDEX.__getitem__)) or '-'}",
-        f" codes {','.join(all_codes) or '-'}",
+        f" codes {','.join(it for it in NAMES if it in names) or '-'}",
         *epoch_lines(others),
         *channel_lines(others),
-        *clock_lines(messages),
+        *clock_lines(messages, [it for it in LETTERS if it in map(letter_of_name, names)], moment_of_date(first[0]) if first else None),
     ]
-    near = civil_of(first[0]) if first else NO_DATE
-    return lines + next_lines(name, near, station, shown) if codes else lines
-
-
-def signals_of(message: Message) -> list[tuple[str, str]]:
-    """The satellites and codes with a value, of an MSM of another system than GPS. GLONASS has no phases, since no channel is given."""
-    return [
-        (satellite, code)
-        for satellite, code, cell in all_cells(message, {})
-        if (cell.range, cell.phase, cell.strength) != (None, None, None)
-    ]
+    near = moment_of_date(first[0]) if first else None
+    words = command_words(messages, near, times)
+    return lines + next_lines(name, civil_of(first[0]) if first else NO_DATE, station, shown, words) if words else lines
 
 
 def epoch_lines(others: list[Message]) -> list[str]:
     """How many runs of messages of one clock there are, of those of each number that have a value."""
-    valued = [(it.header["number"], it.header["tow"]) for it in others if signals_of(it)]
-    clocks = {number: [clock for its, clock in valued if its == number] for number in sorted(BESIDE_GPS)}
+    valued = [(it.header["number"], it.header["tow"]) for it in others if shown_in(it)]
+    clocks = {number: [clock for its, clock in valued if its == number] for number in sorted({LEGACY_GLONASS, *BESIDE_GPS})}
     return [f" epochs {number} {len(list(groupby(its)))}" for number, its in clocks.items() if its]
 
 
 def channel_lines(others: list[Message]) -> list[str]:
     """The channels that messages of GLONASS tell, of each slot from 1 to 27."""
-    told = {
-        (slot, row["extended"] - 7)
-        for it in others
-        if type_of(it)[0] is GLONASS
-        for slot, row in paired(set_bits(it.header["satellite_mask"], 64), it.satellites)
-        if slot <= 27 and row.get("extended", 15) < 14
-    }
-    return [f" channels {','.join(f'{slot}:{channel}' for slot, channel in sorted(told))}"] if told else []
+    told = [f"{slot}:{channel}" for slot, its in sorted(told_by(others).items()) for channel in sorted(its)]
+    return [f" channels {','.join(told)}"] if told else []
 
 
 Shown = tuple[int, int, int, str]  # number of a message, time, satellite and code
@@ -169,7 +145,7 @@ def entries_of(message: Message) -> list[Shown]:
     return [
         (number, tow, satellite, code)
         for satellite, code, cell in cells_of(message)
-        if (cell.range, cell.phase, cell.strength) != (None, None, None)
+        if has_value(cell)
     ]
 
 
@@ -179,14 +155,45 @@ def codes_of(shown: list[Shown], numbers: tuple[int, ...]) -> list[str]:
     return [code for code in CODES if code in found]
 
 
-def next_lines(name: str, near: str, station: int, shown: list[Shown]) -> list[str]:
-    """The command with the MSM that has most epochs, of such the greatest; its second frequency, and the other MSM."""
+ALMOST_HALF_DAY_MS = 43_140_000
+
+
+def is_near(moment: int, tow: int) -> bool:
+    """Whether a time of week lies within half a day of a moment, but for a minute."""
+    return (tow - moment + ALMOST_HALF_DAY_MS) % WEEK_MS < 2 * ALMOST_HALF_DAY_MS
+
+
+# pins: is_time_near, slot_numbered, words_with_1012
+def command_words(messages: list[Message], near: int | None, times: list[int]) -> str:
+    """The codes, kinds and options of GLONASS of the command: of each system whose clock is right those of the MSM that has most epochs,
+    of such the greatest; of 1012 too, if the first and the last time of GPS lie near the date. Nothing without a code."""
+    offsets = offsets_of(messages, None if near is None else Date(near, own=False))
+    letters = [it for it in LETTERS if it == GPS.letter or not is_wrong(offsets[it])]
+    kinds = {it: kind_of([messages], it) or DEFAULT_KIND for it in letters}
+    is_dated = near is not None and bool(times) and is_near(near, times[0]) and is_near(near, times[-1])
+    with_1012 = is_dated and any(map(has_value_of_1012, messages))
+    names = names_shown(messages, numbers_of(kinds, with_1012))
+    kinds = {it: kind for it, kind in kinds.items() if it in map(letter_of_name, names)}
+    if not names:
+        return ""
+    first = next(iter(kinds))
+    text = ",".join([str(kinds[first]), *(f"{it}{kind}" for it, kind in kinds.items() if kind != kinds[first])])
+    words = ",".join(names) + (f" --msm {text}" if text != str(DEFAULT_KIND) else "")
+    if GLONASS.letter not in kinds:
+        return words
+    told = told_by(messages)
+    slots = sorted({*slots_shown(messages, numbers_of(kinds, with_1012), NAMES)})
+    channels = ",".join(f"{slot}:{most_told(told[slot])}" for slot in slots if slot in told) or "none"
+    return f"{words} --channels {channels}{' --with-1012' * with_1012}"
+
+
+def next_lines(name: str, near: str, station: int, shown: list[Shown], words: str) -> list[str]:
+    """The command; before it the second frequency of the MSM of GPS that has most epochs, of such the greatest, and the other MSM."""
     times = {msm: [tow for number, tow, _, _ in shown if number == msm] for msm in MSMS}
     epochs = {msm: len(list(groupby(times[msm]))) for msm in MSMS}
     most = max(MSMS, key=lambda msm: (epochs[msm], msm)) if any(epochs.values()) else 1074
-    option = "" if most == 1074 else f" --msm {most - 1070}"
     codes = codes_of(shown, (1004, most))
-    words = f"--station {station} --near {near} {MADE} --marker {station:04} --codes {','.join(codes)}{option}"
+    words = f"--station {station} --near {near} {MADE} --marker {station:04} --codes {words}"
     second = [" second-frequency 2P"] if "2P" in codes and "2W" not in codes else []
     others = [f" other-msm {msm} {n}" for msm, n in epochs.items() if n and msm != most]
     auto = f" auto rtcm2rinex auto --station {station} -o {station:04}.rnx {sh_quoted(name)}"

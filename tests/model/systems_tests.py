@@ -14,13 +14,13 @@ import worked_rows as rows
 from cell_lines import cell_lines
 from checker import fault
 from clocks import DAY_MS, LEAP_ROWS, UNKNOWN_DAY, clock_of, glonass_clock, is_clock, moment_of, near_of_span
-from messages import Cell, Refusal, _legacy_cell, frames_of
-from mixed_cells import all_cells, cells_of_1012, normal_channel_1012, normal_channels, rolls_of_1012, sbas_of_1004
+from messages import Cell, Refusal, frames_of, legacy_cell
+from mixed_cells import all_cells, cells_of_1012, normal_channel_1012, normal_channels, sbas_of_1004
 from mixed_checker import header_fault, mixed_fault
 from mixed_damages import damaged_mixed
 from mixed_files import MixedSetup, listed, mixed_file, mixed_header, slots_lines, types_lines
 from mixed_tables import some_table
-from model import civil, moment
+from model import civil, moment, rolls_between
 from msm import HEADER_1012, SATELLITE_1012, message_of, payload_of_msm, read_1012, read_any
 from systems import GLONASS, INDEX, KINDS, LETTERS, SATELLITES, SYSTEMS, TYPES, carrier, number_of
 from tested import NOON, message_of_row, ms, row_named, run_tests, same, test
@@ -89,7 +89,9 @@ def message_1012(entry: Fields) -> Message:
     bits.put_row(HEADER_1012, header)
     bits.put_row(SATELLITE_1012, {**{it.name: 0 for it in SATELLITE_1012}, **entry})
     same("bits of a 1012 with one entry", bits.width, 61 + 130)
-    return read_1012(bits.to_bytes())
+    message = read_1012(bits.to_bytes())
+    assert isinstance(message, Message), message
+    return message
 
 
 @test
@@ -99,10 +101,11 @@ def cells_of_1012_and_of_sbas() -> None:
         got = [(code, cell.range, cell.phase, cell.strength) for _, code, cell in cells]
         same(f"slot {entry['slot']}", got, due)
     row = {**{it.name: 0 for it in LEGACY_SATELLITE}, **rows.OF_SBAS}
-    cell = _legacy_cell(row, "1")
+    cell = legacy_cell(row, "1")
     same("SBAS in a 1004", (*sbas_of_1004(row), cell.range, cell.phase, cell.strength), rows.OF_SBAS_DUE)
     for band, rise, due in rows.ROLLS:
-        same(f"a rise of {rise}", (rolls_of_1012(rise, band), rolls_of_1012(-rise, band)), (due, -due))
+        at, ahead = (Cell(0, 0, None, 0, False, 1012, offset) for offset in (0, rise))
+        same(f"a rise of {rise}", (rolls_between(at, ahead, f"{band}C"), rolls_between(ahead, at, f"{band}C")), (due, -due))
 
 
 @test

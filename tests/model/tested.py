@@ -7,9 +7,9 @@ from typing import Callable
 import worked_rows as rows
 from clocks import clock_of
 from model import moment
-from msm import message_of
-from systems import SYSTEMS, number_of
-from wire import Message
+from msm import message_of, payload_of_msm
+from systems import SYSTEMS, System, number_of
+from wire import Message, frame_of
 
 NOON = moment(rows.NOON)
 TESTS: list[Callable[[], object]] = []
@@ -42,6 +42,17 @@ def message_of_row(row: rows.Row, extended: int | None = None) -> Message:
 
 def row_named(name: str) -> rows.Row:
     return next(row for row in rows.ROWS if row.name == name)
+
+
+def one_cell(system: System, kind: int, time: int, bit: int, signal: int, more: int = 0, channel: int = 0, **values: int) -> bytes:
+    """The frame of an MSM of one cell, whose rough range is 70 ms, and which says whether more of its epoch follow."""
+    header = {"number": number_of(system, kind), "station": 1, "tow": clock_of(system, time), "multiple_message": more}
+    return frame_of(payload_of_msm(message_of(header, {bit: {"rough_ms": 70, "extended": channel}}, {(bit, signal): values})))
+
+
+def without_cells(system: System, kind: int, clock: int) -> bytes:
+    """The frame of an MSM without satellites."""
+    return frame_of(payload_of_msm(message_of({"number": number_of(system, kind), "station": 1, "tow": clock}, {}, {})))
 
 
 def run_tests() -> int:

@@ -40,7 +40,12 @@ done 3<<'ROWS'
 2|--near 2024-05-17T12:00:00Z one|bad --near\n --near takes YYYY-MM-DDTHH:MM:SS (GPS), from 1980-01-13T00:00:00 to 2099-12-31T23:59:59
 2|--near "2024/05/17 12:00:00" one|bad --near\n --near takes YYYY-MM-DDTHH:MM:SS (GPS), from 1980-01-13T00:00:00 to 2099-12-31T23:59:59
 2|--near 1980-01-12T23:59:59 one|bad --near\n --near takes YYYY-MM-DDTHH:MM:SS (GPS), from 1980-01-13T00:00:00 to 2099-12-31T23:59:59
-2|--codes C1C,C2W one|bad --codes
+2|--codes C1C,C2W one|bad --codes\ncodes of C: 2I 2Q 2X 6I 6Q 6X 7I 7Q 7X 5D 5P 5X 7D 1D 1P 1X
+2|--codes G1C one|bad --codes\nGPS codes have two characters: 1C
+2|--codes R1C,R1C one|bad --codes
+2|--channels 1:7 one|bad --channels
+2|--systems GX one|bad --systems
+2|--systems "" one|bad --systems
 2|--codes 1c,2w one|bad --codes
 2|--codes "1C, 2W" one|bad --codes
 2|--marker ZÜRICH one|bad --marker
@@ -225,10 +230,10 @@ finds falls "$noon until 2024-05-17T12:00:02 by 1013" "$(command 2024-05-17T12:0
 # pins: few_phases_line_if
 finds few "$noon until 2024-05-17T12:00:03 by 1013" "$one_command few" '5 1 0 0 4 0 0 0 4' 0 '' \
     ' few-phases 2W: its satellites have more than twice as many in another code'
-# pins: msm_line
+# pins: msm_line_of
 finds stray "$two 1013" "$one_command stray" '5 2 0 0 3 0 0 0 2' 0 '' ' not in the file: GPS 1077, 1 messages'
 # The epochs are those of the file: the second epoch has a 1074 alone.
-# pins: doppler_line, doppler_of
+# pins: doppler_line, doppler_line_of
 finds '--msm 7 stray' "$noon until $noon by 1013" "$(command $noon 1C,2W ' --msm 7') stray" '5 3 0 0 2 0 0 0 1' 0 '' \
     ' not in the file: GPS 1074, 2 messages\n not in the file: Doppler of 1077, 1 messages'
 finds of_1077 "$two 1013" "$(command $noon 1C ' --msm 7') of_1077" "$counts" 0 '' ' not in the file: Doppler of 1077, 2 messages'

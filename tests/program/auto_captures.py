@@ -34,6 +34,11 @@ def place(x=0, **fields):
     return capture(point(1005, x=11_141_045_999 + x, **fields))
 
 
+def unread(number):
+    """A frame with a message of this number that is not converted: a 1012 without a satellite, or else a number alone."""
+    return frame_of((number << 52).to_bytes(8, "big") if number == 1012 else (number << 4).to_bytes(2, "big"))
+
+
 def cell_of(second, number):
     return capture(msm_of(1000 * second, {5: (70, 0)}, {(5, 2): {"cnr": 40}}, number))
 
@@ -72,7 +77,7 @@ CAPTURES = {
     "stations": ONE + epochs(NOON, station=7),
     "foreign": ONE + place(station=7) + date(43_200, 60_000, 7),
     "unread": b"".join(
-        frame_of((it << 4).to_bytes(2, "big"))
+        unread(it)
         for it in (1001, *[1003] * 12, 1072, 1009, 1012, *range(1081, 1132, 10), *range(1087, 1138, 10))),
     # numbers that no message has
     "reserved": b"".join(frame_of((it << 4).to_bytes(2, "big")) for it in range(1080, 1139) if it % 10 in (8, 9, 0)),
@@ -118,7 +123,7 @@ CAPTURES = {
     "of_1074": date(43_200) + cell_of(NOON, 1074) + cell_of(NOON + 1, 1074) + cell_of(NOON + 2, 1074),
     "of_1077_later": date(43_202) + cell_of(NOON + 2, 1077) + cell_of(NOON + 3, 1077),
     # messages of other systems, and one of GPS, that are not converted
-    "with_others": ONE + b"".join(frame_of((it << 4).to_bytes(2, "big")) for it in (1087, 1012, 1003, 1012)),
+    "with_others": ONE + b"".join(unread(it) for it in (1087, 1012, 1003, 1012)),
     "falls": date(43_200) + epochs(NOON + 1, NOON, NOON + 2),
     "few": date(43_200) + epochs(NOON, satellites=(5, 7)) + b"".join(
         capture(legacy_of(1000 * (NOON + it), [{**SATELLITE, "satellite": 5, "l2_range": -(1 << 13), "l2_offset": -(1 << 19)}]))

@@ -243,7 +243,7 @@ for number in $(seq 32 43) $(seq 45 126); do
     words $near $made BASE "1C$(printf "\\$(printf %03o "$number")")2W" x
     echo "$status $(cat out err)"
 done >told
-# pins: Lists
+# pins: ListsCodes
 refused_alike no_other_character_between_codes 'bad --codes'
 # No character of a moment is another one: none of these in any place, and no digit where none is.
 for place in $(seq 19); do

@@ -1,5 +1,5 @@
 #!/bin/sh
-# Runs `convert` with codes of all systems as a user does. The program is $1. The payloads and their values were worked out by
+# Runs `convert` and `auto` with all systems as a user does. The program is $1. The payloads and their values were worked out by
 # hand from the tables of RTCM 10403.3.
 . "$(dirname "$(readlink -f "$0")")/common"
 here=$root/tests/program
@@ -81,6 +81,9 @@ convert R1C nowhere;                   bad_words no_channels 'R codes need --cha
 convert 1C,E1C,R2P nowhere;            bad_words no_channels_among_other_codes 'R codes need --channels'
 convert 1C,E1C --channels 1:1 nowhere; bad_words channels_without_codes 'bad --channels'
 convert 1C --channels none nowhere;    bad_words no_channels_without_codes 'bad --channels'
+convert 1C,E1C --with-1012 nowhere;    bad_words obs1012_without_codes '--with-1012 needs R codes'
+convert R1C --channels none --with-1012 nowhere
+expect obs1012_with_codes 1 '' 'rtcm2rinex: cannot open nowhere'
 
 # ---- which cause comes first
 
@@ -98,6 +101,9 @@ words $early X R1C,R1C --channels x stdin stdin;  bad_words the_list_before_chan
 words $early X R1C,R1C stdin stdin;               bad_words the_list_before_missing_channels 'bad --codes'
 words $early X R1C --channels x stdin stdin;      bad_words channels_before_links 'bad --channels'
 words $early X R1C stdin stdin;                   bad_words missing_channels_before_links 'R codes need --channels'
+words $early X R1C --with-1012 stdin stdin;       bad_words missing_channels_before_1012 'R codes need --channels'
+words $early X 1C --channels none --with-1012 a;  bad_words channels_before_1012 'bad --channels'
+words $early X 1C --with-1012 stdin stdin;        bad_words obs1012_before_links '--with-1012 needs R codes'
 words $early X R1C --channels none stdin stdin;   bad_words links_before_the_reference 'bad links'
 # pins: IsFirstCause
 words $early X R1C --channels none nowhere;       bad_words the_reference_last 'bad --near'
@@ -282,15 +288,155 @@ of_glonass '  1 R10 -5' '    17' '  2024     5    17    11    59   59.0000000' '
 channels_tell - - >told
 # pins: with_given, IsLeapSecondsOf
 convert R2P --msm 7 --channels 10:-5 --leap-seconds 17 glonass.rtcm; leaves leap_seconds_that_are_given 0 want told
+# 1012 are converted with a word, and dated within half a day of --near.
+python3 "$here/framed.py" 3F400124210600818318EAEE800097221CA7FACFF289C97E >obs1012.rtcm
+# obs1012 NEAR WORD..: of station 1
+obs1012() {
+    near_=$1
+    shift
+    run convert --station 1 --near "$near_" --made $made --marker BASE --codes R1C,R2P --channels 12:-1 "$@" obs1012.rtcm
+}
+{
+    begins R
+    lines <<LINES
+R    6 C1C L1C S1C C2P L2P S2P|SYS / # / OBS TYPES
+DBHZ|SIGNAL STRENGTH UNIT
+  2020     1    25     2    16    0.0000000     GPS|TIME OF FIRST OBS
+R|SYS / PHASE SHIFT
+LINES
+    glonass '  1 R12 -1' '    18'
+    cat <<RECORD
+> 2020 01 25 02 16  0.0000000  0  1
+R12  19916942.748 8 106392733.308 8        50.500    19916941.068 7  82749896.446 7        47.750
+RECORD
+} >want
+channels_tell - - >told
+obs1012 2020-01-25T14:16:00 --with-1012; leaves obs1012_half_a_day_before_near 0 want told
+sed 's/2020     1    25/2020     1    26/; s/2020 01 25/2020 01 26/' want >later
+obs1012 2020-01-25T14:16:01 --with-1012; leaves obs1012_after_near 0 later told
+{ printf 'other-channel -\nno-channel -\nno-message R\n'; report 1 1 0 0 0 0 0 0 0; } >told
+obs1012 2020-01-25T14:16:00; cp out any; leaves obs1012_without_the_word 0 any told
 : >nothing
 { of_glonass '  1 R10 -5' '    18' "$noon" | sed '$d'; } >want
 { printf 'other-channel -\nno-channel -\nno-message R\n'; report 0 0 0 0 0 0 0 0 0; } >told
 convert R2P --channels 10:-5 nothing;                            leaves an_empty_capture_of_glonass 0 want told
 
-# `auto` finds codes of GPS alone, and refuses others by one line.
-for codes in E1X G1C R1C 1C,E1X; do
-    run auto --codes "$codes" seven.rtcm
-    expect "auto_codes_$codes" 2 '' 'rtcm2rinex: bad --codes'
+# ---- `auto`
+
+# The messages of an epoch follow each other, and the bit of DF393 is 1 in all but the last.
+more() {
+    for payload; do echo "$payload" | sed 's/^\(.............\)0/\12/'; done
+}
+python3 "$here/framed.py" $(more $G05_5X $R10_2P $E11_8X $C41_1P $J01_1X $S58_5I) $I14_5A >chained.rtcm
+no_position=' no-position: the header has zeros, as no 1005 or 1006 came in time, or the first one has zeros'
+# finds NAME FILE OPTIONS COUNTS LINES WORD..: `auto` writes FILE, as the command that it says does, and tells these lines
+finds() {
+    name=$1 file=$2 options=$3 counts=$4 said=$5
+    shift 5
+    run auto --near $near --made $made --marker BASE "$@"
+    {
+        printf ' the same by hand:\nrtcm2rinex convert --station 1 --near %s --made %s --marker BASE --codes %s\n' $near $made "$options"
+        report $counts
+        printf ' from %s until %s by --near\n%s\n%b' $near $near "$no_position" "$said"
+    } >want_err
+    leaves "auto_$name" 0 "$file" want_err
+    sed -n 's/^rtcm2rinex convert //p' err >said
+    run $(cat said | sed 's/^/convert /'); cp out again; same "auto_${name}_as_said" again "$file"
+}
+doppler=' not in the file: Doppler of 1077, 1 messages\n'
+seven_codes=5X,R2P,E8X,C1P,J1X,S5I,I5A
+seven_options="$seven_codes --msm 7 --window 4096 --channels 10:-5"
+taken='7 0 0 0 7 0 0 0 1'
+# pins: said_code, channels_option, channel_of_field
+finds seven_systems seven.rnx "$seven_options chained.rtcm" "$taken" "$doppler" chained.rtcm
+# Words go before what messages tell.
+finds codes_in_another_order seven.rnx "$seven_options chained.rtcm" "$taken" "$doppler" --codes I5A,S5I,J1X,C1P,E8X,R2P,5X chained.rtcm
+# pins: leap_option
+finds given_leap_seconds seven.rnx "$seven_options --leap-seconds 18 chained.rtcm" "$taken" "$doppler" --leap-seconds 18 chained.rtcm
+convert 5X,R2P --msm 7 --channels 10:-7 chained.rtcm; cp out other.rnx
+finds given_channels other.rnx '5X,R2P --msm 7 --window 64 --channels 10:-7 chained.rtcm' '7 5 0 0 2 0 0 0 1' \
+    "$doppler$(printf ' not in the file: %s, 1 messages\\n' 'Galileo 1097' 'SBAS 1107' 'QZSS 1117' 'BeiDou 1127' 'NavIC 1137')" \
+    --codes 5X,R2P --channels 10:-7 --window 64 chained.rtcm
+# Of a kind for each system the exceptions are said.
+python3 "$here/framed.py" $(more $G05_5X) $E36_7Q >two_kinds.rtcm
+finds kinds kinds.rnx '5X,E7Q --msm 7,E4 --window 4096 two_kinds.rtcm' '2 0 0 0 2 0 0 0 1' "$doppler" two_kinds.rtcm
+# A system that is not named is left out, and told.
+convert 5X --msm 7 two_kinds.rtcm; cp out gps_alone.rnx
+finds one_system gps_alone.rnx '5X --msm 7 --window 4096 two_kinds.rtcm' '2 1 0 0 1 0 0 0 1' \
+    "$doppler not in the file: Galileo 1094, 1 messages\n" --systems G two_kinds.rtcm
+# A message that tells no channel leaves the slot without one.
+R09_1C=43C001ACDECCC000000040000000000000200000005112C0961F6817CAF0
+python3 "$here/framed.py" $(more $G05_5X) $R09_1C >no_channel.rtcm
+convert 5X,R1C --msm 7,R4 --channels none no_channel.rtcm; cp out without.rnx
+# pins: no_channel_words, lacking_name
+finds no_channel without.rnx '5X,R1C --msm 7,R4 --window 4096 --channels none no_channel.rtcm' '2 0 0 0 2 0 0 0 1' \
+    " no-channel R09: give --channels, as a header's GLONASS SLOT / FRQ # of the same days has them\n$doppler" no_channel.rtcm
+# Clocks are compared within an epoch. BeiDou that tells GPS time is 14 s ahead, and is left out.
+chain() { python3 "$here/framed.py" "$@"; }
+chain $(more $G05_5X 467001714BE800${C41_1P#??????????????}) $I14_5A >beidou_ahead.rtcm
+convert 5X,I5A --msm 7 beidou_ahead.rtcm; cp out without.rnx
+# pins: is_wrong_offset, behind_of, gps_ahead
+finds beidou_14_s_ahead without.rnx '5X,I5A --msm 7 --window 4096 beidou_ahead.rtcm' '3 1 0 0 2 0 0 0 1' \
+    " clock C +14.000 1 of 1\n$doppler not in the file: BeiDou 1127, 1 messages\n" beidou_ahead.rtcm
+# GLONASS a day ahead is left out, and 1 ms ahead it stays in records of its own.
+chain $(more $G05_5X) 43F001CCDECCC0${R10_2P#??????????????} >day_ahead.rtcm
+finds glonass_a_day_ahead gps_alone.rnx '5X --msm 7 --window 4096 day_ahead.rtcm' '2 1 0 0 1 0 0 0 1' \
+    " clock R +86400.000 1 of 1\n$doppler not in the file: GLONASS 1087, 1 messages\n" day_ahead.rtcm
+chain $(more $G05_5X) 43F001ACDECCC4${R10_2P#??????????????} >ms_ahead.rtcm
+convert 5X,R2P --msm 7 --channels 10:-5 ms_ahead.rtcm; cp out two_records.rnx
+finds glonass_1_ms_ahead two_records.rnx '5X,R2P --msm 7 --window 4096 --channels 10:-5 ms_ahead.rtcm' '2 0 0 0 2 0 0 0 2' \
+    " clock R +0.001 1 of 1\n$doppler" ms_ahead.rtcm
+# A whole second ahead everywhere is a wrong number of leap seconds.
+chain $(more $G05_5X) 43F001ACDEDC60${R10_2P#??????????????} >second_ahead.rtcm
+convert 5X,R2P --msm 7 --channels 10:-5 --leap-seconds 17 second_ahead.rtcm; cp out second.rnx
+# pins: truly_behind, whole_seconds
+finds glonass_1_s_ahead second.rnx '5X,R2P --msm 7 --window 4096 --channels 10:-5 --leap-seconds 17 second_ahead.rtcm' '2 0 0 0 2 0 0 0 1' \
+    "$doppler" second_ahead.rtcm
+# A system whose messages stand in no epoch with another one is not compared.
+chain $G05_5X $R10_2P >apart.rtcm
+convert 5X,R2P --msm 7 --channels 10:-5 apart.rtcm; cp out apart.rnx
+# pins: unchecked_system_line
+finds glonass_apart apart.rnx '5X,R2P --msm 7 --window 4096 --channels 10:-5 apart.rtcm' '2 0 0 0 2 0 0 0 1' " unchecked R\n$doppler" apart.rtcm
+# 1012 are converted where they and all epochs lie within a day, near the middle of it.
+# legacy NAME NEAR OPTIONS PAYLOAD..: `auto` says this command, which writes the same file
+legacy() {
+    name=$1 near_=$2 options=$3
+    shift 3
+    python3 "$here/framed.py" "$@" >legacy.rtcm
+    run auto --near 2020-01-25T02:16:00 --made $made --marker BASE legacy.rtcm; cp out file; cp err said
+    echo "rtcm2rinex convert --station 1 --near $near_ --made $made --marker BASE --codes $options legacy.rtcm" >want
+    sed -n 2p said >told; same "auto_$name" told want
+    run $(sed 's/^rtcm2rinex //' told); cp out again; same "auto_${name}_as_said" again file
+}
+R12_1012=3F400124210600818318EAEE800097221CA7FACFF289C97E
+# Of 02:16:00, before other messages; of three seconds later; and of a day later.
+G05_1004=3EC0017D8AAC0210141E848000000291AC08002000000000
+G05_3_S=3EC0017D8ADAE010141E848000000291AC08002000000000
+G05_A_DAY=3EC00101F20C0010141E848000000291AC08002000000000
+# pins: day_time, day_time_from, moment_in_day, first_moment_at, middle_up, middle_second, dates_ends
+legacy with_1012 2020-01-25T02:16:02 '1C,R1C,R2P --window 4096 --channels 12:-1 --with-1012' $G05_1004 $R12_1012 $G05_3_S
+legacy with_1012_too_long 2020-01-25T02:16:00 '1C --window 4096' $G05_1004 $R12_1012 $G05_A_DAY
+# pins: long_line, unread_legacy_glonass
+echo ' untaken GLONASS 1012 1: more than a day' >want; grep 1012 said >told; same auto_with_1012_left_out told want
+# A lone 1012 before the first epoch counts too: a second before it, and not nearly a day after it.
+legacy with_a_lone_1012 2020-01-25T02:16:02 '1C,R1C,R2P --window 4096 --channels 12:-1 --with-1012' $R12_1012 $G05_3_S
+# `summary` says the word where the times lie near the date of a 1013: of the same day, and not of half a day later.
+next_of() { python3 "$here/framed.py" "$@" >dated.rtcm; run summary dated.rtcm; sed -n 's/^ next .* --codes //p' out >told; }
+# pins: is_time_near, words_with_1012
+next_of 3F5001E5F90FE70048 $G05_1004 $R12_1012; echo '1C,R1C,R2P --channels 12:-1 --with-1012 dated.rtcm' >want; same next_with_1012 told want
+next_of 3F5001E5F964470048 $G05_1004 $R12_1012; echo '1C dated.rtcm' >want; same next_without_1012 told want
+# The example of two links, in either order.
+examples=$root/examples
+for links in "1 2" "2 1"; do
+    run auto --made $made --marker BASE "$examples/systems_link${links% *}.rtcm" "$examples/systems_link${links#* }.rtcm"
+    leaves "the_example_of_systems_$links" 0 "$examples/systems.rnx" err
 done
+report 66 2 0 0 41 23 0 0 10 >want; grep -E '^(frames|other|refused|foreign|taken|repeat|conflict|late|epochs) ' err >told
+same counts_of_the_example_of_systems told want
+run auto -o systems.rnx --made $made "$examples/systems_link1.rtcm" "$examples/systems_link2.rtcm"
+# pins: marked_count
+echo 'wrote systems.rnx: 10 epochs, G 3 R 2 E 2 C 2 satellites' >want; tail -n 1 err >told; same satellites_of_the_example told want
+run auto --systems GR --codes 1C seven.rtcm
+expect auto_systems_and_codes 2 '' "$(error "the argument '--systems <LETTERS>' cannot be used with '--codes <LIST>'" 'auto --systems <LETTERS> <CAPTURE>...')"
 
 ends

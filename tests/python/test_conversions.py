@@ -259,6 +259,14 @@ class Auto(Case):
             done = rtcm2rinex.auto(captures, made=MADE, marker="BASE", codes="1C,2W,5X")
             self.assertEqual((done.text, done.report.counts), (example("session.rnx"), Counts(107, 4, 0, 1, 51, 51, 0, 0, 20)))
 
+    def test_systems(self) -> None:
+        links = [EXAMPLES / "systems_link1.rtcm", EXAMPLES / "systems_link2.rtcm"]
+        done = rtcm2rinex.auto(links, made=MADE, marker="BASE")
+        self.assertEqual((done.text, done.report.counts), (example("systems.rnx"), Counts(66, 2, 0, 0, 41, 23, 0, 0, 10)))
+        done = rtcm2rinex.auto(links, systems="RE", channels={10: -7}, leap_seconds=18)
+        self.assertIn(" --codes R1C,R2C,E1X,E5X --msm 7 --window 4096 --channels 1:1,10:-7 --leap-seconds 18 ", done.found.convert)
+        self.assertEqual(done.report.no_channel, ())
+
     def test_an_output(self) -> None:
         Path("made.rnx").write_text("old")
         with self.assertRaises(rtcm2rinex.WorkError) as raised:

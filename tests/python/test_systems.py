@@ -47,9 +47,10 @@ class Words(Case):
             ({"channels": "none"}, ["--msm=4", "--channels=none"]),
             ({"leap_seconds": 18}, ["--msm=4", "--leap-seconds=18"]),
             ({"leap_seconds": 0}, ["--msm=4", "--leap-seconds=0"]),
+            ({"with_1012": True}, ["--msm=4", "--with-1012"]),
         ]
         for options, due in rows:
-            given = {"msm": 4, "channels": None, "leap_seconds": None, **options}
+            given = {"msm": 4, "channels": None, "leap_seconds": None, "with_1012": False, **options}
             words = convert_words(2003, NOON, MADE, "BASE", ("1C", "E1X"), 64, **given)
             self.assertEqual(words, ["convert", "--station=2003", "--near=2024-05-17T12:00:00", f"--made={MADE}", "--marker=BASE",
                 "--codes=1C,E1X", "--window=64", *due], options)
@@ -67,6 +68,7 @@ class Words(Case):
             ({"codes": "1C,R1C", "channels": "1:1,1:1"}, "bad --channels", ()),
             ({"codes": "1C,E1X"}, "bad --channels", ()),
             ({"codes": "1C,E1X", "channels": {}}, "bad --channels", ()),
+            ({"codes": "1C,E1X", "channels": None, "with_1012": True}, "--with-1012 needs R codes", ()),
             ({"msm": 8}, clap.format("8", "--msm", "8 is not in 4..=7"), ()),
             ({"msm": {"E": 8}}, clap.format("4,E8", "--msm", "invalid digit found in string"), ()),
             ({"msm": {"X": 4}}, clap.format("4,X4", "--msm", "invalid digit found in string"), ()),

@@ -7,7 +7,7 @@ use Rattle.rtk_rinex.specs.declared.mixed_head_fault.MixedHeadFault.{MixedHeadFa
 use Rattle.rtk_rinex.specs.declared.mixed_head_fault.MixedHeadFault.TheVariants as fault
 use Rattle.rtk_cli.specs.declared.options.ConvertOptions.{ConvertOptions}
 use Rattle.rtk_cli.specs.declared.words.BadWords.{BadWords}
-use Rattle.rtk_cli.specs.declared.words.BadWords.TheVariants.{Codes, Channels, NoChannels}
+use Rattle.rtk_cli.specs.declared.words.BadWords.TheVariants.{Codes, Channels, NoChannels, NoGlonass}
 use Rattle.rtk_cli.specs.Steps.AnyCodeList.{in_file_order}
 use Rattle.rtk_cli.specs.Steps.ChannelList.{HasNoChannels, WritesChannels}
 use Rattle.rtk_cli.specs.Steps.ConvertWords.{SaysGlonass, SaysChannels, HasBadChannels, IsGlonassCause, IsHeadOf, IsHeadCause}
@@ -22,6 +22,7 @@ pub glonass-cause : (o : ConvertOptions) (own listed : List AnyCode) → listed 
 glonass-cause o own listed same good Codes is = absurd is
 glonass-cause o own listed same good Channels is = subst (λ (l : List AnyCode). IsMixedList l × IsGlonassCause o l Channels) same (good, is)
 glonass-cause o own listed same good NoChannels is = subst (λ (l : List AnyCode). IsMixedList l × IsGlonassCause o l NoChannels) same (good, is)
+glonass-cause o own listed same good NoGlonass is = subst (λ (l : List AnyCode). IsMixedList l × IsGlonassCause o l NoGlonass) same (good, is)
 glonass-cause o own listed same good _ is = absurd is
 
 -- a head of these parts

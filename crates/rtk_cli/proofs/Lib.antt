@@ -1,6 +1,6 @@
+mod AutoLemmas
 mod ChannelLemmas
 mod ChoiceLemmas
-mod CodeListLemmas
 mod FaultLineLemmas
 mod HeadLemmas
 mod KindLemmas

@@ -3,7 +3,7 @@ use Rattle.std.specs.Prelude.{◌≡◌, ℕ, List, codes, Option, None, Some}
 use Rattle.std.specs.Option.{option_map}
 use Rattle.rtk_label.specs.declared.label_fault.LabelFault.TheVariants.{RunBy, MarkerNumber, Observer, Agency, ReceiverNumber, ReceiverType, ReceiverVersion, AntennaNumber, AntennaType, DeltaHeight, DeltaEast, DeltaNorth}
 use Rattle.rtk_cli.specs.declared.words.BadWords.{BadWords}
-use Rattle.rtk_cli.specs.declared.words.BadWords.TheVariants.{Near, Made, Codes, CodeOfSystem, CodeOfGps, Marker, Channels, NoChannels, Links, Systems, Satellites, From, Until, Field, Files}
+use Rattle.rtk_cli.specs.declared.words.BadWords.TheVariants.{Near, Made, Codes, CodeOfSystem, CodeOfGps, Marker, Channels, NoChannels, NoGlonass, Links, Systems, Satellites, From, Until, Field, Files}
 use Rattle.rtk_cli.specs.declared.words.WordsFault.{WordsFault}
 use Rattle.rtk_cli.specs.declared.words.WordsFault.TheVariants.{Bad, OutOfMemory}
 use Rattle.rtk_cli.specs.CodeLines.{codes_line, short_code_line}
@@ -19,6 +19,7 @@ fault_line (CodeOfGps c) = codes "bad --codes"
 fault_line Marker = codes "bad --marker"
 fault_line Channels = codes "bad --channels"
 fault_line NoChannels = codes "R codes need --channels"
+fault_line NoGlonass = codes "--with-1012 needs R codes"
 fault_line Links = codes "bad links"
 fault_line Systems = codes "bad --systems"
 fault_line Satellites = codes "bad --satellites"

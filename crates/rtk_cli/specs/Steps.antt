@@ -1,7 +1,6 @@
 -- Definitions that only private clauses use.
 pub mod ClapStatus
 pub mod NameList
-pub mod CodeList
 pub mod Parts
 pub mod AnyCodeList
 pub mod KindList
@@ -14,3 +13,4 @@ pub mod ChartWords
 pub mod CutWords
 pub mod KeptWords
 pub mod LabelWords
+pub mod AutoWords

@@ -5,9 +5,21 @@ ghost use Rattle.std.specs.Prelude.{◌≡◌, ◌≤◌, IfOk, IsUtf8, string_b
 ghost use Rattle.rtk_message.specs.ShellText.{sh_quoted};
 ghost use Rattle.rtk_streams.specs.declared.exit_status.TheConstants.{FAILED, REFUSED, NOT_VALID};
 
-use rtk_message::put_sh_quoted;
+use rtk_message::{System, put_sh_quoted};
+use rtk_plan::WrittenFile;
 use rtk_streams::{FAILED, NOT_VALID, OutputFault, REFUSED, ToolFault, fail, fail_to_open};
 use std::alloc::{AllocError, Global};
+
+/// The systems in the order of a file, with their letters.
+const IN_ORDER: [(System, &str); 7] = [
+    (System::Gps, "G"),
+    (System::Glonass, "R"),
+    (System::Galileo, "E"),
+    (System::Beidou, "C"),
+    (System::Qzss, "J"),
+    (System::Sbas, "S"),
+    (System::Navic, "I"),
+];
 
 /// The name of a file as sh takes it.
 pub(crate) fn quoted(alloc: Global, name: &str) -> Result<String, AllocError>
@@ -79,14 +91,26 @@ pub(crate) fn keep_named<R: Eprint + AllocGlobal>(rt: &R, name: &str) -> u8
     NOT_VALID
 }
 
+// Says how many satellites a file has of each system that it has.
+fn say_satellites<R: Eprint>(rt: &R, file: &WrittenFile) {
+    for (system, letter) in IN_ORDER {
+        let count = file.satellites_of(system);
+        if count > 0 {
+            let _told = eprint!(rt; " {letter} {count}");
+        }
+    }
+}
+
 /// Says what a file has that has its name now, which is shown so. The work is done, whether or not it can be
 /// said.
-pub(crate) fn say_written<R: Eprint>(rt: &R, name: &str, epochs: u64, satellites: usize) {
-    let _told = if epochs == 0 {
-        eprintln!(rt; "wrote {name}: no epochs")
-    } else {
-        eprintln!(rt; "wrote {name}: {epochs} epochs, G {satellites} satellites")
-    };
+pub(crate) fn say_written<R: Eprint>(rt: &R, name: &str, epochs: u64, file: &WrittenFile) {
+    if epochs == 0 {
+        let _told = eprintln!(rt; "wrote {name}: no epochs");
+        return;
+    }
+    let _begun = eprint!(rt; "wrote {name}: {epochs} epochs,");
+    say_satellites(rt, file);
+    let _ended = eprintln!(rt; " satellites");
 }
 
 /// Says why a file does not get its name.

@@ -112,7 +112,7 @@ pub(crate) fn named_status<R: Eprint>(rt: &R, outcome: &Outcome, name: &str) -> 
 {
     let status = done_status(rt, outcome);
     if outcome.is_heard {
-        say_written(rt, name, outcome.counts.epochs, outcome.file.satellites());
+        say_written(rt, name, outcome.counts.epochs, &outcome.file);
     }
     status
 }

@@ -3,7 +3,7 @@
 ghost use Rattle.std.specs.Prelude.{map, ◌≡◌, ◌≤◌, IfOk, IfErr, Decides};
 ghost use Rattle.rtk_rinex.specs.MixedHead.{has_glonass, IsGlonassView, TellsGlonass};
 ghost use Rattle.rtk_cli.specs.FaultLines.{IsRefusal};
-ghost use Rattle.rtk_cli.specs.Steps.ConvertWords.{SaysConversion, RefusesConversion, IsLeapSecondsOf, SaysGlonass, IsHeadOf, IsGlonassCause, IsHeadCause, with_given};
+ghost use Rattle.rtk_cli.specs.Steps.ConvertWords.{SaysConversion, RefusesConversion, IsLeapSecondsOf, SaysGlonass, IsHeadOf, IsGlonassCause, IsHeadCause, with_given, with_1012_if};
 ghost use Rattle.rtk_cli.specs.Words.{AreLinkNames, IsWithinLimits};
 
 use crate::channel_list::channels_said;
@@ -55,7 +55,7 @@ fn glonass_of(channels: Channels, leap_seconds: Option<LeapSeconds>, near: GpsMs
 }
 
 // What the options tell of GLONASS, for a file with these codes. Channels without a code of GLONASS are refused as bad
-// ones.
+// ones, and 1012 need such a code.
 fn glonass_said(
     alloc: Global,
     options: &ConvertOptions,
@@ -73,6 +73,9 @@ fn glonass_said(
         None => {
             if is_due {
                 return Err(BadWords::NoChannels.into());
+            }
+            if options.with_1012 {
+                return Err(BadWords::NoGlonass.into());
             }
             return Ok(None);
         }
@@ -134,6 +137,15 @@ fn with_leap_seconds(setup: Setup, leap_seconds: Option<LeapSeconds>) -> Setup
     }
 }
 
+// The setup that takes 1012 too, if they are to be converted.
+fn with_1012_if(setup: Setup, is_asked: bool) -> Setup
+    ensures given { result ≡ with_1012_if setup is_asked }
+    ensures station { result.station ≡ setup.station }
+    ensures window { result.window ≡ setup.window }
+{
+    if is_asked { setup.with_1012() } else { setup }
+}
+
 /// The conversion that the options and the links say. The causes are looked for in the order that
 /// `BadWords` says.
 pub(crate) fn convert_job<'a>(
@@ -157,6 +169,7 @@ pub(crate) fn convert_job<'a>(
     let near = reference_said(moment)?;
     let setup = Setup::mixed(options.station, near, head, options.window);
     let setup = with_leap_seconds(with_kinds(setup, options.kinds), options.leap_seconds);
+    let setup = with_1012_if(setup, options.with_1012);
     Ok(Job::Convert { setup, links })
 }
 

@@ -31,7 +31,6 @@ mod channel_list;
 mod chart_words;
 mod clap_words;
 mod code_lines;
-mod code_list;
 mod code_words;
 mod compare_words;
 mod convert_words;

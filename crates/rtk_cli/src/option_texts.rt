@@ -1,21 +1,17 @@
 //! What the texts of options say: each by one call, which answers the cause if the words are refused.
 
-ghost use Rattle.std.specs.Prelude.{◌≡◌, ◌%◌, ◌≤◌, List, IfOk, IfErr};
+ghost use Rattle.std.specs.Prelude.{◌≡◌, ◌%◌, ◌≤◌, IfOk, IfErr};
 ghost use Rattle.rtk_obs.specs.Dating.{IsReference};
-ghost use Rattle.rtk_obs.specs.declared.code.Code.{Code};
 ghost use Rattle.rtk_obs.specs.declared.time.TheConstants.{LAST_MS};
 ghost use Rattle.rtk_rinex.specs.Header.{IsMarker};
-ghost use Rattle.rtk_cli.specs.FaultLines.{IsRefusal};
-ghost use Rattle.rtk_cli.specs.Steps.CodeList.{Lists};
+ghost use Rattle.rtk_cli.specs.Steps.AutoWords.{SaysMarkerOrNone, HasNoMarker, IsNoReference};
 ghost use Rattle.rtk_cli.specs.Steps.MomentText.{WritesMoment, HasMoment, SaysMomentOrNone, HasNoMoment};
 
-use crate::code_list::codes_of;
 use crate::moment_text::moment_of;
-use crate::words::{BadWords, WordsFault};
+use crate::words::BadWords;
 use rtk_convert::Reference;
-use rtk_obs::{Code, GpsMs};
+use rtk_obs::GpsMs;
 use rtk_rinex::{CreationTime, Marker};
-use std::alloc::Global;
 
 /// The moment that a text writes, else this cause.
 pub(crate) fn moment_said(text: &str, cause: BadWords) -> Result<GpsMs, BadWords>
@@ -54,15 +50,14 @@ pub(crate) fn made_said(text: &str) -> Result<CreationTime, BadWords>
     Ok(made)
 }
 
-/// The codes that a text lists; a code may stand twice.
-pub(crate) fn codes_said(alloc: Global, text: &str) -> Result<Vec<Code>, WordsFault>
-    ensures listed { IfOk result (λ codes. Lists text.now codes.items) }
-    // `OutOfMemory` comes only if memory is refused: tests/system/calls, rows `job of convert ..`.
-    ensures refused { IfErr result (IsRefusal (λ cause. (cause ≡ BadWords.Codes) × ((listed : List Code) → ¬ (Lists text.now listed)))) }
+/// The time of making that a text writes, or none without a text.
+pub(crate) fn made_if_any(text: Option<&str>) -> Result<Option<CreationTime>, BadWords>
+    ensures moment { IfOk result (SaysMomentOrNone text.entry) }
+    ensures cause { IfErr result (λ told. (told ≡ BadWords.Made) × HasNoMoment text.entry) }
 {
-    match codes_of(alloc, text.as_bytes())? {
-        Some(codes) => Ok(codes),
-        None => Err(BadWords::Codes.into()),
+    match text {
+        Some(text) => Ok(Some(made_said(text)?)),
+        None => Ok(None),
     }
 }
 
@@ -78,6 +73,17 @@ pub(crate) fn marker_said(text: &str) -> Result<Marker, BadWords>
     }
 }
 
+/// The marker that a text names, or none without a text.
+pub(crate) fn marker_if_any(text: Option<&str>) -> Result<Option<Marker>, BadWords>
+    ensures marker { IfOk result (SaysMarkerOrNone text.entry) }
+    ensures cause { IfErr result (λ told. (told ≡ BadWords.Marker) × HasNoMarker text.entry) }
+{
+    match text {
+        Some(text) => Ok(Some(marker_said(text)?)),
+        None => Ok(None),
+    }
+}
+
 /// The reference of a moment.
 pub(crate) fn reference_said(moment: GpsMs) -> Result<Reference, BadWords>
     ensures near { IfOk result (λ near. near ≡ moment) }
@@ -86,5 +92,16 @@ pub(crate) fn reference_said(moment: GpsMs) -> Result<Reference, BadWords>
     match Reference::new(moment) {
         Ok(near) => Ok(near),
         Err(_) => Err(BadWords::Near),
+    }
+}
+
+/// The reference of a moment, or none without a moment.
+pub(crate) fn reference_if_any(moment: Option<GpsMs>) -> Result<Option<Reference>, BadWords>
+    ensures near { IfOk result (λ near. near ≡ moment) }
+    ensures cause { IfErr result (λ told. (told ≡ BadWords.Near) × IsNoReference moment) }
+{
+    match moment {
+        Some(moment) => Ok(Some(reference_said(moment)?)),
+        None => Ok(None),
     }
 }

@@ -37,6 +37,12 @@ pub(crate) struct AutoOptions<'a> {
     pub(crate) marker: Option<&'a str>,
     /// The names of the observation codes, with commas between.
     pub(crate) codes: Option<&'a str>,
+    /// The letters of the systems that are converted, if there are no names of codes.
+    pub(crate) systems: Option<&'a str>,
+    /// The text of the channels of GLONASS.
+    pub(crate) channels: Option<&'a str>,
+    /// The leap seconds by which clocks of GLONASS are dated, in place of the table's.
+    pub(crate) leap_seconds: Option<LeapSeconds>,
     /// How many epochs are kept open.
     pub(crate) window: Option<Window>,
     /// Which MSM is converted beside 1004.
@@ -64,6 +70,8 @@ pub(crate) struct ConvertOptions<'a> {
     pub(crate) channels: Option<&'a str>,
     /// The leap seconds by which clocks of GLONASS are dated, in place of the table's.
     pub(crate) leap_seconds: Option<LeapSeconds>,
+    /// The 1012 are converted too.
+    pub(crate) with_1012: bool,
 }
 
 /// The options of `chart`.
@@ -157,6 +165,9 @@ pub(crate) fn auto_options<'a>(words: &ArgMatches<'a>) -> Option<AutoOptions<'a>
         made: words.get_str("made"),
         marker: words.get_str("marker"),
         codes: words.get_str("codes"),
+        systems: words.get_str("systems"),
+        channels: words.get_str("channels"),
+        leap_seconds: value_if_any(words.get_one::<u32>("leap-seconds").map(leap_seconds_of))?,
         window: value_if_any(words.get_one::<u32>("window").map(window_of))?,
         msm: value_if_any(words.get_one::<u32>("msm").map(msm_of))?,
         ways: ways_of(words),
@@ -183,6 +194,7 @@ pub(crate) fn convert_options<'a>(words: &ArgMatches<'a>) -> Option<ConvertOptio
         kinds: kinds_said(words)?,
         channels: words.get_str("channels"),
         leap_seconds: value_if_any(words.get_one::<u32>("leap-seconds").map(leap_seconds_of))?,
+        with_1012: words.get_flag("with-1012"),
     })
 }
 

@@ -18,5 +18,6 @@ pub(crate) fn messages_of(kinds: SystemKinds) -> Accepted
         qzss: MsmKinds::only(kinds.qzss),
         sbas: MsmKinds::only(kinds.sbas),
         navic: MsmKinds::only(kinds.navic),
+        obs1012: false,
     }
 }

@@ -102,8 +102,7 @@ pub(crate) enum BadWords {
     Near,
     /// The time of making is written in another form, or there is no such moment.
     Made,
-    /// A name is no observation code. Or, once the marker is known to be good: a code stands twice, or
-    /// `auto` has more than 16.
+    /// A name is no observation code. Or, once the marker is known to be good: a code stands twice.
     Codes,
     /// A name of three characters begins with the letter of this system, and is no observation code.
     CodeOfSystem(System),
@@ -113,10 +112,12 @@ pub(crate) enum BadWords {
     /// last one is a blank.
     Marker,
     /// The channels of GLONASS are written in another form, a slot or a channel doesn't exist, or a slot
-    /// stands twice. Or there is no code of GLONASS.
+    /// stands twice. Or `convert` has no code of GLONASS.
     Channels,
     /// There are codes of GLONASS, and no channels.
     NoChannels,
+    /// The 1012 are to be converted, and there is no code of GLONASS.
+    NoGlonass,
     /// The links are not 1 to 16, or standard input stands twice.
     Links,
     /// A letter is that of no system, or there is none.
@@ -150,6 +151,7 @@ impl BadWords {
             BadWords::Marker => "bad --marker",
             BadWords::Channels => "bad --channels",
             BadWords::NoChannels => "R codes need --channels",
+            BadWords::NoGlonass => "--with-1012 needs R codes",
             BadWords::Links => "bad links",
             BadWords::Systems => "bad --systems",
             BadWords::Satellites => "bad --satellites",

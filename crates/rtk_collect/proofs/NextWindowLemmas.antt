@@ -137,6 +137,7 @@ windows-answer es of w (At None (any.Message (Arp1005 m))) ok timed = λ before 
 windows-answer es of w (At None (any.Message (Arp1006 m))) ok timed = λ before h. of-1006 es of w m before ok h
 windows-answer es of w (At None (any.Message (Msm1074 m))) ok timed = cc
 windows-answer es of w (At None (any.Msm m)) ok timed = cc
+windows-answer es of w (At None (any.Obs1012 m)) ok timed = cc
 windows-answer {E = E} es of w (At (Some e) m) ok timed = λ before h. elim (cases_lt (leading e w.sets) w.places) [
   | inl less ↦
       let in_time : late_in w (At (Some e) m) ≡ false = late-held w e m ok.falls ∙ lt-leb w.places (leading e w.sets) less in

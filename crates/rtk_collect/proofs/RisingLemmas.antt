@@ -1,12 +1,12 @@
 -- Cells that rise join an epoch without cells as they are.
-use Rattle.std.proofs.Common.{◌≡◌, ℕ, zero, suc, ◌+◌, ◌-◌, ◌<◌, ◌≤◌, List, [], ◌∷◌, ◌++◌, length, get_or, drop, true, Option, None, Some, refl, ap, append_assoc, sym, ◌∙◌, arith, inl, inr, subst}
+use Rattle.std.proofs.Common.{◌≡◌, ℕ, zero, suc, ◌+◌, ◌-◌, ◌<◌, ◌≤◌, List, [], ◌∷◌, ◌++◌, length, get_or, drop, true, Option, None, Some, refl, ap, append_assoc, length-append, sym, ◌∙◌, arith, inl, inr, subst}
 use Rattle.std.specs.Prelude.{◌==◌, if◌then◌else◌}
 use Rattle.std.specs.List.{AllByRecursion}
 use Rattle.std.proofs.lemmas.Bool.{cases_order, ne_eqb, both_ways}
 use Rattle.std.proofs.lemmas.List.{append-nil}
 use Rattle.rtk_obs.specs.Cell.{IsBefore, AreRising}
 use Rattle.rtk_obs.specs.declared.cell.CellEntry.{CellEntry}
-use Rattle.rtk_collect.specs.Key.{key, key_at, Above, KeysRise}
+use Rattle.rtk_collect.specs.Key.{key, key_at, rank_of, Above, KeysRise}
 use Rattle.rtk_collect.specs.EpochSet.{with_cell, with_cells, cell_under, one_more, fresh, conflict, conflicts}
 use Rattle.rtk_collect.specs.Steps.OrderedPlaces.{lower}
 use Rattle.rtk_collect.proofs.CellsLemmas.{with_cell-new, with_cell-past, with_cell-same, with_cell-rises, with_cell-sets, with_cell-absent, lower-length, length-insert, fresh-length, drop-at}
@@ -140,7 +140,7 @@ no-conflicts es (c ∷ more) xs r h =
     let q = all-new (cell_under es (key es c) xs) (fresh es more xs) (length more) (fresh-length es more xs) h in
     ap (λ o. conflict es c o ++ conflicts es more (with_cell es c xs)) q.0 ∙ conflicts-rest es c more xs r ∙ no-conflicts es more xs r.1 q.1
 
--- cells that rise, if no cell is kept
+-- cells that rise after the kept ones
 pub record Alone {E S : Type 0} (es : Entries E S) (cells kept : List E) : Type 0 where
   pub items : kept ++ cells ≡ with_cells es cells kept
   pub fresh : length cells ≡ fresh es cells kept
@@ -152,6 +152,34 @@ alone {E = E} es cells kept none r = subst (λ (t : List E). Alone es cells t) (
   fresh = sym (fresh-all es cells);
   conflicts = sym (join-after es cells [] r).1;
 })
+
+pub after-all : {E S : Type 0} (es : Entries E S) (cells kept : List E) → KeysRise es cells → KeysRise es kept → KeysRise es (kept ++ cells) → Alone es cells kept
+after-all es cells kept r k all =
+    let h = join-after es cells kept all in
+    record {
+      items = sym h.0;
+      fresh = omega (arith, ap length h.0, length-append kept cells, length-with es cells kept r k);
+      conflicts = sym h.1;
+    }
+
+-- of two cells of one kind the one with the lesser place has the lesser key
+pub place-key : {E S : Type 0} (es : Entries E S) (c d : E) → (es.cell c).source ≡ (es.cell d).source → es.place c < es.place d → key es c < key es d
+unfolding key key_at
+place-key es c d same less = omega (arith, less, ap rank_of same)
+
+-- ---- cells of which the first has a greater key than the last one of others
+
+pub rises-after : {E S : Type 0} (es : Entries E S) (kept cells : List E) (d : E) → KeysRise es kept → KeysRise es cells → 0 < length kept → 0 < length cells
+    → key es (get_or kept (length kept - 1) d) < key es (get_or cells 0 d) → KeysRise es (kept ++ cells)
+rises-after es [] cells d r s some more less = absurd (omega (arith, some))
+rises-after es (x ∷ []) [] d r s some more less = absurd (omega (arith, more))
+rises-after es (x ∷ []) (c ∷ cells) d r s some more less = (less, s)
+rises-after es (x ∷ y ∷ ys) cells d r s some more less =
+    let back : suc (suc (length ys)) - 1 ≡ suc (length ys) = omega arith in
+    let front : suc (length ys) - 1 ≡ length ys = omega arith in
+    let at = subst (λ (n : ℕ). key es (get_or (x ∷ y ∷ ys) n d) < key es (get_or cells 0 d)) back less in
+    let last = subst (λ (n : ℕ). key es (get_or (y ∷ ys) n d) < key es (get_or cells 0 d)) (sym front) at in
+    (r.0, rises-after es (y ∷ ys) cells d r.1 s (omega arith) more last)
 
 -- ---- a list whose keys rise from some place on
 

@@ -69,6 +69,7 @@ arrival-joins e cs (y ∷ ys) = elim (cases_order y.epoch e) [
 entries-of : (channels : List (Option ℤ)) (m : Message) → IsGpsMessage m → entries_of channels m ≡ map signal_of (cells_of m)
 entries-of channels (any.Message m) is = refl
 entries-of channels (any.Msm m) is = entries-of-gps channels m is
+entries-of channels (any.Obs1012 m) is = absurd is
 
 kept-is : (channels : List (Option ℤ)) (n : ℕ) (arrivals : List Arrival) → AllByRecursion (λ (a : Arrival). IsGpsMessage (message_of a)) arrivals
     → kept signals (entries_of channels) n arrivals ≡ map epoch_of_signals (kept gps cells_of n arrivals)

@@ -1,5 +1,5 @@
 -- Arrivals: the dated messages of one station, in a list whose first is the newest. A message here
--- is one of the wider set: one of the four types, or an MSM of another kind or system than a 1074.
+-- is one of the wider set: one of the four types, an MSM of another kind or system than a 1074, or a 1012.
 use Rattle.std.specs.Prelude.{ℕ, Option}
 use Rattle.rtk_message.specs.declared.any_message.AnyMessage.{AnyMessage as Message}
 use Rattle.rtk_message.specs.declared.any_message.AnyMessage.TheVariants as any
@@ -18,10 +18,11 @@ epoch_of (At e m) = e
 abbrev pub message_of : Arrival → Message
 message_of (At e m) = m
 
--- an MSM that is no 1074
+-- an MSM that is no 1074, or a 1012
 abbrev pub IsWideMsm : Message → Type 0
 IsWideMsm (any.Message m) = ⊥
 IsWideMsm (any.Msm m) = Unit {0}
+IsWideMsm (any.Obs1012 m) = Unit {0}
 
 -- a 1005 and a 1006 as messages
 abbrev pub message_of_1005 : Message1005 → Message

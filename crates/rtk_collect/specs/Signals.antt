@@ -1,5 +1,5 @@
 -- The signals of all systems as cells of a window.
-use Rattle.std.specs.Prelude.{◌≡◌, ◌↔◌, ℕ, ◌+◌, ◌*◌, ◌<◌, ◌≤◌, ℤ, List, map, length, All, Option}
+use Rattle.std.specs.Prelude.{◌≡◌, ◌↔◌, ℕ, ◌+◌, ◌*◌, ◌<◌, ◌≤◌, ℤ, Bool, List, map, length, All, Option, if◌then◌else◌}
 use Rattle.rtk_message.specs.declared.any_message.AnyMessage.{AnyMessage as Message}
 use Rattle.rtk_message.specs.declared.any_message.AnyMessage.TheVariants as any
 use Rattle.rtk_message.specs.declared.obs1004.Satellite.{Satellite}
@@ -7,6 +7,7 @@ use Rattle.rtk_message.specs.declared.system.System.TheVariants.{Gps}
 use Rattle.rtk_obs.specs.AnyCode.{number_of}
 use Rattle.rtk_obs.specs.LegacyCells.{cells_of_1004}
 use Rattle.rtk_obs.specs.MessageCells.{cells_of}
+use Rattle.rtk_obs.specs.SbasCells.{entries_with_sbas}
 use Rattle.rtk_obs.specs.SignalCells.{signal_of, entries_of}
 use Rattle.rtk_obs.specs.declared.any_code.AnyCode.{AnyCode}
 use Rattle.rtk_obs.specs.declared.cell.CellEntry.{CellEntry}
@@ -37,6 +38,11 @@ signals = record {
 abbrev pub legacy_entries : List Satellite → List SignalEntry
 legacy_entries ss = map signal_of (cells_of_1004 ss)
 
+-- formula
+-- the entries of a message, with those of SBAS in a 1004 or without them (this project's rule)
+abbrev pub entries_by : Bool → List (Option ℤ) → Message → List SignalEntry
+entries_by sbas channels = if sbas then entries_with_sbas channels else entries_of channels
+
 -- two cells of any systems have one key exactly if satellite, code and kind of message are the same
 abbrev pub SignalKeysAreDistinct : Type 0
 SignalKeysAreDistinct = (c d : SignalEntry) → (key signals c ≡ key signals d) ↔ ((c.satellite ≡ d.satellite) × (c.code ≡ d.code) × (c.cell.source ≡ d.cell.source))
@@ -46,18 +52,19 @@ abbrev pub GpsKeepsItsOrder : Type 0
 GpsKeepsItsOrder = (c d : CellEntry) → (key gps c < key gps d) ↔ (key signals (signal_of c) < key signals (signal_of d))
 
 -- the satellites of the cells of all these arrivals are at most this one
-abbrev pub AreUpTo : List (Option ℤ) → ℕ → List Arrival → Type 0
-AreUpTo channels greatest arrivals = All (λ a. All (λ c. c.satellite ≤ greatest) (entries_of channels (message_of a))) arrivals
+abbrev pub AreUpTo : Bool → List (Option ℤ) → ℕ → List Arrival → Type 0
+AreUpTo sbas channels greatest arrivals = All (λ a. All (λ c. c.satellite ≤ greatest) (entries_by sbas channels (message_of a))) arrivals
 
 -- an epoch has at most 32 cells for each satellite up to the greatest one: for 16 codes and 2 kinds of message
 abbrev pub EpochsAreOfSatellites : Type 0
-EpochsAreOfSatellites = (channels : List (Option ℤ)) (greatest n : ℕ) (arrivals : List Arrival) → AreUpTo channels greatest arrivals
-    → All (λ x. length x.cells ≤ 32 * greatest) (kept signals (entries_of channels) n arrivals)
+EpochsAreOfSatellites = (sbas : Bool) (channels : List (Option ℤ)) (greatest n : ℕ) (arrivals : List Arrival) → AreUpTo sbas channels greatest arrivals
+    → All (λ x. length x.cells ≤ 32 * greatest) (kept signals (entries_by sbas channels) n arrivals)
 
 -- a message of GPS, or of a station
 abbrev pub IsGpsMessage : Message → Type 0
 IsGpsMessage (any.Message m) = Unit {0}
 IsGpsMessage (any.Msm m) = m.system ≡ Gps
+IsGpsMessage (any.Obs1012 m) = ⊥
 
 -- an epoch of GPS as one of signals
 abbrev pub epoch_of_signals : EpochSetView CellEntry → EpochSetView SignalEntry

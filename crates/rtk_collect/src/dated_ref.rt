@@ -1,20 +1,21 @@
 //! A message with its epoch.
 
-ghost use Rattle.std.specs.Prelude.{◌≡◌, ◌≤◌, length, All, IfSome, IfNone, IsTrue};
+ghost use Rattle.std.specs.Prelude.{◌≡◌, ◌≤◌, ℤ, List, Option, length, All, IfSome, IfNone, IsTrue};
 ghost use Rattle.std.specs.Option.{is_some};
 ghost use Rattle.rtk_message.specs.AnyDecoded as any;
 ghost use Rattle.rtk_message.specs.Decoded.{IsValid, tow_of};
 ghost use Rattle.rtk_obs.specs.Cell.{IsInRange, AreRising};
 ghost use Rattle.rtk_obs.specs.MessageCells.{cells_of};
-ghost use Rattle.rtk_obs.specs.SignalCells.{entries_of, IsSignalInRange};
+ghost use Rattle.rtk_obs.specs.SignalCells.{IsSignalInRange};
 ghost use Rattle.rtk_collect.specs.Arrival.{At, epoch_of, message_of, IsWideMsm};
+ghost use Rattle.rtk_collect.specs.Signals.{entries_by};
 ghost use Rattle.rtk_collect.specs.Steps.Borrowed.{borrowed};
 
 use arrayvec::ArrayVec;
-use rtk_message::{AnyMessage, Message, Msm};
+use rtk_message::{AnyMessage, Message, Msm, Obs1012};
 use rtk_obs::{
-    CellEntry, Channels, GpsMs, SignalEntry, put_cells_msm, put_cells_of, put_entries_of,
-    put_signal_entries,
+    CellEntry, Channels, GpsMs, SignalEntry, put_cells_msm, put_cells_of, put_entries_1012,
+    put_entries_of, put_entries_with_sbas, put_signal_entries,
 };
 use std::marker::Model;
 
@@ -28,12 +29,26 @@ pub struct DatedRef<'a> {
     pub(crate) epoch: Option<GpsMs>,
 }
 
-/// A borrowed message: one of the four types, or an MSM that is no 1074. An `AnyMessage` owns its message,
+/// A borrowed message: one of the four types, an MSM that is no 1074, or a 1012. An `AnyMessage` owns its message,
 /// so a `&Message` can't be lent as one.
 #[derive(Clone, Copy, Drop)]
 pub(crate) enum Borrowed<'a> {
     Message(&'a Message),
     Msm(&'a Msm),
+    Obs1012(&'a Obs1012),
+}
+
+// Puts the cells of a message of the four types into a list, in place of what it has: with those of SBAS in a
+// 1004, or without them.
+fn put_four(message: &Message, sbas: bool, found: &mut ArrayVec<SignalEntry, 64>)
+    requires { IsValid message.now }
+    ensures { (channels : List (Option ℤ)) → found.new.items ≡ entries_by sbas channels (AnyMessage.Message message.now) }
+{
+    if sbas {
+        put_entries_with_sbas(message, found)
+    } else {
+        put_entries_of(message, found)
+    }
 }
 
 impl<'a> Borrowed<'a> {
@@ -49,18 +64,29 @@ impl<'a> Borrowed<'a> {
         match self {
             Borrowed::Message(message) => put_cells_of(message, found),
             Borrowed::Msm(message) => put_cells_msm(message, found),
+            Borrowed::Obs1012(_) => {
+                found.clear();
+                true
+            }
         }
     }
 
-    /// Puts the cells of the message into a list, in place of what it has, each as one of any system.
-    pub(crate) fn put_entries(self, channels: &Channels, found: &mut ArrayVec<SignalEntry, 64>)
+    /// Puts the cells of the message into a list, in place of what it has, each as one of any system: with those
+    /// of SBAS in a 1004, or without them.
+    pub(crate) fn put_entries(
+        self,
+        channels: &Channels,
+        sbas: bool,
+        found: &mut ArrayVec<SignalEntry, 64>,
+    )
         requires { any.IsValid (borrowed self) }
-        ensures cells { found.new.items ≡ entries_of channels.now (borrowed self.entry) }
+        ensures cells { found.new.items ≡ entries_by sbas channels.now (borrowed self.entry) }
         ensures ranges { All IsSignalInRange found.new.items }
     {
         match self {
-            Borrowed::Message(message) => put_entries_of(message, found),
+            Borrowed::Message(message) => put_four(message, sbas, found),
             Borrowed::Msm(message) => put_signal_entries(message, channels, found),
+            Borrowed::Obs1012(message) => put_entries_1012(message, channels, found),
         }
     }
 }
@@ -108,10 +134,14 @@ impl<'a> DatedRef<'a> {
                 message: Borrowed::Msm(message),
                 epoch,
             },
+            AnyMessage::Obs1012(message) => DatedRef {
+                message: Borrowed::Obs1012(message),
+                epoch,
+            },
         }
     }
 
-    /// Returns the message, or `None` exactly for an MSM that is no 1074.
+    /// Returns the message, or `None` exactly for an MSM that is no 1074, and for a 1012.
     pub fn message(&self) -> Option<&'a Message>
         ensures value { IfSome result (λ m. AnyMessage.Message m.now ≡ message_of self.now) }
         ensures fits { IfSome result (λ m. IsValid m.now) }
@@ -119,7 +149,7 @@ impl<'a> DatedRef<'a> {
     {
         match self.message {
             Borrowed::Message(message) => Some(message),
-            Borrowed::Msm(_) => None,
+            Borrowed::Msm(_) | Borrowed::Obs1012(_) => None,
         }
     }
 
@@ -130,6 +160,7 @@ impl<'a> DatedRef<'a> {
         match self.message {
             Borrowed::Message(message) => message.number(),
             Borrowed::Msm(message) => message.msm_type().number(),
+            Borrowed::Obs1012(_) => 1012,
         }
     }
 

@@ -1,8 +1,9 @@
 //! The cells of a message join the cells of their epoch.
 //!
-//! The first message of its kind is copied as it stands. Any other is compared in one pass. If a
-//! cell is new and the cells rise, the list grows once and both are merged in it from the greatest
-//! key down. Other cells are put in one by one. Whether the cells rise, the caller says.
+//! The cells of a message that come after those of the messages before are copied as they stand. Any
+//! others are compared in one pass. If a cell is new and the cells rise, the list grows once and both are
+//! merged in it from the greatest key down. Other cells are put in one by one. Whether the cells rise,
+//! the caller says.
 
 ghost use Rattle.std.specs.Prelude.{◌≡◌, ◌≢◌, ◌≤◌, ◌<◌, ◌+◌, ◌-◌, ◌*◌, [], ◌∷◌, ◌++◌, not, length, take, drop, slice_index_or, vec_len, vec_capacity, IsTrue, IfOk, OnErr, All, if◌then◌else◌};
 ghost use Rattle.rtk_collect.specs.Equal.{equal_cells};
@@ -55,8 +56,9 @@ pub(crate) fn join_list<E: Entry>(
     ensures err { OnErr result (list.new.items ≡ list.old.items) }
     ensures refused { OnErr result (0 < fresh E.entries cells.now list.old.items) }
 {
-    if rises && list.is_empty() {
-        // The common case: the first message of its kind, whose cells are copied as they stand.
+    if rises && are_after(list.as_slice(), cells) {
+        // The common cases: the first message of its kind, or one of a system that is after those of the
+        // messages before.
         list.extend_from_slice(cells)?;
         return Ok(cells.len());
     }
@@ -68,6 +70,20 @@ pub(crate) fn join_list<E: Entry>(
         return join_rising(list, cells, count);
     }
     join_other(list, cells, count, found)
+}
+
+// Returns whether cells come after the kept ones: where both rise, they rise together.
+#[inline(always)]
+fn are_after<E: Entry>(kept: &[E], cells: &[E]) -> bool
+    ensures { IsTrue result → KeysRise E.entries kept.now → KeysRise E.entries cells.now → KeysRise E.entries (kept.now ++ cells.now) }
+{
+    if kept.is_empty() {
+        return true;
+    }
+    if cells.is_empty() {
+        return true;
+    }
+    key_of(&kept[kept.len() - 1]) < key_of(&cells[0])
 }
 
 // Takes cells whose keys rise; `count` of them are new.

@@ -1,53 +1,61 @@
 //! A gatherer of the signals of all systems.
 
-ghost use Rattle.rtk_obs.specs.SignalCells.{entries_of};
-ghost use Rattle.rtk_collect.specs.Signals.{signals};
+ghost use Rattle.rtk_collect.specs.Signals.{signals, entries_by};
 ghost use Rattle.std.specs.Prelude.{◌≡◌, ◌≤◌, [], length, IsTrue, IfOk, OnErr};
 ghost use Rattle.rtk_collect.specs.Key.{KeysRise};
+ghost use Rattle.rtk_collect.specs.EpochSet.{AreOfOneSource};
 ghost use Rattle.rtk_collect.specs.Offered.{AnswersArrival, ClosesBelow, ClosesLeast, LeastNeverFalls, WouldBeTaken};
 
 use crate::conflicts::{AnySatelliteCode, Conflicts};
 use crate::dated_ref::{Borrowed, DatedRef};
 use crate::entry::Entry;
 use crate::gatherer::Gatherer;
-use crate::merging::key_of;
 use crate::outcome::Outcome;
 use crate::window::{offer_cells, place_of_epoch};
 use rtk_obs::{Channels, SignalEntry};
 use std::alloc::AllocError;
 
-// Returns whether the keys of cells rise.
+// Returns whether the keys of cells of one kind of message rise. Their kind is the same in all keys.
 fn keys_rise<E: Entry>(cells: &[E]) -> bool
+    requires { AreOfOneSource E.entries cells.now }
     ensures { IsTrue result → KeysRise E.entries cells.now }
 {
-    let mut at = cells.len();
-    while at > 1 {
+    if cells.is_empty() {
+        return true;
+    }
+    let mut at = cells.len() - 1;
+    let mut above = cells[at].place();
+    while at > 0 {
         at -= 1;
-        if key_of(&cells[at - 1]) >= key_of(&cells[at]) {
+        let place = cells[at].place();
+        if place >= above {
             return false;
         }
+        above = place;
     }
     true
 }
 
 impl Gatherer<SignalEntry> {
     /// Takes what is new in a message of any system, as `offer` does for GPS. Phases of GLONASS are made
-    /// by these channels, and all messages of a gatherer are offered with the same.
+    /// by these channels. Satellites of SBAS in a 1004 have cells if `sbas` says so. All messages of a gatherer are
+    /// offered with the same channels and the same `sbas`.
     pub fn offer_signals(
         &mut self,
         dated: DatedRef<'_>,
         channels: &Channels,
+        sbas: bool,
         conflicts: &mut Conflicts<AnySatelliteCode>,
     ) -> Result<Outcome<SignalEntry>, AllocError>
         ensures places { self.new.places ≡ self.old.places }
         ensures bound { length self.new.sets ≤ self.new.places }
         // Fails only if memory is refused: tests/system/calls, rows signals, offer.
-        ensures answer { IfOk result (λ offer. AnswersArrival signals (entries_of channels.now) self.old dated.entry offer conflicts.new self.new) }
+        ensures answer { IfOk result (λ offer. AnswersArrival signals (entries_by sbas channels.now) self.old dated.entry offer conflicts.new self.new) }
         ensures closed { IfOk result (λ offer. ClosesBelow offer self.new.sets) }
         ensures least_closes { IfOk result (λ offer. ClosesLeast self.old.places self.old.sets offer) }
         ensures least { LeastNeverFalls self.old self.new }
         ensures err { OnErr result (self.new ≡ self.old) }
-        ensures refused { OnErr result (WouldBeTaken signals (entries_of channels.now) self.old dated.entry) }
+        ensures refused { OnErr result (WouldBeTaken signals (entries_by sbas channels.now) self.old dated.entry) }
         ensures none { OnErr result (conflicts.new ≡ []) }
     {
         conflicts.clear();
@@ -59,7 +67,7 @@ impl Gatherer<SignalEntry> {
             return Ok(self.stations.offer(message, full));
         };
         let at = place_of_epoch(&self.sets, epoch);
-        dated.message.put_entries(channels, &mut self.cells);
+        dated.message.put_entries(channels, sbas, &mut self.cells);
         let cells = self.cells.as_slice();
         let rises = keys_rise(cells);
         let (sets, spare) = (&mut self.sets, &mut self.spare);

@@ -20,8 +20,8 @@ decodes-once bs (Err f) (Err g) a b = let e : Some f ≡ Some g = sym a.fault �
 
 -- also by a set of messages
 decodes-once-by : (a : Accepted) (bs : List Bool) (r s : Result AnyMessage AnyFault) → DecodesBy a bs r → DecodesBy a bs s → r ≡ s
-decodes-once-by a bs (Ok m) s x y = sym (y.only m x.accepted x.message)
-decodes-once-by a bs (Err f) (Ok n) x y = x.only n y.accepted y.message
+decodes-once-by a bs (Ok m) s x y = sym (y.only m x.accepted x.clock x.message)
+decodes-once-by a bs (Err f) (Ok n) x y = x.only n y.accepted y.clock y.message
 decodes-once-by a bs (Err f) (Err g) x y = let e : Some f ≡ Some g = sym x.fault ∙ y.fault in cc
 
 pub line-once : (payload line other : List ℕ) → IsLineOf payload line → IsLineOf payload other → line ≡ other

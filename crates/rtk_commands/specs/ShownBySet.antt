@@ -1,13 +1,14 @@
 -- The line that is shown of a payload by a set of messages: those of the set are read, and no others. The forms of
 -- the lines are this project's rule.
-use Rattle.std.specs.Prelude.{◌≡◌, ℕ, List, [], ◌∷◌, ◌++◌, codes, decimal, Result, Ok, Err}
+use Rattle.std.specs.Prelude.{◌≡◌, ℕ, List, [], ◌∷◌, ◌++◌, codes, decimal, length, Result, Ok, Err}
 use Rattle.rtk_bits.specs.Bits.{bits}
 use Rattle.rtk_message.specs.declared.accepted.Accepted.{Accepted}
 use Rattle.rtk_message.specs.declared.any_message.AnyMessage.{AnyMessage}
-use Rattle.rtk_message.specs.declared.any_message.AnyMessage.TheVariants.{Message as OfFour, Msm as OfMsm}
+use Rattle.rtk_message.specs.declared.any_message.AnyMessage.TheVariants.{Message as OfFour, Msm as OfMsm, Obs1012 as Of1012}
 use Rattle.rtk_message.specs.declared.any_fault.AnyFault.{AnyFault}
 use Rattle.rtk_message.specs.declared.any_fault.AnyFault.TheVariants.{NoNumber, Other, Short, EpochRange, TooManyCells}
 use Rattle.rtk_message.specs.declared.msm.Msm.{Msm}
+use Rattle.rtk_message.specs.declared.obs1012.Obs1012.{Obs1012}
 use Rattle.rtk_message.specs.AnyDecoded.{DecodesBy}
 use Rattle.rtk_message.specs.AnyFaultCode.{any_fault_text}
 use Rattle.rtk_message.specs.MsmForm.{type_of, cell_count}
@@ -19,9 +20,17 @@ use Rattle.rtk_commands.specs.Shown.{msm_text, message_text}
 abbrev pub text_msm : Msm → List ℕ
 text_msm m = msm_text (number_of_type (type_of m)) m.system m.header (cell_count m)
 
+-- formula
+-- as in: 1012 station 0 clock 18942000 satellites 8; the clock is the time of day (DF034)
+abbrev pub text_1012 : Obs1012 → List ℕ
+text_1012 m =
+    codes "1012 station " ++ decimal m.station ++ codes " clock " ++ decimal m.time_of_day_ms
+    ++ codes " satellites " ++ decimal (length m.satellites)
+
 abbrev pub any_message_text : AnyMessage → List ℕ
 any_message_text (OfFour m) = message_text m
 any_message_text (OfMsm m) = text_msm m
+any_message_text (Of1012 m) = text_1012 m
 
 -- formula
 -- as in: refused M5 1077

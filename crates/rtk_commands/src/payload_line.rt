@@ -4,11 +4,11 @@ ghost use Rattle.std.specs.Prelude.{◌≡◌, ◌++◌, ◌∷◌, [], List, �
 ghost use Rattle.rtk_message.specs.AnyDecoded.{IsValid};
 ghost use Rattle.rtk_message.specs.Decoded as decoded;
 ghost use Rattle.rtk_commands.specs.Shown.{four_decimals, metres, coordinate, reference_point, text_1004, text_1005, text_1006, clock_word, msm_text, message_text, IsLineOf};
-ghost use Rattle.rtk_commands.specs.ShownBySet.{any_message_text, any_refusal_text, any_unread_text, any_line_of, IsLineBy};
+ghost use Rattle.rtk_commands.specs.ShownBySet.{text_1012, any_message_text, any_refusal_text, any_unread_text, any_line_of, IsLineBy};
 
 use rtk_message::{
     Accepted, AnyDecoder, AnyFault, AnyMessage, Arp1005, Arp1006, Layout, Message, Msm1074,
-    MsmHeader, MsmKind, Obs1004, System, decode_any, put_any_fault, put_named, put_number,
+    MsmHeader, MsmKind, Obs1004, Obs1012, System, decode_any, put_any_fault, put_named, put_number,
 };
 use std::alloc::{AllocError, Global};
 
@@ -128,6 +128,15 @@ fn put_message_text(line: &mut Vec<u8>, message: &Message) -> Result<(), AllocEr
     }
 }
 
+fn put_1012(line: &mut Vec<u8>, message: &Obs1012) -> Result<(), AllocError>
+    ensures { OnOk result (line.new.items ≡ line.old.items ++ text_1012 message.now) }
+{
+    put_named(line, b"1012 station ", message.station as u64)?;
+    put_named(line, b" clock ", message.time_of_day_ms as u64)?;
+    put_named(line, b" satellites ", message.satellites.len() as u64)?;
+    Ok(())
+}
+
 fn put_any_message_text(line: &mut Vec<u8>, message: &AnyMessage) -> Result<(), AllocError>
     requires { IsValid message.now }
     ensures { OnOk result (line.new.items ≡ line.old.items ++ any_message_text message.now) }
@@ -141,6 +150,7 @@ fn put_any_message_text(line: &mut Vec<u8>, message: &AnyMessage) -> Result<(), 
             message.header,
             message.cnr.len(),
         ),
+        AnyMessage::Obs1012(message) => put_1012(line, message),
     }
 }
 

@@ -5,7 +5,7 @@ use Rattle.std.proofs.lemmas.Bool.{cases_eq, cases_Bool}
 use Rattle.std.proofs.lemmas.Option.{slice_get_within}
 use Rattle.rtk_message.specs.declared.any_message.AnyMessage.{AnyMessage as Message}
 use Rattle.rtk_message.specs.declared.any_fault.AnyFault.{AnyFault}
-use Rattle.rtk_message.specs.AnyDecoded.{Encodes, DecodesBy, number_of, station_of}
+use Rattle.rtk_message.specs.AnyDecoded.{Encodes, DecodesBy, number_of, station_of, takes_clock}
 use Rattle.rtk_bits.specs.Bits.{bits}
 use Rattle.std.specs.Prelude.{IfOk, IsTrue}
 use Rattle.rtk_collect.specs.Arrival.{Arrival, At}
@@ -44,8 +44,14 @@ message-by s payload epoch m r d c =
     let p = dated-reading s r (At epoch m) c in
     let is : p.0 ≡ m = sym p.2.dated.0 in
     let encodes : IfOk r (λ x. Encodes (bits payload) x) = d.message in
-    subst (λ (x : Message). Encodes (bits payload) x × IsTrue (takes s (number_of x)) × (station_of x ≡ s.station) × IsEpochOf s x epoch) is
-    (subst (λ (x : Result Message AnyFault). IfOk x (λ y. Encodes (bits payload) y)) p.1 encodes, p.2.taken, p.2.station, p.2.dated.1)
+    let clock : IfOk r (λ x. IsTrue (takes_clock (taken_by s).obs1012 x)) = d.clock in
+    subst (λ (x : Message). Encodes (bits payload) x × IsTrue (takes s (number_of x)) × (station_of x ≡ s.station) × IsEpochOf s x epoch × IsTrue (takes_clock (taken_by s).obs1012 x)) is (
+      subst (λ (x : Result Message AnyFault). IfOk x (λ y. Encodes (bits payload) y)) p.1 encodes,
+      p.2.taken,
+      p.2.station,
+      p.2.dated.1,
+      subst (λ (x : Result Message AnyFault). IfOk x (λ y. IsTrue (takes_clock (taken_by s).obs1012 y))) p.1 clock,
+    )
 
 -- a message that is read is valid and of the set, and a fault is of the set
 pub read-by : (s : SetupView) (payload : List ℕ) (r : Result Message AnyFault) → DecodesBy (taken_by s) (bits payload) r → IfOk r (λ m. IsReadMessage s m)
@@ -57,7 +63,7 @@ is-message s payload (At epoch m) p = message-by s payload epoch m p.0 p.1 p.2
 
 class-at : (s : SetupView) (payload : List ℕ) (f : FrameClass) (epoch : Option ℕ) (m : Message) → IsClassOfPayload s payload f → IsMessageIn s payload (At epoch m) → IsClassIf true s m f
 class-at s payload f epoch m p q =
-    let read : IsClassOfReading s (Ok m) f = subst (λ (r : Result Message AnyFault). IsClassOfReading s r f) (p.1.only m (accepts-taken s (number_of m) q.1) q.0) p.2 in
+    let read : IsClassOfReading s (Ok m) f = subst (λ (r : Result Message AnyFault). IsClassOfReading s r f) (p.1.only m (accepts-taken s (number_of m) q.1) q.4 q.0) p.2 in
     subst (λ (b : Bool). IsClassIf b s m f) q.1 read
 
 not-other : (s : SetupView) (payload : List ℕ) (a : Arrival) → IsClassOfPayload s payload OtherMessage → IsMessageIn s payload a → ⊥

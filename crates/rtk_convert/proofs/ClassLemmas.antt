@@ -7,12 +7,11 @@ use Rattle.rtk_message.specs.declared.any_fault.AnyFault.{AnyFault}
 use Rattle.rtk_message.specs.declared.any_fault.AnyFault.TheVariants.{NoNumber, Other, Short, EpochRange, TooManyCells}
 use Rattle.rtk_message.specs.Accepted.{accepts}
 use Rattle.rtk_message.specs.AnyDecoded.{number_of, station_of}
-use Rattle.rtk_message.specs.declared.system.System.TheVariants.{Gps}
 use Rattle.rtk_collect.specs.Arrival.{Arrival, At, message_of}
 use Rattle.rtk_convert.specs.declared.frame_class.FrameClass.{FrameClass}
 use Rattle.rtk_convert.specs.declared.frame_class.FrameClass.TheVariants.{OtherMessage, Foreign, Dated}
 use Rattle.rtk_convert.specs.FrameClass.{IsClassIf, IsClassOfReading, IsDatedMessage, class_of_fault, refused_if}
-use Rattle.rtk_setup.specs.Setup.{SetupView, lists_system, taken_by, takes}
+use Rattle.rtk_setup.specs.Setup.{SetupView, taken_by, takes, takes_1004}
 use Rattle.rtk_convert.specs.Steps.AddedMessage.{IsTakenBy}
 use Rattle.rtk_convert.specs.Steps.ReadMessage.{IsReadMessage}
 
@@ -51,13 +50,13 @@ dated-taken s r a is = let p = dated-reading s r a is in message-taken s p.0 a p
 
 -- ---- the numbers that a setup takes
 
--- a 1004 is taken if a code of GPS is listed
-pub takes-legacy : (s : SetupView) (number : ℕ) → number ≡ 1004 → takes s number ≡ lists_system s.head.listed Gps
-takes-legacy s number is = cond-true (eqb number 1004) (lists_system s.head.listed Gps) (accepts (taken_by s) number) (eq-eqb number 1004 is)
+-- a 1004 is taken if a code of GPS or of SBAS is listed
+pub takes-legacy : (s : SetupView) (number : ℕ) → number ≡ 1004 → takes s number ≡ takes_1004 s
+takes-legacy s number is = cond-true (eqb number 1004) (takes_1004 s) (accepts (taken_by s) number) (eq-eqb number 1004 is)
 
 -- another number if it is read
 pub takes-other : (s : SetupView) (number : ℕ) → number ≢ 1004 → takes s number ≡ accepts (taken_by s) number
-takes-other s number other = cond-false (eqb number 1004) (lists_system s.head.listed Gps) (accepts (taken_by s) number) (ne_eqb number 1004 other)
+takes-other s number other = cond-false (eqb number 1004) (takes_1004 s) (accepts (taken_by s) number) (ne_eqb number 1004 other)
 
 -- ---- the class of a message that was read
 

@@ -1,32 +1,17 @@
 -- The clock of a valid message, and its moment.
-use Rattle.std.proofs.Common.{◌≡◌, ◌<◌, ◌^◌, ◌%◌, ◌/◌, ℕ, true, Option, None, Some, refl, sym, subst, arith}
-use Rattle.std.specs.Prelude.{nat_lt}
-use Rattle.std.proofs.lemmas.Bool.{and_parts}
-use Rattle.std.proofs.lemmas.Bool.Decides.{nat_tests}
-use Rattle.rtk_message.specs.Fields.{week_ms}
+use Rattle.std.proofs.Common.{◌≡◌, ℕ, true, Option, None, Some, refl, sym, subst}
 use Rattle.rtk_message.specs.declared.any_message.AnyMessage.{AnyMessage as Message}
 use Rattle.rtk_message.specs.declared.any_message.AnyMessage.TheVariants as any
 use Rattle.rtk_message.specs.declared.message.Message.TheVariants.{Obs1004, Arp1005, Arp1006, Msm1074}
 use Rattle.rtk_message.specs.declared.system.System.{System}
-use Rattle.rtk_message.specs.declared.system.System.TheVariants.{Gps, Glonass, Galileo, Beidou, Qzss, Sbas, Navic}
+use Rattle.rtk_message.specs.declared.system.System.TheVariants.{Gps, Glonass}
 use Rattle.rtk_message.specs.AnyDecoded.{IsValid, tow_of}
-use Rattle.rtk_message.specs.Systems.{is_in_week}
+use Rattle.rtk_message.specs.Obs1012.{clock_of}
 use Rattle.rtk_obs.specs.Clocks.{IsClock, IsClockMoment}
+use Rattle.rtk_obs.proofs.PublicLaws.{is_clock, clock-of-1012}
 use Rattle.rtk_collect.specs.Arrival.{Arrival, At}
 use Rattle.rtk_convert.specs.FrameClass.{IsDatedMessage, IsMomentOf, system_of}
 use Rattle.rtk_setup.specs.Setup.{SetupView}
-
-less-of : (a b : ℕ) → nat_lt a b ≡ true → a < b
-less-of a b h = grind (arith, nat_tests)
-
-in-week : (s : System) (c : ℕ) → is_in_week s c ≡ true → IsClock s c
-in-week Gps c h = less-of c week_ms h
-in-week Glonass c h = less-of (c % 2 ^ 27) 86_401_000 (and_parts (nat_lt (c / 2 ^ 27) 7) (nat_lt (c % 2 ^ 27) 86_401_000) h).1
-in-week Galileo c h = less-of c week_ms h
-in-week Beidou c h = less-of c week_ms h
-in-week Qzss c h = less-of c week_ms h
-in-week Sbas c h = less-of c week_ms h
-in-week Navic c h = less-of c week_ms h
 
 same-clock : (a b : ℕ) → Some a ≡ Some b → a ≡ b
 same-clock a b h = cc
@@ -37,7 +22,8 @@ clock-of-valid (any.Message (Obs1004 m)) clock valid is = subst (IsClock Gps) (s
 clock-of-valid (any.Message (Arp1005 m)) clock valid is = absurd cc
 clock-of-valid (any.Message (Arp1006 m)) clock valid is = absurd cc
 clock-of-valid (any.Message (Msm1074 m)) clock valid is = subst (IsClock Gps) (same-clock m.header.tow clock is) valid.time_in_week
-clock-of-valid (any.Msm m) clock valid is = subst (IsClock m.system) (same-clock m.header.tow clock is) (in-week m.system m.header.tow valid.form.time_in_week)
+clock-of-valid (any.Msm m) clock valid is = subst (IsClock m.system) (same-clock m.header.tow clock is) (is_clock true m.system m.header.tow valid.form.time)
+clock-of-valid (any.Obs1012 m) clock valid is = subst (IsClock Glonass) (same-clock (clock_of m) clock is) (clock-of-1012 m valid)
 
 -- ---- a dated message
 

@@ -1,9 +1,8 @@
 -- The epochs of a conversion: none at the start, what comes of an answer, and the end.
 use Rattle.std.proofs.Common.{◌≡◌, ◌∙◌, ℕ, zero, suc, ◌<◌, ◌≤◌, List, [], ◌∷◌, length, take, Option, None, Some, Result, Ok, Err, refl, sym, ap, subst, arith}
-use Rattle.std.specs.Prelude.{OnOk, IfErr, ℤ}
+use Rattle.std.specs.Prelude.{OnOk, IfErr}
 use Rattle.rtk_obs.specs.declared.any_code.AnyCode.{AnyCode}
 use Rattle.rtk_obs.specs.declared.signal_cells.SignalEntry.{SignalEntry}
-use Rattle.rtk_obs.specs.SignalCells.{entries_of}
 use Rattle.rtk_message.specs.declared.any_message.AnyMessage.{AnyMessage as Message}
 use Rattle.rtk_message.specs.AnyDecoded.{number_of}
 use Rattle.rtk_collect.specs.declared.conflicts.AnySatelliteCode.{AnySatelliteCode}
@@ -228,8 +227,8 @@ hands-back {T} fault {s} {w} {w'} {c} {old} {new} seen same few unchanged is =
     })
 
 -- an answer by the channels of the setup is one of the setup
-pub signal-answers : (s : SetupView) (channels : List (Option ℤ)) (old new : CollectorView SignalEntry) (a : Arrival) (offer : Outcome SignalEntry AnySatelliteCode) (listed : List AnySatelliteCode)
-    → entries_of channels ≡ cells_by s → AnswersArrival signals (entries_of channels) old a offer listed new → AnswersMessage s old a offer listed new
-signal-answers s channels old new a offer listed same meets before kept =
-    let meets_by = subst (λ (of : Message → List SignalEntry). AnswersArrival signals of old a offer listed new) same meets in
+pub signal-answers : (s : SetupView) (of : Message → List SignalEntry) (old new : CollectorView SignalEntry) (a : Arrival) (offer : Outcome SignalEntry AnySatelliteCode) (listed : List AnySatelliteCode)
+    → of ≡ cells_by s → AnswersArrival signals of old a offer listed new → AnswersMessage s old a offer listed new
+signal-answers s of old new a offer listed same meets before kept =
+    let meets_by = subst (λ (f : Message → List SignalEntry). AnswersArrival signals f old a offer listed new) same meets in
     meets_by before kept.window

@@ -36,8 +36,8 @@ use Rattle.rtk_convert.proofs.WritingLemmas.{writes-none, writes-on}
 
 -- bits decode to one message or fault
 decodes-once : (k : Accepted) (bs : List Bool) (r s : Result Message AnyFault) → DecodesBy k bs r → DecodesBy k bs s → r ≡ s
-decodes-once k bs (Ok m) s a b = sym (b.only m a.accepted a.message)
-decodes-once k bs (Err f) (Ok n) a b = a.only n b.accepted b.message
+decodes-once k bs (Ok m) s a b = sym (b.only m a.accepted a.clock a.message)
+decodes-once k bs (Err f) (Ok n) a b = a.only n b.accepted b.clock b.message
 decodes-once k bs (Err f) (Err g) a b = let e : Some f ≡ Some g = sym a.fault ∙ b.fault in cc
 
 -- a clock has one moment

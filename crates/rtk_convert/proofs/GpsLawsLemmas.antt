@@ -1,5 +1,5 @@
 -- A setup with codes of GPS alone: its messages, their cells and their epochs.
-use Rattle.std.proofs.Common.{◌≡◌, ◌∙◌, ◌↔◌, ◌<◌, ℕ, Bool, true, List, [], ◌∷◌, length, Option, None, Some, Result, refl, sym, subst, arith}
+use Rattle.std.proofs.Common.{◌≡◌, ◌∙◌, ◌↔◌, ◌<◌, ℕ, Bool, true, List, [], ◌∷◌, length, Option, None, Some, Result, refl, sym, ap, subst, arith}
 use Rattle.std.specs.Prelude.{IsTrue, ◌==◌}
 use Rattle.std.specs.List.{list_all, list_any}
 use Rattle.std.proofs.lemmas.Bool.{and_parts}
@@ -17,18 +17,20 @@ use Rattle.rtk_message.specs.Accepted.{four}
 use Rattle.rtk_message.specs.AnyDecoded.{DecodesBy, any_of, tow_of}
 use Rattle.rtk_message.specs.Decoded.{Decodes}
 use Rattle.rtk_obs.specs.declared.any_code.AnyCode.{AnyCode}
+use Rattle.rtk_obs.specs.declared.signal_cells.SignalEntry.{SignalEntry}
 use Rattle.rtk_collect.specs.Signals.{IsGpsMessage}
 use Rattle.rtk_rinex.specs.MixedHead.{letter}
 use Rattle.rtk_convert.specs.FrameClass.{IsClassOfReading, IsEpochOf, IsMomentOf, system_of}
 use Rattle.rtk_setup.specs.Setup.{SetupView, IsSetupView, channels_of, is_of_gps, taken_by}
 use Rattle.rtk_convert.specs.SetupLaws.{DefaultTakesFour, GpsMessagesStay, IsGpsEpoch}
-use Rattle.rtk_convert.proofs.GpsOfferLemmas.{entries-same, gps-message, taken-of-gps}
+use Rattle.rtk_convert.proofs.GpsOfferLemmas.{entries-same, gps-cells, gps-message, taken-of-gps}
 
 -- ---- messages, cells and epochs
 
 of-gps : (m : Message) → IsGpsMessage m → system_of m ≡ Gps
 of-gps (any.Message m) is = refl
 of-gps (any.Msm m) is = is
+of-gps (any.Obs1012 m) is = absurd is
 
 moment-of-gps : (s : SetupView) (clock epoch : Option ℕ) → IsMomentOf s Gps clock epoch ↔ IsGpsEpoch s.near clock epoch
 moment-of-gps s None None = (λ h. h, λ h. h)
@@ -42,7 +44,7 @@ epoch-of-gps s m epoch is = subst (λ (x : System). IsMomentOf s x (tow_of m) ep
 pub gps-messages-stay : GpsMessagesStay
 gps-messages-stay s m is taken valid =
     let one = gps-message s m is taken in
-    (one, entries-same (channels_of s.head.glonass) m one, λ epoch. epoch-of-gps s m epoch one)
+    (one, ap (λ (of : Message → List SignalEntry). of m) (gps-cells s is) ∙ entries-same (channels_of s.head.glonass) m one, λ epoch. epoch-of-gps s m epoch one)
 
 -- ---- the four messages
 

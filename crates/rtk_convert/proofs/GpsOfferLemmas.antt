@@ -1,8 +1,8 @@
 -- What a window of GPS answers, with its cells as signals of any system.
-use Rattle.std.proofs.Common.{◌≡◌, ◌≢◌, ◌∙◌, ◌↔◌, filter, ℕ, ◌+◌, ◌-◌, ◌*◌, ◌<◌, ℤ, Bool, true, false, cond, List, [], ◌∷◌, ◌++◌, map, take, Option, None, Some, inl, inr, refl, ap, sym, arith, nat_eq}
+use Rattle.std.proofs.Common.{◌≡◌, ◌≢◌, ◌∙◌, ◌↔◌, filter, ℕ, ◌+◌, ◌-◌, ◌*◌, ◌<◌, ℤ, Bool, true, false, cond, List, [], ◌∷◌, ◌++◌, map, take, Option, None, Some, inl, inr, refl, ap, sym, subst, arith, nat_eq}
 use Rattle.std.specs.Prelude.{All, IsTrue, option_map, option_to_list, nat_lt, nat_le, ◌==◌, ◌||◌, ◌&&◌, not}
 use Rattle.std.specs.List.{list_all, list_any}
-use Rattle.std.proofs.lemmas.Bool.{cases_order, cases_lt, cases_Bool, and_parts, eqb-true}
+use Rattle.std.proofs.lemmas.Bool.{cases_order, cases_lt, cases_Bool, and_parts, both_ways, eqb-true}
 use Rattle.std.proofs.lemmas.Bool.Decides.{nat_tests}
 use Rattle.std.proofs.lemmas.List.{map-append, take-map}
 use Rattle.std.proofs.lemmas.List.Elements.{All-cons, All-head, All-tail, All-weaker}
@@ -42,13 +42,13 @@ use Rattle.rtk_collect.specs.Gps.{gps}
 use Rattle.rtk_collect.specs.Key.{Above, KeysRise, key}
 use Rattle.rtk_collect.specs.Late.{epochs, greater, late}
 use Rattle.rtk_collect.specs.Offered.{AnswersArrival}
-use Rattle.rtk_collect.specs.Signals.{signals, GpsIsKept, GpsKeepsItsOrder, IsGpsMessage, epoch_of_signals}
+use Rattle.rtk_collect.specs.Signals.{signals, entries_by, GpsIsKept, GpsKeepsItsOrder, IsGpsMessage, epoch_of_signals}
 use Rattle.rtk_collect.proofs.PublicLaws.{gps-keeps-its-order, gps-is-kept}
 use Rattle.rtk_rinex.specs.MixedHead.{letter}
 use Rattle.rtk_convert.specs.Conversion.{AllTaken}
 use Rattle.rtk_convert.specs.Epochs.{set_of, window_of, outcome_of}
 use Rattle.rtk_convert.proofs.EntriesLemmas.{filter-map}
-use Rattle.rtk_setup.specs.Setup.{SetupView, is_of_gps, kinds_taken, taken_by, takes, channels_of}
+use Rattle.rtk_setup.specs.Setup.{SetupView, cells_by, is_of_gps, kinds_taken, obs1012_taken, taken_by, takes, channels_of}
 use Rattle.rtk_convert.specs.Steps.AddedMessage.{IsTakenBy}
 use Rattle.rtk_convert.specs.Steps.OfferedMessage.{AnswersMessage, name_of_gps}
 use Rattle.rtk_convert.proofs.EntriesLemmas.{filter-map}
@@ -72,6 +72,18 @@ lists-none (c ∷ listed) m h ne =
 kinds-none : (s : SetupView) (system : System) → IsTrue (is_of_gps s) → letter_of system ≢ 71 → kinds_taken s system ≡ accepted.no_kind
 kinds-none s system is ne = rw (lists-none s.head.listed (letter_of system) is ne) refl
 
+and-false : (b : Bool) → (b && false) ≡ false
+and-false true = refl
+and-false false = refl
+
+-- 1012 is not taken
+none-of-1012 : (s : SetupView) → IsTrue (is_of_gps s) → obs1012_taken s ≡ false
+none-of-1012 s is = ap (λ (b : Bool). s.takes_1012 && b) (lists-none s.head.listed (letter_of Glonass) is (λ e. omega arith)) ∙ and-false s.takes_1012
+
+-- the cells are those without SBAS in a 1004
+pub gps-cells : (s : SetupView) → IsTrue (is_of_gps s) → cells_by s ≡ entries_of (channels_of s.head.glonass)
+gps-cells s is = ap (λ (b : Bool). entries_by b (channels_of s.head.glonass)) (lists-none s.head.listed (letter_of Sbas) is (λ e. omega arith))
+
 pub taken-of-gps : (s : SetupView) → IsTrue (is_of_gps s) → taken_by s ≡ accepted.of_gps (kinds_taken s Gps)
 taken-of-gps s is =
     rw (
@@ -81,6 +93,7 @@ taken-of-gps s is =
       kinds-none s Qzss is (λ e. omega arith),
       kinds-none s Sbas is (λ e. omega arith),
       kinds-none s Navic is (λ e. omega arith),
+      none-of-1012 s is,
     ) refl
 
 -- a message that the setup takes is read
@@ -95,6 +108,7 @@ gps-message s (any.Message m) is h = tt
 gps-message s (any.Msm m) is h =
     takes-gps (kinds_taken s Gps) (type_of m)
     (ap (λ (a : Accepted). accepted.takes a (type_of m)) (sym (taken-of-gps s is)) ∙ sym (accepts-type (taken_by s) (type_of m)) ∙ accepts-taken s (number_of (any.Msm m)) h)
+gps-message s (any.Obs1012 m) is h = both_ways (obs1012_taken s) (none-of-1012 s is) h
 
 pub gps-messages : (s : SetupView) (arrivals : List Arrival) → IsTrue (is_of_gps s) → AllTaken s arrivals → All (λ (a : Arrival). IsGpsMessage (message_of a)) arrivals
 gps-messages s arrivals is h =
@@ -103,6 +117,7 @@ gps-messages s arrivals is h =
 pub entries-same : (channels : List (Option ℤ)) (m : Message) → IsGpsMessage m → entries_of channels m ≡ map signal_of (cells_of m)
 entries-same channels (any.Message m) is = refl
 entries-same channels (any.Msm m) is = entries-of-gps channels m is
+entries-same channels (any.Obs1012 m) is = absurd is
 
 -- ---- cells of GPS as cells of any system
 
@@ -347,9 +362,13 @@ gps-answers s old new a offer listed is taken size meets before kept =
     let channels = channels_of s.head.glonass in
     let one = gps-message s (message_of a) is taken in
     let all = gps-messages s before is kept.taken in
-    let m = meets before (represents-gps order law channels old.places old before refl all kept.window) in (
-      right-same order law channels old.places a before one all (cells_of-satellites (message_of a)) offer listed m.0,
-      represents-signals order law channels old.places new (a ∷ before) size (All-cons (λ (b : Arrival). IsGpsMessage (message_of b)) a before one all) m.1,
+    let same = gps-cells s is in
+    let window = subst (λ (of : Message → List SignalEntry). RepresentsArrivals signals of (window_of signal_of old) before) same kept.window in
+    let m = meets before (represents-gps order law channels old.places old before refl all window) in (
+      subst (λ (of : Message → List SignalEntry). IsRightAnswer signals of old.places a before (outcome_of signal_of offer) (map name_of_gps listed)) (sym same)
+          (right-same order law channels old.places a before one all (cells_of-satellites (message_of a)) offer listed m.0),
+      subst (λ (of : Message → List SignalEntry). RepresentsArrivals signals of (window_of signal_of new) (a ∷ before)) (sym same)
+          (represents-signals order law channels old.places new (a ∷ before) size (All-cons (λ (b : Arrival). IsGpsMessage (message_of b)) a before one all) m.1),
     )
 
 -- ---- the order of cells, and those that are left

@@ -11,12 +11,12 @@ use Rattle.rtk_message.specs.declared.any_message.AnyMessage.TheVariants as any
 use Rattle.rtk_message.specs.declared.message.Message.TheVariants.{Obs1004, Arp1005, Arp1006, Msm1074}
 use Rattle.rtk_message.specs.declared.any_fault.AnyFault.{AnyFault}
 use Rattle.rtk_message.specs.declared.system.System.{System}
+use Rattle.rtk_message.specs.declared.system.System.TheVariants.{Sbas}
 use Rattle.rtk_message.specs.AnyDecoded.{DecodesBy, Encodes, IsValid, number_of, tow_of}
 use Rattle.rtk_obs.specs.declared.signal_cells.SignalEntry.{SignalEntry}
 use Rattle.rtk_obs.specs.SignalCells.{IsSignalInRange}
 use Rattle.rtk_obs.specs.Dating.{IsReference}
 use Rattle.rtk_obs.specs.Coordinates.{IsCoordinate}
-use Rattle.rtk_obs.proofs.PublicLaws.{entries_of-in_range}
 use Rattle.rtk_collect.specs.Signals.{signals}
 use Rattle.rtk_collect.specs.EpochSet.{EpochSetView, joined}
 use Rattle.rtk_collect.specs.Arrival.{Arrival, At}
@@ -33,10 +33,11 @@ use Rattle.rtk_convert.specs.File.{record_count}
 use Rattle.rtk_convert.specs.FileLaws.{HasPhaseBy, IsGoodEpoch}
 use Rattle.rtk_convert.specs.FileOfArrivals.{no_site, site_of_1005, site_of_stations, site_of_kept, kept_file}
 use Rattle.rtk_convert.specs.FrameClass.{IsDatedMessage, IsMomentOf, system_of, IsClassOfReading, IsClassOfPayload, Found, and_arrived, arrivals}
-use Rattle.rtk_setup.specs.Setup.{SetupView, IsSetupView, cells_by, channels_of, taken_by}
+use Rattle.rtk_setup.specs.Setup.{SetupView, IsSetupView, cells_by, channels_of, lists_system, taken_by}
 use Rattle.rtk_convert.proofs.ClassLemmas.{dated-reading}
 use Rattle.rtk_convert.proofs.MomentLemmas.{clock-moment}
-use Rattle.rtk_convert.proofs.PhasesLemmas.{entries-phases}
+use Rattle.rtk_convert.proofs.PhasesLemmas.{phases-by}
+use Rattle.rtk_convert.proofs.SignalsOf1004Lemmas.{in-range}
 use Rattle.rtk_convert.proofs.TableLemmas.{file-has_records}
 
 -- ---- arrivals of payloads are valid, and their epochs are moments
@@ -101,7 +102,7 @@ module _ (s : SetupView) where
   kept-good n (At (Some e) m ∷ before) h = elim (cases_Bool (late n (At (Some e) m) before)) [
     | inl over ↦ subst (AllByRecursion (IsGoodEpoch s)) (sym (kept-late signals (cells_by s) n e m before over)) (kept-good n before h.1)
     | inr fresh ↦ subst (AllByRecursion (IsGoodEpoch s)) (sym (kept-new signals (cells_by s) n e m before fresh))
-        (with_arrival-good e (cells_by s m) (kept signals (cells_by s) n before) h.0.1 (entries_of-in_range (channels_of s.head.glonass) m h.0.0, entries-phases s.head m) (kept-good n before h.1))
+        (with_arrival-good e (cells_by s m) (kept signals (cells_by s) n before) h.0.1 (in-range (lists_system s.head.listed Sbas) (channels_of s.head.glonass) m h.0.0, phases-by s.head (lists_system s.head.listed Sbas) m) (kept-good n before h.1))
   ]
 
 -- ---- and so is the position
@@ -137,6 +138,7 @@ site_of_1005-good (Some (any.Message (Arp1005 m))) v = (coordinate m.x v.1.1.1.1
 site_of_1005-good (Some (any.Message (Arp1006 m))) v = zeros-good
 site_of_1005-good (Some (any.Message (Msm1074 m))) v = zeros-good
 site_of_1005-good (Some (any.Msm m)) v = zeros-good
+site_of_1005-good (Some (any.Obs1012 m)) v = zeros-good
 
 site-good : (short tall : Option Message) → IfValid short → IfValid tall → IsPositionView (site_of_stations short tall)
 site-good short None s t = site_of_1005-good short s
@@ -145,6 +147,7 @@ site-good short (Some (any.Message (Arp1005 m))) s t = site_of_1005-good short s
 site-good short (Some (any.Message (Arp1006 m))) s v = (coordinate m.arp.x v.1.1.1.1.1.1.0, coordinate m.arp.y v.1.1.1.1.1.1.1.1.1.0, coordinate m.arp.z v.1.1.1.1.1.1.1.1.1.1.1.0, v.1.1.1.1.1.1.1.1.1.1.1.1.0)
 site-good short (Some (any.Message (Msm1074 m))) s t = site_of_1005-good short s
 site-good short (Some (any.Msm m)) s t = site_of_1005-good short s
+site-good short (Some (any.Obs1012 m)) s t = site_of_1005-good short s
 
 -- ---- so the file is the text of a table, with as many records as are counted
 

@@ -1,4 +1,5 @@
 mod SystemLemmas
+mod SignalsOf1004Lemmas
 mod PhasesLemmas
 mod CodesLemmas
 mod EntriesLemmas

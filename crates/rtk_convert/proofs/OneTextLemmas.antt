@@ -6,6 +6,7 @@ use Rattle.std.proofs.lemmas.List.{append-nil, length-append}
 use Rattle.rtk_bits.specs.Bits.{bits}
 use Rattle.rtk_message.specs.declared.any_message.AnyMessage.{AnyMessage as Message}
 use Rattle.rtk_message.specs.declared.any_fault.AnyFault.{AnyFault}
+use Rattle.rtk_message.specs.declared.system.System.TheVariants.{Sbas}
 use Rattle.rtk_message.specs.AnyDecoded.{DecodesBy, Encodes, IsValid, number_of}
 use Rattle.rtk_obs.specs.declared.signal_cells.SignalEntry.{SignalEntry}
 use Rattle.rtk_collect.specs.Signals.{signals}
@@ -20,7 +21,7 @@ use Rattle.rtk_convert.specs.declared.frame_class.FrameClass.TheVariants.{OtherM
 use Rattle.rtk_convert.specs.FileOfArrivals.{file_so_far}
 use Rattle.rtk_convert.specs.FrameClass.{IsClassOfReading, IsClassOfPayload, Found, arrivals}
 use Rattle.rtk_convert.specs.Report.{class_lines, cell_lines, frame_lines, lines}
-use Rattle.rtk_setup.specs.Setup.{SetupView, cells_by, channels_of, taken_by}
+use Rattle.rtk_setup.specs.Setup.{SetupView, cells_by, channels_of, lists_system, taken_by}
 use Rattle.rtk_convert.specs.Conversion.{found_on, AddsToOne}
 use Rattle.rtk_convert.proofs.ClassLemmas.{dated-reading}
 use Rattle.rtk_convert.proofs.SoFarLemmas.{so_far-stays}
@@ -66,7 +67,7 @@ one-in-time s link e m before None valid fresh none =
     let class : class_of signals (cells_by s) s.window (At (Some e) m) before ≡ TakenClass =
     ap (λ (b : Bool). if b then LateClass else class_in_time signals (cells_by s) s.window (At (Some e) m) before) fresh ∙ ap (class_of_cells signals (cells_by s m)) none in
     inr (ap (λ (c : Class). class_lines link (number_of m) (Some e) c (conflicts_of signals (cells_by s) s.window (At (Some e) m) before)) class
-    ∙ ap (cell_lines link (number_of m) (Some e)) (ap (conflicts_with signals (cells_by s m)) none ∙ signals-open (channels_of s.head.glonass) m valid))
+    ∙ ap (cell_lines link (number_of m) (Some e)) (ap (conflicts_with signals (cells_by s m)) none ∙ signals-open (lists_system s.head.listed Sbas) (channels_of s.head.glonass) m valid))
 one-in-time s link e m before (Some b) valid fresh held = stays s link (At (Some e) m) before (held-length signals (cells_by s) s.window e m b before held)
 
 one-text : (s : SetupView) (link : ℕ) (a : Arrival) (before : List Arrival) → IsValid (message_of a) → One s link a before

@@ -11,14 +11,12 @@ use Rattle.rtk_obs.specs.declared.code.Code.TheVariants.{G1C, G1P, G1W, G1S, G1L
 use Rattle.rtk_obs.specs.declared.track.Track.{Track}
 use Rattle.rtk_obs.specs.AnyCode as any
 use Rattle.rtk_obs.specs.AnyCode.{signal_place}
-use Rattle.rtk_obs.specs.Code as gps
 use Rattle.rtk_obs.specs.Code.{all_codes, place_of}
 use Rattle.rtk_obs.specs.SatelliteIndex.{IsSatelliteIndex}
 use Rattle.rtk_obs.specs.Tracks as tracks
 use Rattle.rtk_obs.specs.Tracks.{place_of_signal}
 use Rattle.rtk_obs.proofs.PublicLaws.{place_below}
 use Rattle.rtk_convert.specs.LastPhases.{track_at}
-use Rattle.rtk_convert.specs.Rows.{band_at, band_of}
 use Rattle.rtk_convert.specs.Steps.PhaseBlocks.{HasNoPhases, phase_at, phases_of}
 
 -- ---- places
@@ -39,29 +37,6 @@ same-place blocks others k h = elim (cases_lt k 3584) [
 ]
 
 -- ---- codes of GPS for places
-
--- the bands of the codes of GPS, by their places
-pub band-at : (c : Code) → gps.band_of c ≡ band_at (place_of c)
-band-at G1C = refl
-band-at G1P = refl
-band-at G1W = refl
-band-at G1S = refl
-band-at G1L = refl
-band-at G1X = refl
-band-at G2C = refl
-band-at G2D = refl
-band-at G2P = refl
-band-at G2W = refl
-band-at G2S = refl
-band-at G2L = refl
-band-at G2X = refl
-band-at G5I = refl
-band-at G5Q = refl
-band-at G5X = refl
-
--- the band of a code is that of the code of GPS with its place
-pub band-same : (c : Code) (k : AnyCode) → place_of c ≡ any.place_of k → gps.band_of c ≡ band_of k
-band-same c k same = band-at c ∙ ap band_at same
 
 -- each place below 16 is that of a code
 place-at : (k : ℕ) → k < 16 → place_of (get_or all_codes k G1C) ≡ k

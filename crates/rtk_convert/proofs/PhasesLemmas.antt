@@ -1,12 +1,16 @@
 -- A cell of a satellite of GLONASS has no phase unless the head tells the channel of its slot.
-use Rattle.std.proofs.Common.{◌≡◌, ◌≢◌, ◌∙◌, ◌+◌, ◌-◌, ◌≤◌, ℕ, suc, Bool, true, false, List, [], ◌∷◌, Option, None, Some, ℤ, inl, inr, refl, ap, subst, arith}
-use Rattle.std.specs.Prelude.{All, nat_le, is_some, ◌==◌}
+use Rattle.std.proofs.Common.{◌≡◌, ◌≢◌, ◌∙◌, ◌+◌, ◌-◌, ◌≤◌, ℕ, suc, Bool, true, false, List, [], ◌∷◌, Option, None, Some, ℤ, cond, inl, inr, refl, ap, subst, arith}
+use Rattle.std.specs.Prelude.{All, IfSome, nat_le, is_some, ◌==◌}
+use Rattle.std.specs.List.{flat_map}
 use Rattle.std.proofs.lemmas.Bool.{cases_Bool, and_parts}
 use Rattle.std.proofs.lemmas.Bool.Decides.{nat_tests}
 use Rattle.std.proofs.lemmas.List.Elements.{All-nil, All-cons, All-append, All-map, All-weaker}
 use Rattle.rtk_message.specs.declared.any_message.AnyMessage.{AnyMessage as Message}
 use Rattle.rtk_message.specs.declared.any_message.AnyMessage.TheVariants as any
+use Rattle.rtk_message.specs.declared.message.Message.TheVariants.{Obs1004, Arp1005, Arp1006, Msm1074}
 use Rattle.rtk_message.specs.declared.msm.Msm.{Msm}
+use Rattle.rtk_message.specs.declared.obs1004.Satellite.{Satellite}
+use Rattle.rtk_message.specs.declared.obs1012.GlonassSatellite.{GlonassSatellite}
 use Rattle.rtk_message.specs.declared.system.System.{System}
 use Rattle.rtk_message.specs.declared.system.System.TheVariants.{Gps, Glonass, Galileo, Beidou, Qzss, Sbas, Navic}
 use Rattle.rtk_obs.specs.declared.any_code.AnyCode.{AnyCode}
@@ -16,16 +20,20 @@ use Rattle.rtk_obs.specs.declared.signal_cells.SignalEntry.{SignalEntry}
 use Rattle.rtk_obs.specs.AnyCode.{carrier_of}
 use Rattle.rtk_obs.specs.Carriers.{channel_at, frequency_at}
 use Rattle.rtk_obs.specs.Cell.{IsSatellite}
+use Rattle.rtk_obs.specs.GlonassCells.{first_of_slots, glonass_channel, glonass_l1_cell, glonass_l1_code, glonass_l1_entry, glonass_l2_cell, glonass_l2_code, glonass_l2_entries, glonass_l2_entry, slot_entries, unless_other_in_1012}
 use Rattle.rtk_obs.specs.Mask.{join_from}
 use Rattle.rtk_obs.specs.MessageCells.{cells_of}
 use Rattle.rtk_obs.specs.MsmCells.{Slot, cell_on, slots_of}
 use Rattle.rtk_obs.specs.SatelliteIndex.{bit_at, index_in, is_taken, satellites_before, satellites_of_system, system_at}
+use Rattle.rtk_obs.specs.SbasCells.{entries_with_sbas}
 use Rattle.rtk_obs.specs.Signals.{code_in}
 use Rattle.rtk_obs.specs.SignalCells.{bit_of_row, channel_in, entries_of, entry_if, field_of_row, signal_entry, signal_of}
 use Rattle.rtk_obs.proofs.PublicLaws.{cells_of-satellites}
+use Rattle.rtk_collect.specs.Signals.{entries_by}
 use Rattle.rtk_rinex.specs.MixedForm.{form_of_head, has_channel, has_phases, phases_in}
 use Rattle.rtk_rinex.specs.MixedHead.{GlonassView, MixedHeadView}
 use Rattle.rtk_setup.specs.Setup.{channels_of}
+use Rattle.rtk_convert.proofs.SignalsOf1004Lemmas.{each-signal, sbas_entry}
 use Rattle.rtk_convert.proofs.SystemLemmas.{at-gps, in-system}
 
 le-of : (a b : ℕ) → nat_le a b ≡ true → a ≤ b
@@ -88,7 +96,19 @@ glonass-frequency n code is = elim (cases_Bool (n == 2)) [
   ]
 ]
 
--- ---- the entries of an MSM
+l1-frequency : (b : Bool) → frequency_at (carrier_of (glonass_l1_code b)) None ≡ None
+l1-frequency true = refl
+l1-frequency false = refl
+
+l2-frequency-if : (a b : Bool) → IfSome (cond a (Some R2C) (cond b (Some R2P) None)) (λ code. frequency_at (carrier_of code) None ≡ None)
+l2-frequency-if true b = refl
+l2-frequency-if false true = refl
+l2-frequency-if false false = tt
+
+l2-frequency : (n : ℕ) → IfSome (glonass_l2_code n) (λ code. frequency_at (carrier_of code) None ≡ None)
+l2-frequency n = l2-frequency-if (n == 0) (n == 1)
+
+-- ---- the entries of a message
 
 module _ (h : MixedHeadView) where
   abbrev HasPhase : SignalEntry → Type 0
@@ -99,14 +119,18 @@ module _ (h : MixedHeadView) where
       absurd (never-both (phases_in (form_of_head h) s (bit_at e.satellite)) (phases-always h s (bit_at e.satellite) ne)
       (subst (λ (t : System). phases_in (form_of_head h) t (bit_at e.satellite) ≡ false) is none))
 
-  of-glonass : (m : Msm) (k row bit field signal : ℕ) (code : AnyCode) → code_in Glonass signal ≡ Some code → is_taken Glonass bit ≡ true
-      → HasPhase (record { satellite = 32 + bit; code = code; cell = cell_on m k row (frequency_at (carrier_of code) (channel_in Glonass (channels_of h.glonass) bit field)) })
-  of-glonass m k row bit field signal code is taken none =
+  -- a slot without a channel
+  untold-slot : (bit : ℕ) → is_taken Glonass bit ≡ true → has_phases (form_of_head h) (32 + bit) ≡ false → channel_at (channels_of h.glonass) bit ≡ None
+  untold-slot bit taken none =
       let system : system_at (32 + bit) ≡ Glonass = system-of Glonass bit taken in
       let untold : has_channel h.glonass (32 + bit - 32) ≡ false = subst (λ (t : System). phases_in (form_of_head h) t (32 + bit - satellites_before t) ≡ false) system none in
       let slot : 32 + bit - 32 ≡ bit = omega arith in
-      let without : has_channel h.glonass bit ≡ false = subst (λ (n : ℕ). has_channel h.glonass n ≡ false) slot untold in
-      let channel = channel-none (channels_of h.glonass) bit field (none-told h.glonass bit without) in
+      none-told h.glonass bit (subst (λ (n : ℕ). has_channel h.glonass n ≡ false) slot untold)
+
+  of-glonass : (m : Msm) (k row bit field signal : ℕ) (code : AnyCode) → code_in Glonass signal ≡ Some code → is_taken Glonass bit ≡ true
+      → HasPhase (record { satellite = 32 + bit; code = code; cell = cell_on m k row (frequency_at (carrier_of code) (channel_in Glonass (channels_of h.glonass) bit field)) })
+  of-glonass m k row bit field signal code is taken none =
+      let channel = channel-none (channels_of h.glonass) bit field (untold-slot bit taken none) in
       ap (λ (o : Option ℤ). (cell_on m k row (frequency_at (carrier_of code) o)).phase_millicycles) channel
       ∙ ap (λ (f : Option ℕ). (cell_on m k row f).phase_millicycles) (glonass-frequency signal code is)
 
@@ -144,12 +168,57 @@ module _ (h : MixedHeadView) where
       All-append HasPhase (signal_entry (channels_of h.glonass) m k x) (join_from (signal_entry (channels_of h.glonass) m) (suc k) slots)
       (of-entry m.system m k x.row (bit_of_row m x.row) (field_of_row m x.row) x.signal) (of-slots m (suc k) slots)
 
+  -- the entries of a 1012
+  of-l1 : (s : GlonassSatellite) (code : AnyCode) → frequency_at (carrier_of code) None ≡ None → is_taken Glonass s.slot ≡ true
+      → HasPhase (glonass_l1_entry s (glonass_channel (channels_of h.glonass) s) (32 + s.slot) code)
+  of-l1 s code is taken none =
+      ap (λ (o : Option ℤ). (glonass_l1_cell s (frequency_at (carrier_of code) (unless_other_in_1012 s.channel o))).phase_millicycles) (untold-slot s.slot taken none)
+      ∙ ap (λ (f : Option ℕ). (glonass_l1_cell s f).phase_millicycles) is
+
+  of-l2 : (s : GlonassSatellite) (code : AnyCode) → frequency_at (carrier_of code) None ≡ None → is_taken Glonass s.slot ≡ true
+      → HasPhase (glonass_l2_entry s (glonass_channel (channels_of h.glonass) s) (32 + s.slot) code)
+  of-l2 s code is taken none =
+      ap (λ (o : Option ℤ). (glonass_l2_cell s (frequency_at (carrier_of code) (unless_other_in_1012 s.channel o))).phase_millicycles) (untold-slot s.slot taken none)
+      ∙ ap (λ (f : Option ℕ). (glonass_l2_cell s f).phase_millicycles) is
+
+  of-l2-if : (s : GlonassSatellite) (o : Option AnyCode) → IfSome o (λ code. frequency_at (carrier_of code) None ≡ None) → is_taken Glonass s.slot ≡ true
+      → All HasPhase (glonass_l2_entries s (glonass_channel (channels_of h.glonass) s) (32 + s.slot) o)
+  of-l2-if s None is taken = All-nil HasPhase
+  of-l2-if s (Some code) is taken = All-cons HasPhase _ [] (of-l2 s code is taken) (All-nil HasPhase)
+
+  of-slot : (s : GlonassSatellite) → All HasPhase (slot_entries (channels_of h.glonass) s)
+  of-slot s = elim (cases_Bool (is_taken Glonass s.slot)) [
+    | inl taken ↦ rw taken (All-cons HasPhase _ _ (of-l1 s (glonass_l1_code s.l1_code) (l1-frequency s.l1_code) taken) (of-l2-if s (glonass_l2_code s.l2_code) (l2-frequency s.l2_code) taken))
+    | inr other ↦ rw other (All-nil HasPhase)
+  ]
+
+  of-satellites : (ss : List GlonassSatellite) → All HasPhase (flat_map (slot_entries (channels_of h.glonass)) ss)
+  of-satellites [] = All-nil HasPhase
+  of-satellites (s ∷ ss) = All-append HasPhase (slot_entries (channels_of h.glonass) s) (flat_map (slot_entries (channels_of h.glonass)) ss) (of-slot s) (of-satellites ss)
+
   of-gps : (e : CellEntry) → IsSatellite e.satellite → HasPhase (signal_of e)
   of-gps e is = of-another (signal_of e) Gps (at-gps e.satellite is.1) (λ q. cc)
 
   -- no cell of a message has a phase without the channel of its slot
-  pub entries-phases : (m : Message) → All HasPhase (entries_of (channels_of h.glonass) m)
+  entries-phases : (m : Message) → All HasPhase (entries_of (channels_of h.glonass) m)
   entries-phases (any.Message m) =
       All-map HasPhase signal_of (cells_of (any.Message m))
       (All-weaker (λ (e : CellEntry). IsSatellite e.satellite) (λ (e : CellEntry). HasPhase (signal_of e)) of-gps (cells_of (any.Message m)) (cells_of-satellites (any.Message m)))
   entries-phases (any.Msm m) = of-slots m 0 (slots_of m.header m.cell_mask)
+  entries-phases (any.Obs1012 m) = of-satellites (first_of_slots m.satellites)
+
+  -- nor with those of SBAS in a 1004
+  of-sbas : (s : Satellite) (bit : ℕ) → is_taken Sbas bit ≡ true → HasPhase (sbas_entry s bit)
+  of-sbas s bit taken = of-another (sbas_entry s bit) Sbas (system-of Sbas bit taken) (λ q. cc)
+
+  with-sbas : (m : Message) → All HasPhase (entries_with_sbas (channels_of h.glonass) m)
+  with-sbas (any.Message (Obs1004 m)) = each-signal HasPhase of-gps of-sbas m.satellites
+  with-sbas (any.Message (Arp1005 m)) = entries-phases (any.Message (Arp1005 m))
+  with-sbas (any.Message (Arp1006 m)) = entries-phases (any.Message (Arp1006 m))
+  with-sbas (any.Message (Msm1074 m)) = entries-phases (any.Message (Msm1074 m))
+  with-sbas (any.Msm m) = entries-phases (any.Msm m)
+  with-sbas (any.Obs1012 m) = entries-phases (any.Obs1012 m)
+
+  pub phases-by : (sbas : Bool) (m : Message) → All HasPhase (entries_by sbas (channels_of h.glonass) m)
+  phases-by true m = with-sbas m
+  phases-by false m = entries-phases m

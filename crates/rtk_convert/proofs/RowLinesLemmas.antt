@@ -1,10 +1,9 @@
 -- The text of a record, whose lines are written code by code.
-use Rattle.std.proofs.Common.{◌≡◌, ◌∙◌, ℕ, ◌+◌, ◌-◌, ◌<◌, ◌≤◌, List, [], ◌∷◌, ◌++◌, length, take, set, min, replicate, arith, refl, ap, sym, true, false, nat_le, Some}
+use Rattle.std.proofs.Common.{◌≡◌, ◌∙◌, ℕ, ◌+◌, ◌-◌, ◌<◌, ◌≤◌, List, [], ◌∷◌, ◌++◌, length, arith, refl, ap, sym, true, false, nat_le, Some}
 use Rattle.std.specs.Prelude.{All}
 use Rattle.std.specs.List.{flat_map, filter}
-use Rattle.std.proofs.Math.Seq.{take-set-lt}
 use Rattle.std.proofs.lemmas.Bool.{cond-false}
-use Rattle.std.proofs.lemmas.List.{append-nil, length-take, take-replicate}
+use Rattle.std.proofs.lemmas.List.{append-nil}
 use Rattle.std.proofs.lemmas.Bool.Decides.{nat_tests}
 use Rattle.std.proofs.lemmas.List.Elements.{All-head, All-pop, All-tail, All-filter, filter-append}
 use Rattle.std.proofs.lemmas.List.Sums.{length-filter, count_by-le-length}
@@ -13,13 +12,12 @@ use Rattle.rtk_message.specs.declared.system.System.TheVariants.{Gps}
 use Rattle.rtk_obs.specs.declared.time.Civil.{Civil}
 use Rattle.rtk_obs.specs.CivilText.{last_digits}
 use Rattle.rtk_obs.specs.SatelliteIndex.{satellites_before, system_at, letter_of, name_offset, index_name}
-use Rattle.rtk_rinex.specs.declared.epoch_table.Observed.{Observed}
 use Rattle.rtk_rinex.specs.declared.epoch_table.SatelliteRow.{SatelliteRow}
 use Rattle.rtk_obs.specs.Reading.{reading_of}
-use Rattle.rtk_rinex.specs.Record.{EpochTableView, no_observation, observations, trim_end, has_line, satellite_line, epoch_line, lines_of, record_text}
-use Rattle.rtk_rinex.specs.RecordLines.{RecordLinesView, IsFreeIn}
-use Rattle.rtk_rinex.specs.MixedRecord.{MixedLinesView, HoldsMixedLines, mixed_satellite_line, mixed_lines_of, mixed_record_text}
-use Rattle.rtk_convert.specs.Steps.RowLines.{HasRoom, HoldsGpsLines, IsOpenRow}
+use Rattle.rtk_rinex.specs.Record.{EpochTableView, observations, trim_end, has_line, satellite_line, epoch_line, lines_of, record_text}
+use Rattle.rtk_rinex.specs.RecordLines.{RecordLinesView}
+use Rattle.rtk_rinex.specs.MixedRecord.{HoldsMixedLines, mixed_satellite_line, mixed_lines_of, mixed_record_text}
+use Rattle.rtk_convert.specs.Steps.RowLines.{HasRoom, HoldsGpsLines}
 
 -- ---- room for a line more
 
@@ -28,8 +26,10 @@ gps-room l room =
     let rows = room.0 in
     omega (arith, room.1.holds.count, room.2, length-filter has_line rows, count_by-le-length has_line rows)
 
-pub mixed-room : (l : MixedLinesView) (rows : List SatelliteRow) → HoldsMixedLines l rows → length rows < 221 → l.count < 221
-mixed-room l rows h few = omega (arith, h.count, few, length-filter has_line rows, count_by-le-length has_line rows)
+pub mixed-room : (l : RecordLinesView) → HasRoom HoldsMixedLines 221 l → l.count < 221
+mixed-room l room =
+    let rows = room.0 in
+    omega (arith, room.1.count, room.2, length-filter has_line rows, count_by-le-length has_line rows)
 
 -- ---- the record of satellites of GPS
 
@@ -61,23 +61,6 @@ pub gps-record : (e : EpochTableView) → All (λ r. r.satellite ≤ 32) e.rows 
 unfolding record_text mixed_record_text
 gps-record e h = gps-of (reading_of e.time) (filter has_line e.rows) (All-filter has_line IsGpsRow e.rows h)
 
--- ---- the open line
-
-pub row-set : (all row : List Observed) (codes place : ℕ) (o : Observed) → IsOpenRow all codes row → IsFreeIn row place → IsOpenRow (set all place o) codes (set row place o)
-row-set all row codes place o h free =
-    let short : length row ≡ min codes (length all) = ap length h.codes_are ∙ length-take codes all in
-    let low : place < codes = let inside = free.inside in grind (arith) in
-    record {
-      few = h.few;
-      codes_are = ap (λ (xs : List Observed). set xs place o) h.codes_are ∙ sym (take-set-lt codes all place o low);
-    }
-
-pub row-open : (all : List Observed) (codes : ℕ) (o : Observed) → codes ≤ 16 → all ≡ replicate 16 o → o ≡ no_observation → IsOpenRow all codes (replicate codes no_observation)
-row-open all codes o few is none = record {
-  few = few;
-  codes_are = ap (replicate codes) (sym none) ∙ sym (take-replicate codes 16 o few) ∙ ap (take codes) (sym is);
-}
-
 -- ---- a row without an observation
 
 lines-blank : (rows : List SatelliteRow) (r : SatelliteRow) → has_line r ≡ false → filter has_line (rows ++ r ∷ []) ≡ filter has_line rows
@@ -94,7 +77,7 @@ gps-blank l rows r none h =
       satellites = (All-pop (λ (x : SatelliteRow). x.satellite ≤ 32) (rows ++ r ∷ []) rows (Some r) refl h.satellites).0;
     }
 
-pub mixed-blank : (l : MixedLinesView) (rows : List SatelliteRow) (r : SatelliteRow) → has_line r ≡ false → HoldsMixedLines l (rows ++ r ∷ []) → HoldsMixedLines l rows
+pub mixed-blank : (l : RecordLinesView) (rows : List SatelliteRow) (r : SatelliteRow) → has_line r ≡ false → HoldsMixedLines l (rows ++ r ∷ []) → HoldsMixedLines l rows
 mixed-blank l rows r none h =
     let same = lines-blank rows r none in
     record { lines = h.lines ∙ ap (flat_map mixed_satellite_line) same; count = h.count ∙ ap length same }

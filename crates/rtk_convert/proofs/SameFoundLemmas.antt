@@ -14,7 +14,6 @@ use Rattle.rtk_message.specs.declared.system.System.{System}
 use Rattle.rtk_message.specs.declared.system.System.TheVariants.{Gps, Glonass, Galileo, Beidou, Qzss, Sbas, Navic}
 use Rattle.rtk_message.specs.AnyDecoded.{number_of}
 use Rattle.rtk_obs.specs.declared.cell.Cell.{Cell}
-use Rattle.rtk_obs.specs.declared.code.Band.{Band}
 use Rattle.rtk_obs.specs.declared.any_code.AnyCode.{AnyCode}
 use Rattle.rtk_obs.specs.declared.track.Track.{Track}
 use Rattle.rtk_obs.specs.AnyCode.{IsSignal}
@@ -44,10 +43,10 @@ use Rattle.rtk_convert.specs.FileOfArrivals.{site_of_stations, site_of_kept, kep
 use Rattle.rtk_convert.specs.Finish.{all_counts, missing_letter, missing_letters, missing_lines, unphased_lines, remark_lines, report_of}
 use Rattle.rtk_convert.specs.FrameClass.{IsDatedMessage, IsEpochOf, IsClassOfReading, IsClassOfPayload, Found, arrivals}
 use Rattle.rtk_convert.specs.History.{Finds, newest_on}
-use Rattle.rtk_convert.specs.Report.{brings, class_lines, frame_lines, has_taken, is_of, is_taken, lines, counted_as, one_frame_more, frame_counts}
+use Rattle.rtk_convert.specs.Report.{brings, brings_sbas, class_lines, frame_lines, has_taken, is_of, is_of_sbas, is_taken, lines, counted_as, one_frame_more, frame_counts}
 use Rattle.rtk_convert.specs.ReportText.{missing_line}
 use Rattle.rtk_setup.specs.Counts.{count_lines}
-use Rattle.rtk_convert.specs.Rows.{band_of, cell_at, and_below, last_phase_of, observed_after, observed_at}
+use Rattle.rtk_convert.specs.Rows.{rolling_frequency, cell_at, and_below, last_phase_of, observed_after, observed_at}
 use Rattle.rtk_setup.specs.Setup.{SetupView, cells_by, is_of_gps, lists_system, takes}
 use Rattle.rtk_convert.specs.Slots.{is_without_channel, is_of_other_channel, tells_slot, any_tells}
 use Rattle.rtk_convert.specs.Steps.ClosedText.{header_before, closed_text, closing_text, closing}
@@ -98,9 +97,9 @@ record-same listed e first second c =
     ap (text_of e.epoch) (rows_to-same (observed_at e first) (observed_at e second) listed 221 (omega arith)
     (λ s code is. ap (λ (t : Option Track). observed_after t code e.epoch (cell_at e.cells s code)) (c.phases s code is)))
 
-phase-step : (band : Band) (epoch : ℕ) (o : Option Cell) (xs ys : List EpochCell) → last_phase band xs ≡ last_phase band ys → last_phase band (and_below epoch o xs) ≡ last_phase band (and_below epoch o ys)
-phase-step band epoch None xs ys h = h
-phase-step band epoch (Some c) xs ys h = ap (λ (t : Option Track). last_after band t (epoch_cell epoch c)) h
+phase-step : (frequency : ℕ) (epoch : ℕ) (o : Option Cell) (xs ys : List EpochCell) → last_phase frequency xs ≡ last_phase frequency ys → last_phase frequency (and_below epoch o xs) ≡ last_phase frequency (and_below epoch o ys)
+phase-step frequency epoch None xs ys h = h
+phase-step frequency epoch (Some c) xs ys h = ap (λ (t : Option Track). last_after frequency t (epoch_cell epoch c)) h
 
 header-step : (o p : Option ℕ) (epoch : ℕ) (text : List ℕ) → is_some o ≡ is_some p → is_some (first_or o epoch text) ≡ is_some (first_or p epoch text)
 header-step None None epoch text h = refl
@@ -113,7 +112,7 @@ unfolding record_count
 one-closed listed e first second c =
     let same = record-same listed e first second c in
     record {
-      phases = λ s code is. phase-step (band_of code) e.epoch (cell_at e.cells s code) _ _ (c.phases s code is);
+      phases = λ s code is. phase-step (rolling_frequency code) e.epoch (cell_at e.cells s code) _ _ (c.phases s code is);
       header = ap is_some (first_time-more listed e first) ∙ header-step (first_time listed first) (first_time listed second) e.epoch (record_of listed e first) c.header
           ∙ ap (λ t. is_some (first_or (first_time listed second) e.epoch t)) same ∙ ap is_some (sym (first_time-more listed e second));
       count = ap (one_more_if_any (record_of listed e first)) c.count ∙ ap (λ t. one_more_if_any t (record_count listed second)) same;
@@ -182,7 +181,8 @@ lines-same s link a first second alike =
     ]
 
 brings-same : (s : SetupView) (system : System) (a : Arrival) (first second : List Arrival) → AnsweredAlike (cells_by s) s.window a first second → brings s system (Dated a) first ≡ brings s system (Dated a) second
-brings-same s system a first second alike = ap (λ (c : Class). is_of system (message_of a) && is_taken c) alike.same_class
+brings-same s system a first second alike =
+    ap (λ (c : Class). (is_of system (message_of a) && is_taken c) || (is_of_sbas (brings_sbas s (message_of a)) system && is_taken c)) alike.same_class
 
 -- ---- a frame
 
@@ -214,6 +214,7 @@ station-number s (any.Message (Arp1005 m)) None is = inl refl
 station-number s (any.Message (Arp1006 m)) None is = inr refl
 station-number s (any.Message (Msm1074 m)) None is = absurd is
 station-number s (any.Msm m) None is = absurd is
+station-number s (any.Obs1012 m) None is = absurd is
 
 -- a message that is dated has the number of a station message, or an epoch
 dated-number : (s : SetupView) (m : Message) (a : Arrival) → IsDatedMessage s m a → HasStationNumber a

@@ -20,7 +20,7 @@ use Rattle.rtk_collect.specs.Signals.{signals}
 use Rattle.rtk_rinex.specs.declared.epoch_table.Observed.{Observed}
 use Rattle.rtk_rinex.specs.declared.epoch_table.SatelliteRow.{SatelliteRow}
 use Rattle.rtk_convert.specs.LastPhases.{track_at}
-use Rattle.rtk_convert.specs.Rows.{band_of, codes_for, first_cell, observed_with, observed_after, or_nothing, row_if_any, rows_to}
+use Rattle.rtk_convert.specs.Rows.{rolling_frequency, codes_for, first_cell, observed_with, observed_after, or_nothing, row_if_any, rows_to}
 use Rattle.rtk_convert.specs.Steps.ShownCells.{AreRowCodes, IsSetOfCodes, MayStep, IsPlaceOf, IsLeastAt, HasFreeOf, IsFreeOf, ShowsRow, ShowsSome, StepsOver, TakesCells, track_after, shown_by, is_at}
 use Rattle.rtk_convert.proofs.CellOrderLemmas.{any_cell, some-signal, or_later, first-append, some-before, none-both, range-empty, range-more, range-new, range-satellite, range-other, first-range, first-absent, place-first, place-later, place-between, other-code}
 use Rattle.rtk_convert.proofs.PlacesLemmas.{by_eq, same_code_of}
@@ -65,7 +65,7 @@ module _ {L : Type 0} (HasRows : L → List SatelliteRow → Type 0) (HasLine : 
       → AreRowCodes codes s → e.satellite ≡ s → IsSignal e.satellite e.code → first_cell xs e.satellite e.code ≡ None → StepsOver HasRows HasLine epoch e codes tracks after lines now
       → ShowsRow HasLine old epoch xs s codes tracks lines → ShowsRow HasLine old epoch (xs ++ e ∷ []) s codes after now
   shows-more {old} {epoch} {xs} {s} {codes} {tracks} {lines} after now e own at he none step g =
-      let o : Observed = observed_with e.cell (digits_since (band_of e.code) (track_at tracks e.satellite e.code) (epoch_cell epoch e.cell)) in
+      let o : Observed = observed_with e.cell (digits_since (rolling_frequency e.code) (track_at tracks e.satellite e.code) (epoch_cell epoch e.cell)) in
       let shown : (c : AnyCode) → IsSignal s c → shown_by old epoch (xs ++ e ∷ []) s c ≡ cond (is_at (place_of e.code) c) (Some o) (shown_by old epoch xs s c) =
       λ c hc. subst (λ (x : ℕ). shown_by old epoch (xs ++ e ∷ []) x c ≡ cond (is_at (place_of e.code) c) (Some o) (shown_by old epoch xs x c)) at
       (shown-more old epoch xs tracks e he none g.taken c (subst (λ (n : ℕ). IsSignal n c) (sym at) hc)) in

@@ -1,28 +1,33 @@
 -- The slots of GLONASS whose satellites have no phases.
-use Rattle.std.proofs.Common.{◌≡◌, ◌≢◌, ◌∙◌, ◌+◌, ◌-◌, ◌^◌, ◌<◌, ◌≤◌, ◌==◌, ℕ, zero, suc, ℤ, Bool, true, false, List, ◌∷◌, Option, None, Some, Result, refl, sym, ap, subst, replicate, inl, inr, arith}
+use Rattle.std.proofs.Common.{◌≡◌, ◌≢◌, ◌∙◌, ◌+◌, ◌-◌, ◌^◌, ◌<◌, ◌≤◌, ◌==◌, ℕ, zero, suc, ℤ, Bool, true, false, List, ◌∷◌, length, take, get_or, Option, None, Some, Result, refl, sym, ap, subst, replicate, inl, inr, arith}
 use Rattle.std.specs.Prelude.{◌&&◌, ◌||◌, not, is_some, nat_le, slice_index_or, if◌then◌else◌, IfOk}
+use Rattle.std.specs.List.{list_any}
 use Rattle.std.proofs.Math.Path.{fun_ext}
-use Rattle.std.proofs.lemmas.Bool.{cases_Bool, both_ways, eqb-true, eq-eqb, ne_eqb, and_left, or_from}
+use Rattle.std.proofs.lemmas.Bool.{cases_Bool, both_ways, eqb-true, eq-eqb, ne_eqb, and_left, and_parts, and_from, or_from}
 use Rattle.std.proofs.lemmas.Bool.Decides.{nat_tests}
+use Rattle.std.proofs.lemmas.List.Folds.{list_any_more}
 use Rattle.rtk_message.specs.declared.any_fault.AnyFault.{AnyFault}
 use Rattle.rtk_message.specs.declared.any_message.AnyMessage.{AnyMessage as Message}
 use Rattle.rtk_message.specs.declared.any_message.AnyMessage.TheVariants as any
 use Rattle.rtk_message.specs.declared.message.Message.{Message as GpsMessage}
 use Rattle.rtk_message.specs.declared.msm.Msm.{Msm}
+use Rattle.rtk_message.specs.declared.obs1012.GlonassSatellite.{GlonassSatellite}
+use Rattle.rtk_message.specs.declared.obs1012.Obs1012.{Obs1012}
 use Rattle.rtk_message.specs.declared.system.System.{System}
 use Rattle.rtk_message.specs.declared.system.System.TheVariants.{Gps, Glonass, Galileo, Beidou, Qzss, Sbas, Navic}
 use Rattle.rtk_obs.specs.Carriers.{IsSlot, channel_at}
+use Rattle.rtk_obs.specs.GlonassCells.{agrees_in_1012, unless_other_in_1012}
 use Rattle.rtk_obs.specs.Mask.{set_bits_from}
 use Rattle.rtk_obs.specs.MsmCells.{satellites_of}
-use Rattle.rtk_obs.specs.SatelliteIndex.{letter_of}
+use Rattle.rtk_obs.specs.SatelliteIndex.{is_taken, letter_of}
 use Rattle.rtk_obs.specs.SignalCells.{agrees_with, unless_other, field_of_row}
 use Rattle.rtk_collect.specs.Arrival.{Arrival, At, message_of}
 use Rattle.rtk_convert.specs.declared.frame_class.FrameClass.TheVariants.{Dated}
 use Rattle.rtk_convert.specs.declared.remarks.Remarks.{Remarks}
 use Rattle.rtk_convert.specs.FrameClass.{IsClassOfReading, IsDatedMessage}
 use Rattle.rtk_setup.specs.Setup.{SetupView, AreSameChannels, channels_of}
-use Rattle.rtk_convert.specs.Slots.{has_slot, SatelliteTest, is_without_channel, is_of_other_channel, any_satellite, has_such_satellite}
-use Rattle.rtk_convert.specs.Steps.Remarks.{PutsSlots, PutsSatellites}
+use Rattle.rtk_convert.specs.Slots.{has_slot, SatelliteTest, is_without_channel, is_of_other_channel, holds_in_msm, holds_in_1012, any_satellite, any_satellite_1012, has_such_satellite}
+use Rattle.rtk_convert.specs.Steps.Remarks.{PutsSlots, PutsSatellites, PutsSatellites1012}
 use Rattle.rtk_convert.proofs.ClassLemmas.{dated-reading}
 
 -- ---- sets of slots
@@ -58,6 +63,9 @@ put-some slot k belongs old new is at other = elim (cases_Bool (slot == k)) [
 le-true : (a b : ℕ) → a ≤ b → nat_le a b ≡ true
 le-true a b h = grind (arith, nat_tests)
 
+le-of : (a b : ℕ) → nat_le a b ≡ true → a ≤ b
+le-of a b h = grind (arith, nat_tests)
+
 lt-false : (a b : ℕ) → b < a → nat_le a b ≡ false
 lt-false a b h = grind (arith, nat_tests)
 
@@ -66,13 +74,36 @@ other-if true k = refl
 other-if false k = refl
 
 pub other-some : (channels : List (Option ℤ)) (slot field : ℕ) (k : ℤ) → IsSlot slot → channel_at channels slot ≡ Some k
-    → not (agrees_with k field) ≡ is_of_other_channel channels slot field
+    → not (agrees_with k field) ≡ holds_in_msm is_of_other_channel channels slot field
 other-some channels slot field k is some =
     let within : nat_le slot 27 ≡ true = le-true slot 27 is.1 in
     rw (some, within) (other-if (agrees_with k field) k)
 
-pub other-none : (channels : List (Option ℤ)) (slot field : ℕ) → channel_at channels slot ≡ None → false ≡ is_of_other_channel channels slot field
+pub other-none : (channels : List (Option ℤ)) (slot field : ℕ) → channel_at channels slot ≡ None → false ≡ holds_in_msm is_of_other_channel channels slot field
 other-none channels slot field none = rw none refl
+
+-- and of one in a 1012
+pub other-some-1012 : (channels : List (Option ℤ)) (s : GlonassSatellite) (k : ℤ) → channel_at channels s.slot ≡ Some k
+    → not (agrees_in_1012 k s.channel) ≡ holds_in_1012 is_of_other_channel channels s
+other-some-1012 channels s k some = rw some (other-if (agrees_in_1012 k s.channel) k)
+
+pub other-none-1012 : (channels : List (Option ℤ)) (s : GlonassSatellite) → channel_at channels s.slot ≡ None → false ≡ holds_in_1012 is_of_other_channel channels s
+other-none-1012 channels s none = rw none refl
+
+-- ---- the slot of a satellite in a 1012
+
+pub slot-of : (n : ℕ) → is_taken Glonass n ≡ true → IsSlot n
+slot-of n h = let p = and_parts (nat_le 1 n) (nat_le n 27) h in (le-of 1 n p.0, le-of n 27 p.1)
+
+taken-slot : (n : ℕ) → IsSlot n → is_taken Glonass n ≡ true
+taken-slot n is = and_from (nat_le 1 n) (nat_le n 27) (le-true 1 n is.0) (le-true n 27 is.1)
+
+-- a satellite with another number changes nothing
+pub no-slot : (n k : ℕ) (belongs has : Bool) → is_taken Glonass n ≡ false → IsSlot k → has ≡ (((n == k) && belongs) || has)
+no-slot n k belongs has none is = elim (cases_Bool (n == k)) [
+  | inl same ↦ absurd (both_ways (is_taken Glonass n) none (ap (λ (j : ℕ). is_taken Glonass j) (eqb-true n k same) ∙ taken-slot k is))
+  | inr other ↦ rw other refl
+]
 
 -- ---- the satellites of an MSM
 
@@ -128,8 +159,8 @@ module _ (test : ℕ → Bool) (m : Msm) (slot : ℕ) where
 abbrev pub HasSoFar : SatelliteTest → List (Option ℤ) → Msm → List Bool → List Bool → ℕ → ℕ → ℕ → Type 0
 HasSoFar test channels m old now before row rest =
     (slot : ℕ) → IsSlot slot
-    → (has_slot now slot || any_satellite (test channels slot) m slot row (set_bits_from (before + 1) (64 - before) rest))
-    ≡ (has_slot old slot || any_satellite (test channels slot) m slot 0 (satellites_of m.header))
+    → (has_slot now slot || any_satellite (holds_in_msm test channels slot) m slot row (set_bits_from (before + 1) (64 - before) rest))
+    ≡ (has_slot old slot || any_satellite (holds_in_msm test channels slot) m slot 0 (satellites_of m.header))
 
 pub so-far-none : (test : SatelliteTest) (channels : List (Option ℤ)) (m : Msm) (old : List Bool) → HasSoFar test channels m old old 0 0 m.header.satellite_mask
 so-far-none test channels m old = λ slot is. refl
@@ -137,28 +168,28 @@ so-far-none test channels m old = λ slot is. refl
 module _ (test : SatelliteTest) (channels : List (Option ℤ)) (m : Msm) (old now : List Bool) (before row rest : ℕ) where
   -- one more satellite
   pub so-far-set : (new : List Bool) → before < 27 → 2 ^ (63 - before) ≤ rest
-      → ((slot : ℕ) → IsSlot slot → has_slot new slot ≡ ((((before + 1) == slot) && test channels slot (field_of_row m row)) || has_slot now slot))
+      → ((slot : ℕ) → IsSlot slot → has_slot new slot ≡ ((((before + 1) == slot) && holds_in_msm test channels slot (field_of_row m row)) || has_slot now slot))
       → HasSoFar test channels m old now before row rest → HasSoFar test channels m old new (before + 1) (row + 1) (rest - 2 ^ (63 - before))
   so-far-set new lt some puts h = λ slot is.
       let wide : 64 - before ≡ suc (63 - before) = omega arith in
       let next : 64 - (before + 1) ≡ 63 - before = omega arith in
       let place : before + 1 + 1 ≡ suc (before + 1) = omega arith in
       let rows : row + 1 ≡ suc row = omega arith in
-      ap (λ (w : ℕ). has_slot new slot || any_satellite (test channels slot) m slot (row + 1) (set_bits_from (before + 1 + 1) w (rest - 2 ^ (63 - before)))) next
-      ∙ ap (λ (p : ℕ). has_slot new slot || any_satellite (test channels slot) m slot (row + 1) (set_bits_from p (63 - before) (rest - 2 ^ (63 - before)))) place
-      ∙ ap (λ (r : ℕ). has_slot new slot || any_satellite (test channels slot) m slot r (set_bits_from (suc (before + 1)) (63 - before) (rest - 2 ^ (63 - before)))) rows
-      ∙ step-set (test channels slot) m slot (has_slot now slot) (has_slot new slot) row (before + 1) (63 - before) rest some (puts slot is)
-      ∙ ap (λ (w : ℕ). has_slot now slot || any_satellite (test channels slot) m slot row (set_bits_from (before + 1) w rest)) (sym wide)
+      ap (λ (w : ℕ). has_slot new slot || any_satellite (holds_in_msm test channels slot) m slot (row + 1) (set_bits_from (before + 1 + 1) w (rest - 2 ^ (63 - before)))) next
+      ∙ ap (λ (p : ℕ). has_slot new slot || any_satellite (holds_in_msm test channels slot) m slot (row + 1) (set_bits_from p (63 - before) (rest - 2 ^ (63 - before)))) place
+      ∙ ap (λ (r : ℕ). has_slot new slot || any_satellite (holds_in_msm test channels slot) m slot r (set_bits_from (suc (before + 1)) (63 - before) (rest - 2 ^ (63 - before)))) rows
+      ∙ step-set (holds_in_msm test channels slot) m slot (has_slot now slot) (has_slot new slot) row (before + 1) (63 - before) rest some (puts slot is)
+      ∙ ap (λ (w : ℕ). has_slot now slot || any_satellite (holds_in_msm test channels slot) m slot row (set_bits_from (before + 1) w rest)) (sym wide)
       ∙ h slot is
 
   -- the same, by what the code has
   pub so-far-next : (new : List Bool) (field bit more left : ℕ) → field ≡ field_of_row m row → bit ≡ 2 ^ (63 - before) → more ≡ row + 1 → left ≡ rest - bit → before < 27 → bit ≤ rest
-      → ((slot : ℕ) → IsSlot slot → has_slot new slot ≡ ((((before + 1) == slot) && test channels slot field) || has_slot now slot))
+      → ((slot : ℕ) → IsSlot slot → has_slot new slot ≡ ((((before + 1) == slot) && holds_in_msm test channels slot field) || has_slot now slot))
       → HasSoFar test channels m old now before row rest → HasSoFar test channels m old new (before + 1) more left
   so-far-next new field bit more left told is one less lt some puts h =
       let least : 2 ^ (63 - before) ≤ rest = subst (λ (n : ℕ). n ≤ rest) is some in
       let fields = λ (slot : ℕ) (slot_is : IsSlot slot).
-      puts slot slot_is ∙ ap (λ (f : ℕ). (((before + 1) == slot) && test channels slot f) || has_slot now slot) told in
+      puts slot slot_is ∙ ap (λ (f : ℕ). (((before + 1) == slot) && holds_in_msm test channels slot f) || has_slot now slot) told in
       let rest_is : rest - 2 ^ (63 - before) ≡ left = ap (λ (n : ℕ). rest - n) (sym is) ∙ sym less in
       subst (λ (r : ℕ). HasSoFar test channels m old new (before + 1) r left) (sym one)
       (subst (λ (n : ℕ). HasSoFar test channels m old new (before + 1) (row + 1) n) rest_is (so-far-set new lt least fields h))
@@ -169,10 +200,10 @@ module _ (test : SatelliteTest) (channels : List (Option ℤ)) (m : Msm) (old no
       let wide : 64 - before ≡ suc (63 - before) = omega arith in
       let next : 64 - (before + 1) ≡ 63 - before = omega arith in
       let place : before + 1 + 1 ≡ suc (before + 1) = omega arith in
-      ap (λ (w : ℕ). has_slot now slot || any_satellite (test channels slot) m slot row (set_bits_from (before + 1 + 1) w rest)) next
-      ∙ ap (λ (p : ℕ). has_slot now slot || any_satellite (test channels slot) m slot row (set_bits_from p (63 - before) rest)) place
-      ∙ step-clear (test channels slot) m slot (has_slot now slot) row (before + 1) (63 - before) rest none
-      ∙ ap (λ (w : ℕ). has_slot now slot || any_satellite (test channels slot) m slot row (set_bits_from (before + 1) w rest)) (sym wide)
+      ap (λ (w : ℕ). has_slot now slot || any_satellite (holds_in_msm test channels slot) m slot row (set_bits_from (before + 1 + 1) w rest)) next
+      ∙ ap (λ (p : ℕ). has_slot now slot || any_satellite (holds_in_msm test channels slot) m slot row (set_bits_from p (63 - before) rest)) place
+      ∙ step-clear (holds_in_msm test channels slot) m slot (has_slot now slot) row (before + 1) (63 - before) rest none
+      ∙ ap (λ (w : ℕ). has_slot now slot || any_satellite (holds_in_msm test channels slot) m slot row (set_bits_from (before + 1) w rest)) (sym wide)
       ∙ h slot is
 
   pub so-far-stays : (bit more left : ℕ) → bit ≡ 2 ^ (63 - before) → more ≡ row → left ≡ rest → before < 27 → rest < bit
@@ -184,11 +215,26 @@ module _ (test : SatelliteTest) (channels : List (Option ℤ)) (m : Msm) (old no
 
   -- all slots
   pub so-far-all : 27 ≤ before → HasSoFar test channels m old now before row rest
-      → (slot : ℕ) → IsSlot slot → has_slot now slot ≡ (any_satellite (test channels slot) m slot 0 (satellites_of m.header) || has_slot old slot)
+      → (slot : ℕ) → IsSlot slot → has_slot now slot ≡ (any_satellite (holds_in_msm test channels slot) m slot 0 (satellites_of m.header) || has_slot old slot)
   so-far-all all h = λ slot is.
-      let none = none-left (test channels slot) m slot row (before + 1) (64 - before) rest (let last = is.1 in omega arith) in
-      or-turned (test channels slot) m slot (has_slot now slot) (has_slot old slot) (any_satellite (test channels slot) m slot 0 (satellites_of m.header))
-      (sym (or-false (test channels slot) m slot (has_slot now slot) (any_satellite (test channels slot) m slot row (set_bits_from (before + 1) (64 - before) rest)) none) ∙ h slot is)
+      let none = none-left (holds_in_msm test channels slot) m slot row (before + 1) (64 - before) rest (let last = is.1 in omega arith) in
+      or-turned (holds_in_msm test channels slot) m slot (has_slot now slot) (has_slot old slot) (any_satellite (holds_in_msm test channels slot) m slot 0 (satellites_of m.header))
+      (sym (or-false (holds_in_msm test channels slot) m slot (has_slot now slot) (any_satellite (holds_in_msm test channels slot) m slot row (set_bits_from (before + 1) (64 - before) rest)) none) ∙ h slot is)
+
+-- ---- the satellites of a 1012
+
+or-around : (a b c : Bool) → (a || (b || c)) ≡ ((b || a) || c)
+or-around true true c = refl
+or-around true false c = refl
+or-around false true c = refl
+or-around false false c = refl
+
+-- one more satellite
+pub one-more : (test : GlonassSatellite → Bool) (ss : List GlonassSatellite) (i : ℕ) (d : GlonassSatellite) (has now new : Bool) → i < length ss
+    → now ≡ (list_any test (take i ss) || has) → new ≡ (test (get_or ss i d) || now) → new ≡ (list_any test (take (i + 1) ss) || has)
+one-more test ss i d has now new lt before puts =
+    puts ∙ ap (λ (b : Bool). test (get_or ss i d) || b) before ∙ or-around (test (get_or ss i d)) (list_any test (take i ss)) has
+    ∙ ap (λ (b : Bool). b || has) (sym (list_any_more test ss i d lt))
 
 -- ---- messages
 
@@ -207,11 +253,15 @@ module _ (channels : List (Option ℤ)) where
   pub message-none : (m : GpsMessage) (old : Remarks) → PutsSlots channels (any.Message m) old old
   message-none m old = record { systems = refl; other_channels = λ slot is. refl; no_channels = λ slot is. refl }
 
+  -- a 1012
+  pub put-1012 : (m : Obs1012) (old new : Remarks) → PutsSatellites1012 channels m.satellites old new → PutsSlots channels (any.Obs1012 m) old new
+  put-1012 m old new puts = record { systems = puts.systems; other_channels = puts.other_channels; no_channels = puts.no_channels }
+
   -- an MSM of GLONASS
   pub msm-put : (m : Msm) (old new : Remarks) → m.system ≡ Glonass → PutsSatellites channels m old new → PutsSlots channels (any.Msm m) old new
   msm-put m old new of puts =
       let such = λ (test : SatelliteTest) (slot : ℕ) (marks : List Bool).
-      ap (λ (s : System). ((letter_of s == letter_of Glonass) && any_satellite (test channels slot) m slot 0 (satellites_of m.header)) || has_slot marks slot) (sym of) in
+      ap (λ (s : System). ((letter_of s == letter_of Glonass) && any_satellite (holds_in_msm test channels slot) m slot 0 (satellites_of m.header)) || has_slot marks slot) (sym of) in
       record {
         systems = puts.systems;
         other_channels = λ slot is. puts.other_channels slot is ∙ such is_of_other_channel slot old.other_channels;
@@ -222,7 +272,7 @@ module _ (channels : List (Option ℤ)) where
   pub msm-left : (m : Msm) (old : Remarks) → m.system ≢ Glonass → PutsSlots channels (any.Msm m) old old
   msm-left m old ne =
       let such = λ (test : SatelliteTest) (slot : ℕ) (marks : List Bool).
-      ap (λ (b : Bool). (b && any_satellite (test channels slot) m slot 0 (satellites_of m.header)) || has_slot marks slot) (sym (other-letter m.system ne)) in
+      ap (λ (b : Bool). (b && any_satellite (holds_in_msm test channels slot) m slot 0 (satellites_of m.header)) || has_slot marks slot) (sym (other-letter m.system ne)) in
       record {
         systems = refl;
         other_channels = λ slot is. such is_of_other_channel slot old.other_channels;
@@ -231,25 +281,27 @@ module _ (channels : List (Option ℤ)) where
 
 -- ---- by the channels of the setup
 
-other-same : (channels others : List (Option ℤ)) (slot field : ℕ) → AreSameChannels channels others → is_of_other_channel channels slot field ≡ is_of_other_channel others slot field
-other-same channels others slot field h = ap (λ (o : Option ℤ). is_some o && not (is_some (if nat_le slot 27 then unless_other field o else None))) (h slot)
+msm-same : (test : SatelliteTest) (channels others : List (Option ℤ)) (slot field : ℕ) → AreSameChannels channels others → holds_in_msm test channels slot field ≡ holds_in_msm test others slot field
+msm-same test channels others slot field h = ap (λ (o : Option ℤ). test o (if nat_le slot 27 then unless_other field o else None)) (h slot)
 
-without-same : (channels others : List (Option ℤ)) (slot field : ℕ) → AreSameChannels channels others → is_without_channel channels slot field ≡ is_without_channel others slot field
-without-same channels others slot field h = ap (λ (o : Option ℤ). not (is_some o)) (h slot)
+same-1012 : (test : SatelliteTest) (channels others : List (Option ℤ)) (s : GlonassSatellite) → AreSameChannels channels others → holds_in_1012 test channels s ≡ holds_in_1012 test others s
+same-1012 test channels others s h = ap (λ (o : Option ℤ). test o (unless_other_in_1012 s.channel o)) (h s.slot)
 
-has-same : (test : SatelliteTest) (channels others : List (Option ℤ)) (slot : ℕ) (m : Message) → ((field : ℕ) → test channels slot field ≡ test others slot field)
+has-same : (test : SatelliteTest) (channels others : List (Option ℤ)) (slot : ℕ) (m : Message) → AreSameChannels channels others
     → has_such_satellite test channels slot m ≡ has_such_satellite test others slot m
 has-same test channels others slot (any.Message m) h = refl
+has-same test channels others slot (any.Obs1012 m) h =
+    ap (λ (f : GlonassSatellite → Bool). any_satellite_1012 f slot m.satellites) (fun_ext (λ (s : GlonassSatellite). same-1012 test channels others s h))
 has-same test channels others slot (any.Msm m) h =
-    ap (λ (f : ℕ → Bool). (letter_of m.system == letter_of Glonass) && any_satellite f m slot 0 (satellites_of m.header)) (fun_ext h)
+    ap (λ (f : ℕ → Bool). (letter_of m.system == letter_of Glonass) && any_satellite f m slot 0 (satellites_of m.header)) (fun_ext (λ (field : ℕ). msm-same test channels others slot field h))
 
 puts-same : (channels others : List (Option ℤ)) (m : Message) (old new : Remarks) → AreSameChannels channels others → PutsSlots channels m old new → PutsSlots others m old new
 puts-same channels others m old new h puts = record {
   systems = puts.systems;
   other_channels = λ slot is. puts.other_channels slot is
-      ∙ ap (λ (b : Bool). b || has_slot old.other_channels slot) (has-same is_of_other_channel channels others slot m (λ field. other-same channels others slot field h));
+      ∙ ap (λ (b : Bool). b || has_slot old.other_channels slot) (has-same is_of_other_channel channels others slot m h);
   no_channels = λ slot is. puts.no_channels slot is
-      ∙ ap (λ (b : Bool). b || has_slot old.no_channels slot) (has-same is_without_channel channels others slot m (λ field. without-same channels others slot field h));
+      ∙ ap (λ (b : Bool). b || has_slot old.no_channels slot) (has-same is_without_channel channels others slot m h);
 }
 
 message-is : (s : SetupView) (m : Message) (a : Arrival) → IsDatedMessage s m a → m ≡ message_of a

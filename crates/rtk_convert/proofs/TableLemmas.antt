@@ -31,7 +31,7 @@ use Rattle.rtk_rinex.specs.MixedTable.{HasNoPhase, IsEpochOfHead, IsMixedTable, 
 use Rattle.rtk_rinex.specs.Record.{EpochTableView, IsStrengthOrNone, is_present}
 use Rattle.rtk_rinex.specs.Table.{StartsAt, shown_epoch}
 use Rattle.rtk_rinex.proofs.PublicLaws.{mixed_file-is_shown}
-use Rattle.rtk_convert.specs.Rows.{band_of, codes_for, first_cell, is_signal, last_phase_of, cell_at, in_turn, observed_after, observed_at, or_nothing, rolled_or_none, table_of}
+use Rattle.rtk_convert.specs.Rows.{rolling_frequency, codes_for, first_cell, is_signal, last_phase_of, cell_at, in_turn, observed_after, observed_at, or_nothing, rolled_or_none, table_of}
 use Rattle.rtk_convert.specs.File.{record_of, records, first_or, first_time, head_at, header_at, file_of, one_more_if_any, record_count}
 use Rattle.rtk_setup.specs.Setup.{SetupView, IsSetupView}
 use Rattle.rtk_convert.specs.FileLaws.{HasPhaseBy, IsGoodEpoch, FileIsTable}
@@ -112,7 +112,7 @@ first-phase setup (e ∷ cells) s c none h =
 
 observed-phase : (last : Option Track) (code : AnyCode) (epoch : ℕ) (o : Option Cell) → ShowsNoPhase o → HasNoPhase (or_nothing (observed_after last code epoch o))
 observed-phase last code epoch None h = refl
-observed-phase last code epoch (Some c) h = ap (λ (p : Option ℤ). rolled_or_none p (digits_since (band_of code) last (epoch_cell epoch c)).rolls) h
+observed-phase last code epoch (Some c) h = ap (λ (p : Option ℤ). rolled_or_none p (digits_since (rolling_frequency code) last (epoch_cell epoch c)).rolls) h
 
 table-rows : (s : SetupView) (e : EpochSetView SignalEntry) (below : List (EpochSetView SignalEntry)) → IsGoodEpoch s e → All (IsRowOfHead s.head) (table_of s.head.listed e below).rows
 table-rows s e below good = all-rows (IsRowOfHead s.head) (observed_at e below) s.head.listed 221 (omega arith)

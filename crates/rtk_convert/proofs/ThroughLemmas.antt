@@ -12,7 +12,7 @@ use Rattle.rtk_obs.specs.Rollover.{last_after, digits_since, track_of, last_phas
 use Rattle.rtk_obs.specs.Tracks.{IsLater}
 use Rattle.rtk_rinex.specs.declared.epoch_table.Observed.{Observed}
 use Rattle.rtk_convert.specs.LastPhases.{track_at}
-use Rattle.rtk_convert.specs.Rows.{band_of, is_signal, first_cell, observed_with, observed_after, and_below}
+use Rattle.rtk_convert.specs.Rows.{rolling_frequency, is_signal, first_cell, observed_with, observed_after, and_below}
 use Rattle.rtk_convert.specs.Steps.ShownCells.{track_after, AreTaken, MayStep, shown_by, is_at}
 use Rattle.rtk_convert.proofs.PlacesLemmas.{by_eq, same_test, other_signal, same_signal}
 
@@ -64,7 +64,7 @@ may-same new xs ys s epoch same may c hc none = may c hc (sym (same c hc) ∙ no
 -- a cell of a new satellite and code
 pub taken-more : (old : List (Option Track)) (epoch : ℕ) (xs : List SignalEntry) (new after : List (Option Track)) (e : SignalEntry) → IsSignal e.satellite e.code
     → first_cell xs e.satellite e.code ≡ None
-    → track_at after e.satellite e.code ≡ last_after (band_of e.code) (track_at new e.satellite e.code) (epoch_cell epoch e.cell)
+    → track_at after e.satellite e.code ≡ last_after (rolling_frequency e.code) (track_at new e.satellite e.code) (epoch_cell epoch e.cell)
     → ((s : ℕ) (c : AnyCode) → signal_place s c ≢ signal_place e.satellite e.code → track_at after s c ≡ track_at new s c)
     → AreTaken old epoch xs new → AreTaken old epoch (xs ++ e ∷ []) after
 taken-more old epoch xs new after e he none same others g s c hs =
@@ -82,10 +82,10 @@ taken-more old epoch xs new after e he none same others g s c hs =
 pub shown-more : (old : List (Option Track)) (epoch : ℕ) (xs : List SignalEntry) (new : List (Option Track)) (e : SignalEntry) → IsSignal e.satellite e.code
     → first_cell xs e.satellite e.code ≡ None → AreTaken old epoch xs new → (c : AnyCode) → IsSignal e.satellite c
     → shown_by old epoch (xs ++ e ∷ []) e.satellite c
-    ≡ cond (is_at (place_of e.code) c) (Some (observed_with e.cell (digits_since (band_of e.code) (track_at new e.satellite e.code) (epoch_cell epoch e.cell)))) (shown_by old epoch xs e.satellite c)
+    ≡ cond (is_at (place_of e.code) c) (Some (observed_with e.cell (digits_since (rolling_frequency e.code) (track_at new e.satellite e.code) (epoch_cell epoch e.cell)))) (shown_by old epoch xs e.satellite c)
 shown-more old epoch xs new e he none g c hc =
     let s : ℕ = e.satellite in
-    let o : Option Track → Observed = λ (t : Option Track). observed_with e.cell (digits_since (band_of e.code) t (epoch_cell epoch e.cell)) in
+    let o : Option Track → Observed = λ (t : Option Track). observed_with e.cell (digits_since (rolling_frequency e.code) t (epoch_cell epoch e.cell)) in
     let cell : first_cell (xs ++ e ∷ []) s e.code ≡ Some e.cell = cell-new xs e s e.code (same_test s (number_of e.code) s (number_of e.code) refl refl) none in
     let last : track_at new s e.code ≡ track_at old s e.code = g s e.code he ∙ ap (track_after (track_at old s e.code) e.code epoch) none in
     let here : shown_by old epoch (xs ++ e ∷ []) s e.code ≡ cond (is_at (place_of e.code) e.code) (Some (o (track_at new s e.code))) (shown_by old epoch xs s e.code) =
@@ -119,7 +119,7 @@ may-more new after xs s epoch e others he may c hc none =
 -- ---- a whole epoch
 
 pub track-below : (o : Option Cell) (epoch : ℕ) (code : AnyCode) (below : List EpochCell)
-    → track_after (last_phase (band_of code) below) code epoch o ≡ last_phase (band_of code) (and_below epoch o below)
+    → track_after (last_phase (rolling_frequency code) below) code epoch o ≡ last_phase (rolling_frequency code) (and_below epoch o below)
 track-below None epoch code below = refl
 track-below (Some c) epoch code below = refl
 
@@ -135,4 +135,4 @@ later-if false t last e h k = k
 pub later-after : (last : Option Track) (code : AnyCode) (epoch later : ℕ) (o : Option Cell) → epoch < later → IsLater last epoch → IsLater (track_after last code epoch o) later
 later-after last code epoch later None h k = later-more last epoch later (omega arith) k
 later-after last code epoch later (Some c) h k =
-    later-if (has_phase (epoch_cell epoch c)) (track_of (band_of code) last (epoch_cell epoch c)) last later h (later-more last epoch later (omega arith) k)
+    later-if (has_phase (epoch_cell epoch c)) (track_of (rolling_frequency code) last (epoch_cell epoch c)) last later h (later-more last epoch later (omega arith) k)

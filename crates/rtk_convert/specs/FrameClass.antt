@@ -6,7 +6,7 @@ use Rattle.rtk_message.specs.declared.any_message.AnyMessage.TheVariants as any
 use Rattle.rtk_message.specs.declared.any_fault.AnyFault.{AnyFault}
 use Rattle.rtk_message.specs.declared.any_fault.AnyFault.TheVariants.{NoNumber, Other, Short, EpochRange, TooManyCells}
 use Rattle.rtk_message.specs.declared.system.System.{System}
-use Rattle.rtk_message.specs.declared.system.System.TheVariants.{Gps}
+use Rattle.rtk_message.specs.declared.system.System.TheVariants.{Gps, Glonass}
 use Rattle.rtk_message.specs.AnyDecoded.{DecodesBy, number_of, station_of, tow_of}
 use Rattle.rtk_obs.specs.Clocks.{IsClockMoment}
 use Rattle.rtk_collect.specs.Arrival.{Arrival, At}
@@ -20,6 +20,7 @@ use Rattle.rtk_convert.specs.declared.frame_class.FrameClass.TheVariants.{OtherM
 abbrev pub system_of : Message → System
 system_of (any.Message m) = Gps
 system_of (any.Msm m) = m.system
+system_of (any.Obs1012 m) = Glonass
 
 -- the moment of a clock of a system, near the reference of the setup
 abbrev pub IsMomentOf : SetupView → System → Option ℕ → Option ℕ → Type 0

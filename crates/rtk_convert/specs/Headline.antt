@@ -8,7 +8,7 @@ use Rattle.rtk_bits.specs.Bits.{bits}
 use Rattle.rtk_frame.specs.Frames.{frames, final_frames, payloads}
 use Rattle.rtk_frame.specs.Stream.{with_more}
 use Rattle.rtk_message.specs.declared.any_message.AnyMessage.{AnyMessage as Message}
-use Rattle.rtk_message.specs.AnyDecoded.{Encodes, number_of, station_of}
+use Rattle.rtk_message.specs.AnyDecoded.{Encodes, number_of, station_of, takes_clock}
 use Rattle.rtk_obs.specs.declared.signal_cells.SignalEntry.{SignalEntry}
 use Rattle.rtk_collect.specs.Arrival.{Arrival, At, epoch_of, message_of}
 use Rattle.rtk_collect.specs.EpochSet.{EpochSetView}
@@ -21,7 +21,7 @@ use Rattle.rtk_convert.specs.FileOfArrivals.{site_of_stations}
 use Rattle.rtk_convert.specs.FrameClass.{IsEpochOf}
 use Rattle.rtk_convert.specs.ReadHistory.{Read, bytes_of, Gave, AllAtEnd}
 use Rattle.rtk_convert.specs.ReportText.{arrival_text}
-use Rattle.rtk_setup.specs.Setup.{SetupView, takes, cells_by}
+use Rattle.rtk_setup.specs.Setup.{SetupView, taken_by, takes, cells_by}
 use Rattle.rtk_convert.specs.Writing.{Written}
 
 -- ---- "for every list of pieces fed over any links"
@@ -36,10 +36,10 @@ abbrev pub payloads_by : List ℕ → List ℕ → List (List ℕ)
 payloads_by fed [] = drop (length (final_frames fed)) (payloads (frames fed))
 payloads_by fed (x ∷ piece) = drop (length (final_frames fed)) (payloads (final_frames (fed ++ x ∷ piece)))
 
--- a payload is this message, which the setup takes, of its station and with its epoch
+-- a payload is this message, which the setup takes, of its station, with its epoch, and by a clock that is read
 abbrev pub IsMessageIn : SetupView → List ℕ → Arrival → Type 0
 IsMessageIn s payload (At epoch m) =
-    Encodes (bits payload) m × IsTrue (takes s (number_of m)) × (station_of m ≡ s.station) × IsEpochOf s m epoch
+    Encodes (bits payload) m × IsTrue (takes s (number_of m)) × (station_of m ≡ s.station) × IsEpochOf s m epoch × IsTrue (takes_clock (taken_by s).obs1012 m)
 
 -- messages that came, each with its link
 abbrev pub Came : Type 0

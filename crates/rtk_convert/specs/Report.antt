@@ -1,13 +1,18 @@
 -- The report of a list of found frames, newest first: a line for each that is refused, late or in
 -- conflict, and the counts.
 use Rattle.std.specs.Prelude.{ℕ, ◌==◌, Bool, true, false, ◌&&◌, ◌||◌, List, [], ◌∷◌, ◌++◌, flat_map, codes, Option, None, Some, is_some}
+use Rattle.std.specs.List.{list_any}
 use Rattle.rtk_frame.specs.Stream.{count_after}
 use Rattle.rtk_message.specs.declared.any_fault.AnyFault.{AnyFault}
 use Rattle.rtk_message.specs.declared.any_message.AnyMessage.{AnyMessage as Message}
+use Rattle.rtk_message.specs.declared.any_message.AnyMessage.TheVariants as any
+use Rattle.rtk_message.specs.declared.message.Message.TheVariants.{Obs1004, Arp1005, Arp1006, Msm1074}
 use Rattle.rtk_message.specs.declared.system.System.{System}
+use Rattle.rtk_message.specs.declared.system.System.TheVariants.{Sbas}
 use Rattle.rtk_message.specs.AnyFaultCode.{any_fault_text}
 use Rattle.rtk_message.specs.AnyDecoded.{number_of, tow_of}
 use Rattle.rtk_obs.specs.SatelliteIndex.{letter_of}
+use Rattle.rtk_obs.specs.SbasCells.{is_sbas_number}
 use Rattle.rtk_collect.specs.declared.conflicts.AnySatelliteCode.{AnySatelliteCode}
 use Rattle.rtk_collect.specs.Arrival.{Arrival, epoch_of, message_of}
 use Rattle.rtk_collect.specs.Answer.{Class, LateClass, TakenClass, RepeatClass, ConflictClass, class_of, conflicts_of}
@@ -16,7 +21,7 @@ use Rattle.rtk_convert.specs.FrameClass.{Found, arrivals, system_of}
 use Rattle.rtk_convert.specs.declared.frame_class.FrameClass.{FrameClass}
 use Rattle.rtk_convert.specs.declared.frame_class.FrameClass.TheVariants.{OtherMessage, Refused, Foreign, Dated}
 use Rattle.rtk_convert.specs.ReportText.{link_text, late_line, conflict_line, cell_conflict_line}
-use Rattle.rtk_setup.specs.Setup.{SetupView, cells_by}
+use Rattle.rtk_setup.specs.Setup.{SetupView, cells_by, lists_system}
 use Rattle.rtk_setup.specs.declared.counts.Counts.{Counts}
 
 -- ---- lines
@@ -100,12 +105,30 @@ is_taken ConflictClass = false
 abbrev pub is_of : System → Message → Bool
 is_of system m = is_some (tow_of m) && (letter_of (system_of m) == letter_of system)
 
+-- a 1004 with a satellite of SBAS
+abbrev pub holds_sbas : Message → Bool
+holds_sbas (any.Message (Obs1004 m)) = list_any (λ s. is_sbas_number s.satellite) m.satellites
+holds_sbas (any.Message (Arp1005 m)) = false
+holds_sbas (any.Message (Arp1006 m)) = false
+holds_sbas (any.Message (Msm1074 m)) = false
+holds_sbas (any.Msm m) = false
+holds_sbas (any.Obs1012 m) = false
+
+-- such a 1004 is an observation of SBAS too, if some code of SBAS is listed
+abbrev pub brings_sbas : SetupView → Message → Bool
+brings_sbas s m = lists_system s.head.listed Sbas && holds_sbas m
+
+abbrev pub is_of_sbas : Bool → System → Bool
+is_of_sbas sbas system = sbas && (letter_of Sbas == letter_of system)
+
 -- a found frame is an observation of this system, and was taken
 abbrev pub brings : SetupView → System → FrameClass → List Arrival → Bool
 brings s system OtherMessage before = false
 brings s system (Refused fault) before = false
 brings s system Foreign before = false
-brings s system (Dated a) before = is_of system (message_of a) && is_taken (arrival_class s a before)
+brings s system (Dated a) before =
+    (is_of system (message_of a) && is_taken (arrival_class s a before))
+    || (is_of_sbas (brings_sbas s (message_of a)) system && is_taken (arrival_class s a before))
 
 -- formula
 -- an observation of this system was taken

@@ -1,16 +1,15 @@
 -- The table of an epoch, given the epochs below it. Lists of epochs fall: the greatest stands
 -- first.
-use Rattle.std.specs.Prelude.{ℕ, zero, suc, Bool, false, ◌&&◌, ◌==◌, nat_lt, List, [], ◌∷◌, ◌++◌, map, filter, Option, Some, None, is_some, if◌then◌else◌, ℤ}
+use Rattle.std.specs.Prelude.{ℕ, zero, suc, Bool, false, ◌&&◌, ◌==◌, List, [], ◌∷◌, ◌++◌, map, filter, Option, Some, None, is_some, if◌then◌else◌, ℤ}
 use Rattle.std.specs.List.{list_any}
 use Rattle.rtk_obs.specs.declared.any_code.AnyCode.{AnyCode}
 use Rattle.rtk_obs.specs.declared.cell.Cell.{Cell}
 use Rattle.rtk_obs.specs.declared.cell.CellSource.TheVariants.{Legacy, Msm}
-use Rattle.rtk_obs.specs.declared.code.Band.{Band}
-use Rattle.rtk_obs.specs.declared.code.Band.TheVariants.{L1, L2, L5}
 use Rattle.rtk_obs.specs.declared.signal_cells.SignalEntry.{SignalEntry}
 use Rattle.rtk_obs.specs.declared.track.Track.{Track}
 use Rattle.rtk_obs.specs.declared.track.Digits.{Digits}
-use Rattle.rtk_obs.specs.AnyCode.{number_of, place_of}
+use Rattle.rtk_obs.specs.AnyCode.{number_of, carrier_of}
+use Rattle.rtk_obs.specs.Carriers.{roll_frequency}
 use Rattle.rtk_obs.specs.SatelliteIndex.{letter_of, system_at}
 use Rattle.rtk_obs.specs.Slip.{EpochCell, epoch_cell}
 use Rattle.rtk_obs.specs.Rollover.{last_phase, digits_since, rolled_phase}
@@ -23,7 +22,7 @@ use Rattle.rtk_rinex.specs.Record.{EpochTableView}
 
 -- ---- the cell of a satellite and code (this project's rule)
 
--- the cells of an epoch: first the cells of an MSM, then the cells of a 1004
+-- the cells of an epoch: first the cells of an MSM, then the cells of a 1004 or a 1012
 abbrev pub in_turn : List SignalEntry → List SignalEntry
 in_turn cells = filter (is_from signals Msm) cells ++ filter (is_from signals Legacy) cells
 
@@ -36,7 +35,7 @@ first_cell [] satellite code = None
 first_cell (e ∷ cells) satellite code = if is_signal satellite code e then Some e.cell else first_cell cells satellite code
 
 -- the cell of a satellite and code at an epoch: the cell of an MSM, even one without any value,
--- else the cell of a 1004
+-- else the cell of a 1004 or a 1012
 abbrev pub cell_at : List SignalEntry → ℕ → AnyCode → Option Cell
 cell_at cells satellite code = first_cell (in_turn cells) satellite code
 
@@ -49,19 +48,13 @@ abbrev pub cells_at_epochs : List (EpochSetView SignalEntry) → ℕ → AnyCode
 cells_at_epochs [] satellite code = []
 cells_at_epochs (e ∷ below) satellite code = and_below e.epoch (cell_at e.cells satellite code) (cells_at_epochs below satellite code)
 
--- table
--- the band of the code of GPS with this place
-abbrev pub band_at : ℕ → Band
-band_at place = if nat_lt place 6 then L1 else if nat_lt place 13 then L2 else L5
-
--- the band by whose frequency the rolls of a code are counted. Only phases of a 1004 roll, which is of GPS: that
--- of a code of another system tells nothing
-abbrev pub band_of : AnyCode → Band
-band_of code = band_at (place_of code)
+-- the frequency by which the rolls of a code are counted, in Hz: that of its carrier. Only phases of a 1004 or a 1012 roll
+abbrev pub rolling_frequency : AnyCode → ℕ
+rolling_frequency code = roll_frequency (carrier_of code)
 
 -- the last phase of a satellite and code at these epochs
 abbrev pub last_phase_of : List (EpochSetView SignalEntry) → ℕ → AnyCode → Option Track
-last_phase_of below satellite code = last_phase (band_of code) (cells_at_epochs below satellite code)
+last_phase_of below satellite code = last_phase (rolling_frequency code) (cells_at_epochs below satellite code)
 
 -- ---- what a cell shows (RINEX 3.05, Table A3)
 
@@ -77,7 +70,7 @@ observed_with c d =
 -- what the cell of a code shows at an epoch, after the last phase
 abbrev pub observed_after : Option Track → AnyCode → ℕ → Option Cell → Option Observed
 observed_after last code epoch None = None
-observed_after last code epoch (Some c) = Some (observed_with c (digits_since (band_of code) last (epoch_cell epoch c)))
+observed_after last code epoch (Some c) = Some (observed_with c (digits_since (rolling_frequency code) last (epoch_cell epoch c)))
 
 -- what a satellite and code show at an epoch, given the epochs below
 abbrev pub observed_at : EpochSetView SignalEntry → List (EpochSetView SignalEntry) → ℕ → AnyCode → Option Observed

@@ -6,17 +6,20 @@
 //! is below all epochs of the window.
 
 ghost use Rattle.std.specs.Prelude.{◌≡◌, ◌||◌, true, false, Err, IfOk, is_err};
+ghost use Rattle.std.specs.List.{list_any};
+ghost use Rattle.rtk_message.specs.declared.any_message.AnyMessage.TheVariants as AnyMessage;
 ghost use Rattle.rtk_message.specs.declared.system.System.{System};
+ghost use Rattle.rtk_obs.specs.SbasCells.{is_sbas_number};
 ghost use Rattle.rtk_collect.specs.Arrival.{message_of};
 ghost use Rattle.rtk_convert.specs.Steps.AddedMessage.{HandlesMessage, IsTakenBy};
 ghost use Rattle.rtk_convert.specs.Steps.Closing.{EndsConversion};
 ghost use Rattle.rtk_convert.specs.Steps.AcceptedFrame.{IsUnderWay, StaysUnderWay, HandlesPayload};
-ghost use Rattle.rtk_convert.specs.Report.{counted_as};
+ghost use Rattle.rtk_convert.specs.Report.{brings_sbas, counted_as, holds_sbas};
 ghost use Rattle.rtk_convert.specs.Steps.OfferLines.{class_named};
 ghost use Rattle.rtk_convert.specs.Conversion.{IsNewConversion};
 ghost use Rattle.rtk_convert.specs.Outcome.{KeepsWindow, NamesFailedStreams, RefusesStopped};
 ghost use Rattle.rtk_convert.specs.Systems.{has_system};
-ghost use Rattle.rtk_convert.specs.Steps.ReadMessage.{brings_by, system_of_number};
+ghost use Rattle.rtk_convert.specs.Steps.ReadMessage.{brings_by, sbas_by, system_of_number};
 ghost use Rattle.rtk_convert.specs.Writing.{written};
 
 use crate::epochs::AnyEpochs;
@@ -30,7 +33,7 @@ use crate::systems::Systems;
 use crate::writing::write_lines;
 use rtk_collect::DatedRef;
 use rtk_frame::Sink;
-use rtk_message::{AnyDecoder, MsmType, System};
+use rtk_message::{AnyDecoder, Message, MsmType, Satellite, System};
 use rtk_obs::GpsMs;
 use rtk_setup::{Counts, Setup};
 use std::alloc::{AllocError, Global};
@@ -209,11 +212,13 @@ impl Conversion {
         ensures failed { NamesFailedStreams result (O.failures out.old) (O.failures out.new) (L.failures log.old) (L.failures log.new) }
     {
         let (number, epoch) = (dated.number(), dated.epoch());
+        let sbas = brings_sbas(&self.setup, &dated);
         let class = self
             .epochs
             .add(self.alloc, &self.setup, link, dated, out, log)?;
         count_message(&mut self.counts, class);
         put_system(&mut self.remarks.systems, number, epoch, class);
+        put_sbas(&mut self.remarks.systems, sbas, class);
         Ok(())
     }
 }
@@ -249,6 +254,7 @@ fn system_of(number: u16) -> System
 {
     match number {
         1004 | 1074..=1077 => System::Gps,
+        1012 => System::Glonass,
         _ => match MsmType::of_number(number) {
             Some(msm_type) => msm_type.system,
             None => System::Gps,
@@ -266,6 +272,66 @@ fn put_system(systems: &mut Systems, number: u16, epoch: Option<GpsMs>, class: M
     }
     match class {
         MessageClass::Taken => systems.put(system_of(number)),
+        MessageClass::Late | MessageClass::Repeat | MessageClass::Conflict => {}
+    }
+}
+
+// The satellite IDs of SBAS in a 1004 (DF009), for PRN 120 to 138.
+const FIRST_SBAS: u8 = 40;
+
+const LAST_SBAS: u8 = 58;
+
+// Returns whether a satellite ID is of SBAS.
+fn is_sbas(number: u8) -> bool
+    ensures { result ≡ is_sbas_number number }
+{
+    FIRST_SBAS <= number && number <= LAST_SBAS
+}
+
+// Returns whether some of the satellites of a 1004 is of SBAS.
+fn is_any_of_sbas(satellites: &[Satellite]) -> bool
+    ensures { result ≡ list_any (λ s. is_sbas_number s.satellite) satellites.now }
+{
+    for satellite in satellites {
+        if is_sbas(satellite.satellite) {
+            return true;
+        }
+    }
+    false
+}
+
+// Returns whether a message is a 1004 with a satellite of SBAS.
+fn holds_sbas(message: &Message) -> bool
+    ensures { result ≡ holds_sbas (AnyMessage.Message message.now) }
+{
+    match message {
+        Message::Obs1004(message) => is_any_of_sbas(message.satellites.as_slice()),
+        Message::Arp1005(_) | Message::Arp1006(_) | Message::Msm1074(_) => false,
+    }
+}
+
+// Returns whether a message is a 1004 with a satellite of SBAS, whose cells the setup takes. Few setups do.
+fn brings_sbas(setup: &Setup, dated: &DatedRef<'_>) -> bool
+    ensures { result ≡ brings_sbas setup.now (message_of dated.now) }
+{
+    if !setup.takes_sbas() {
+        return false;
+    }
+    match dated.message() {
+        Some(message) => holds_sbas(message),
+        None => false,
+    }
+}
+
+// Puts SBAS into a set, if a message of this class has satellites of it and was taken.
+fn put_sbas(systems: &mut Systems, sbas: bool, class: MessageClass)
+    ensures { (system : System) → has_system systems.new system ≡ (sbas_by sbas (class_named class) system || has_system systems.old system) }
+{
+    if !sbas {
+        return;
+    }
+    match class {
+        MessageClass::Taken => systems.put(System::Sbas),
         MessageClass::Late | MessageClass::Repeat | MessageClass::Conflict => {}
     }
 }

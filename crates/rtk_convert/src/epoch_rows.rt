@@ -222,15 +222,18 @@ fn put_listed<L: RowLines>(form: &RowForm<'_>, place: usize, shown: &Observed, l
     }
 }
 
-// Takes the first cell of a satellite and code.
+// Takes the first cell of a satellite and code, which has this place.
 #[inline(always)]
 fn show_entry<E: FileEntry>(
     phases: &mut E::Phases,
     form: &RowForm<'_>,
     entry: &E,
+    place: usize,
     lines: &mut E::Lines,
 )
     requires range { E.InRange entry.now }
+    requires place { place ≡ place_of (E.signal_of entry.now).code }
+    requires below { place < 16 }
     requires later { IsLater (track_at (E.places phases.old) (E.signal_of entry.now).satellite (E.signal_of entry.now).code) form.now.epoch }
     requires columns { ArePlaces form.now.codes.now form.now.columns }
     requires free { HasFreeOf E.Lines.HasLine lines.old (place_of (E.signal_of entry.now).code) form.now.codes.now }
@@ -240,14 +243,15 @@ fn show_entry<E: FileEntry>(
     E::cells_are_signals();
     let digits = entry.step(phases, form.epoch);
     let shown = observed(entry.cell(), digits);
-    put_listed(form, entry.code_place(), &shown, lines);
+    put_listed(form, place, &shown, lines);
 }
 
-// Returns the set that has only the code of a cell. The bit of a code in a set of codes is at its place.
-fn bit_of<E: FileEntry>(entry: &E) -> u32
-    ensures { result ≡ 2 ^ place_of (E.signal_of entry.now).code }
+// Returns the set that has only the code with a place. The bit of a code in a set of codes is at its place.
+fn bit_at(place: usize) -> u32
+    requires { place < 16 }
+    ensures { result ≡ 2 ^ place }
 {
-    1 << entry.code_place()
+    1 << place
 }
 
 // Returns whether there is a cell of this satellite at this place.
@@ -313,12 +317,13 @@ fn show_cells<E: FileEntry>(
     let mut end = begin;
     'cells: while has_satellite(entries, end, satellite) {
         let entry = &entries[end];
-        let bit = bit_of(entry);
+        let place = entry.code_place();
+        let bit = bit_at(place);
         if known & bit != 0 {
             end += 1;
             continue;
         }
-        show_entry(phases, form, entry, lines);
+        show_entry(phases, form, entry, place, lines);
         codes |= bit;
         end += 1;
     }
@@ -404,7 +409,7 @@ pub(crate) fn push_rows<E: FileEntry>(
         renew_form::<E>(&mut form, listed, satellite);
         lines.open_line(form.codes.len())?;
         at = fill_line(phases, &form, satellite, msm, legacy, at, lines);
-        lines.close_line(satellite)?;
+        lines.close_line(satellite);
     }
     Ok(())
 }

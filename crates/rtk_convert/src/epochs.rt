@@ -189,9 +189,10 @@ impl Epochs<SignalEntry> {
     {
         let (number, epoch) = (dated.number(), dated.epoch());
         let channels = setup.channels();
+        let sbas = setup.takes_sbas();
         let offer = self
             .collector
-            .offer_signals(dated, channels, &mut self.conflicts)?;
+            .offer_signals(dated, channels, sbas, &mut self.conflicts)?;
         let class = class_of(&offer);
         let conflicts = self.conflicts.as_slice();
         let lines = report::message_lines::<SignalEntry>(

@@ -14,14 +14,14 @@ ghost use Rattle.rtk_collect.specs.EpochSet.{AreLeftBeside};
 ghost use Rattle.rtk_collect.specs.Key.{KeysRise};
 ghost use Rattle.rtk_collect.specs.Signals.{signals};
 ghost use Rattle.rtk_convert.specs.LastPhases.{track_at};
-ghost use Rattle.rtk_convert.specs.Rows.{band_of};
+ghost use Rattle.rtk_convert.specs.Rows.{rolling_frequency};
 ghost use Rattle.rtk_convert.specs.Steps.OfferedMessage.{index_or_first};
 
-use crate::row_lines::{RowLines, SignalLines};
+use crate::row_lines::RowLines;
 use crate::signal_phases::SignalPhases;
 use rtk_collect::{AnySatelliteCode, Entry, SatelliteCode};
 use rtk_obs::{AnyCode, CellEntry, Digits, GpsMs, SatelliteIndex, SignalEntry, Tracks};
-use rtk_rinex::RecordLines;
+use rtk_rinex::{MixedRecordLines, RecordLines};
 use std::alloc::{AllocError, Global};
 
 /// A cell of a window, as a conversion shows it: one of GPS, or one of any system. Clauses see each as one of
@@ -59,11 +59,11 @@ pub(crate) trait FileEntry: Entry {
     fn step(&self, phases: &mut Self::Phases, epoch: GpsMs) -> Digits
         requires range { Self.InRange self.now }
         requires later { IsLater (track_at (places phases.old) (signal_of self.now).satellite (signal_of self.now).code) epoch }
-        ensures digits { result ≡ digits_since (band_of (signal_of self.now).code)
+        ensures digits { result ≡ digits_since (rolling_frequency (signal_of self.now).code)
             (track_at (places phases.old) (signal_of self.now).satellite (signal_of self.now).code) (epoch_cell epoch (signal_of self.now).cell) }
         ensures bound { unsigned_abs result.rolls ≤ epoch }
         ensures same { track_at (places phases.new) (signal_of self.now).satellite (signal_of self.now).code
-            ≡ last_after (band_of (signal_of self.now).code)
+            ≡ last_after (rolling_frequency (signal_of self.now).code)
             (track_at (places phases.old) (signal_of self.now).satellite (signal_of self.now).code) (epoch_cell epoch (signal_of self.now).cell) }
         ensures others { (s : ℕ) (c : AnyCode) → signal_place s c ≢ signal_place (signal_of self.now).satellite (signal_of self.now).code
             → track_at (places phases.new) s c ≡ track_at (places phases.old) s c };
@@ -142,7 +142,7 @@ impl FileEntry for CellEntry {
 impl FileEntry for SignalEntry {
     type Phases = SignalPhases;
 
-    type Lines = SignalLines;
+    type Lines = MixedRecordLines;
 
     ghost signal_of = { λ e. e };
 

@@ -26,7 +26,7 @@ pub enum FrameClass<'a> {
     Dated(DatedRef<'a>),
 }
 
-// The message of GPS that no MSM is.
+// The message of GPS and SBAS that no MSM is.
 const LEGACY: u16 = 1004;
 
 /// Returns what a payload is read as, by the messages that the setup takes. It is lent until the
@@ -48,6 +48,7 @@ fn system_of(message: &AnyMessage) -> System
     match message {
         AnyMessage::Message(_) => System::Gps,
         AnyMessage::Msm(msm) => msm.system,
+        AnyMessage::Obs1012(_) => System::Glonass,
     }
 }
 
@@ -80,13 +81,13 @@ fn dated_message<'a>(setup: &Setup, message: &'a AnyMessage) -> DatedRef<'a>
 }
 
 // Returns whether the setup takes a message that was read. A 1004 is read whatever the codes are, and taken
-// if one of them is of GPS. The number is asked last, since with a code of GPS all that is read is taken.
+// if one of them is of GPS or SBAS. The number is asked last, since with such a code all that is read is taken.
 #[inline(always)]
 fn is_taken(setup: &Setup, message: &AnyMessage) -> bool
     requires { IsRead setup.now (number_of message.now) }
     ensures { result ≡ takes setup.now (number_of message.now) }
 {
-    setup.takes_gps() || message.number() != LEGACY
+    setup.takes_1004() || message.number() != LEGACY
 }
 
 // Returns whether the setup takes messages of a number.
@@ -94,7 +95,7 @@ fn takes(setup: &Setup, number: u16) -> bool
     ensures { result ≡ takes setup.now number }
 {
     if number == LEGACY {
-        return setup.takes_gps();
+        return setup.takes_1004();
     }
     setup.accepted().accepts(number)
 }

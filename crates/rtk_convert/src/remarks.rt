@@ -1,15 +1,18 @@
 //! What the messages of a conversion tell for the last lines of its report.
 
-ghost use Rattle.std.specs.Prelude.{◌≡◌, ℕ, IfOk};
+ghost use Rattle.std.specs.Prelude.{◌≡◌, ℤ, Option, IfOk};
 ghost use Rattle.rtk_message.specs.declared.any_message.AnyMessage.TheVariants as AnyMessage;
-ghost use Rattle.rtk_obs.specs.Carriers.{IsSlot};
+ghost use Rattle.rtk_message.specs.declared.system.System.TheVariants.{Glonass};
+ghost use Rattle.rtk_obs.specs.Carriers.{IsSlot, channel_at};
+ghost use Rattle.rtk_obs.specs.GlonassCells.{agrees_in_1012};
+ghost use Rattle.rtk_obs.specs.SatelliteIndex.{is_taken};
 ghost use Rattle.rtk_obs.specs.SignalCells.{agrees_with, field_of_row};
-ghost use Rattle.rtk_convert.specs.Slots.{is_without_channel, is_of_other_channel};
-ghost use Rattle.rtk_convert.specs.Steps.Remarks.{HasNoRemarks, PutsSatellite, PutsSatellites, PutsSlots};
+ghost use Rattle.rtk_convert.specs.Slots.{is_without_channel, is_of_other_channel, holds_in_msm, holds_in_1012};
+ghost use Rattle.rtk_convert.specs.Steps.Remarks.{HasNoRemarks, PutsSlot, PutsSatellite, PutsSatellites, PutsSatellite1012, PutsSatellites1012, PutsSlots};
 
 use crate::slots::{SLOTS, Slots};
 use crate::systems::Systems;
-use rtk_message::{AnyFault, AnyMessage, Msm, System};
+use rtk_message::{AnyFault, AnyMessage, GlonassSatellite, Msm, Obs1012, System};
 use rtk_obs::{Channel, Channels};
 
 /// What the messages of a conversion tell for the last lines of its report.
@@ -34,10 +37,10 @@ fn agrees_with(channel: Channel, field: u8) -> bool
     field == NO_CHANNEL || i16::from(field) == i16::from(channel.number()) + 7
 }
 
-// Returns whether a slot has a channel, and the field of its satellite tells another one.
+// Returns whether a slot has a channel, and the field of its satellite in an MSM tells another one.
 fn is_of_other_channel(channels: &Channels, slot: u8, field: u8) -> bool
     requires { IsSlot slot }
-    ensures { result ≡ is_of_other_channel channels.now slot field }
+    ensures { result ≡ holds_in_msm is_of_other_channel channels.now slot field }
 {
     match channels.channel(slot) {
         Some(channel) => !agrees_with(channel, field),
@@ -48,7 +51,7 @@ fn is_of_other_channel(channels: &Channels, slot: u8, field: u8) -> bool
 // Returns whether a slot has no channel.
 fn is_without_channel(channels: &Channels, slot: u8) -> bool
     requires { IsSlot slot }
-    ensures { (field : ℕ) → result ≡ is_without_channel channels.now slot field }
+    ensures { (own : Option ℤ) → result ≡ is_without_channel (channel_at channels.now slot) own }
 {
     match channels.channel(slot) {
         Some(_) => false,
@@ -66,15 +69,23 @@ fn field_of_row(message: &Msm, row: usize) -> u8
     }
 }
 
-// Puts the satellite of a slot, with its field, into the sets that it belongs to.
+// Puts a slot into the sets that it belongs to.
+fn put_slot(remarks: &mut Remarks, slot: u8, is_other: bool, is_without: bool)
+    requires { IsSlot slot }
+    ensures { PutsSlot slot is_other is_without remarks.old remarks.new }
+{
+    remarks.other_channels.put_if(slot, is_other);
+    remarks.no_channels.put_if(slot, is_without);
+}
+
+// Puts the satellite of a slot of an MSM, with its field, into the sets that it belongs to.
 fn put_satellite(remarks: &mut Remarks, channels: &Channels, slot: u8, field: u8)
     requires { IsSlot slot }
     ensures { PutsSatellite channels.now slot field remarks.old remarks.new }
 {
     let is_other = is_of_other_channel(channels, slot, field);
-    remarks.other_channels.put_if(slot, is_other);
     let is_without = is_without_channel(channels, slot);
-    remarks.no_channels.put_if(slot, is_without);
+    put_slot(remarks, slot, is_other, is_without);
 }
 
 // Puts the satellites of an MSM into the sets that they belong to. The first satellite has the most
@@ -105,6 +116,59 @@ fn put_msm(remarks: &mut Remarks, channels: &Channels, message: &Msm)
     }
 }
 
+// Returns whether a satellite of a 1012 has a slot (DF038).
+fn has_slot_number(slot: u8) -> bool
+    ensures { result ≡ is_taken Glonass slot }
+{
+    1 <= slot && usize::from(slot) <= SLOTS
+}
+
+// Returns whether the field of a satellite in a 1012 (DF040) tells this channel, or none.
+fn agrees_in_1012(channel: Channel, field: u8) -> bool
+    ensures { result ≡ agrees_in_1012 channel field }
+{
+    21 <= field && field <= 29 || field == 31 || i16::from(field) == i16::from(channel.number()) + 7
+}
+
+// Returns whether the slot of a satellite in a 1012 has a channel, and its field tells another one.
+fn is_of_other_in_1012(channels: &Channels, satellite: &GlonassSatellite) -> bool
+    requires { IsSlot satellite.now.slot }
+    ensures { result ≡ holds_in_1012 is_of_other_channel channels.now satellite.now }
+{
+    match channels.channel(satellite.slot) {
+        Some(channel) => !agrees_in_1012(channel, satellite.channel),
+        None => false,
+    }
+}
+
+// Puts a satellite of a 1012 into the sets that it belongs to.
+fn put_satellite_1012(remarks: &mut Remarks, channels: &Channels, satellite: &GlonassSatellite)
+    ensures { PutsSatellite1012 channels.now satellite.now remarks.old remarks.new }
+{
+    if !has_slot_number(satellite.slot) {
+        return;
+    }
+    let is_other = is_of_other_in_1012(channels, satellite);
+    let is_without = is_without_channel(channels, satellite.slot);
+    put_slot(remarks, satellite.slot, is_other, is_without);
+}
+
+// Puts satellites of a 1012 into the sets that they belong to.
+fn put_satellites_1012(remarks: &mut Remarks, channels: &Channels, satellites: &[GlonassSatellite])
+    ensures { PutsSatellites1012 channels.now satellites.now remarks.old remarks.new }
+{
+    for satellite in satellites {
+        put_satellite_1012(remarks, channels, satellite);
+    }
+}
+
+// Puts the satellites of a 1012 into the sets that they belong to.
+fn put_1012(remarks: &mut Remarks, channels: &Channels, message: &Obs1012)
+    ensures { PutsSlots channels.now (AnyMessage.Obs1012 message.now) remarks.old remarks.new }
+{
+    put_satellites_1012(remarks, channels, message.satellites.as_slice());
+}
+
 impl Remarks {
     /// Nothing was told yet.
     pub(crate) fn new() -> Remarks
@@ -126,6 +190,7 @@ impl Remarks {
         match message {
             AnyMessage::Message(_) => {}
             AnyMessage::Msm(message) => put_msm(self, channels, message),
+            AnyMessage::Obs1012(message) => put_1012(self, channels, message),
         }
     }
 

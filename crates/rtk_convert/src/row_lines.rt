@@ -50,13 +50,13 @@ pub(crate) trait RowLines: Drop + Sized {
         ensures rows { Keeps HasRows self.old self.new };
 
     /// Ends the open line as that of this satellite. A line without a written observation is left out.
-    fn close_line(&mut self, satellite: u8) -> Result<(), AllocError>
+    fn close_line(&mut self, satellite: u8)
         requires satellite { IsSatelliteIndex satellite }
         requires within { satellite ≤ greatest }
         requires room { HasRoom HasRows greatest self.old }
         requires open { (row : List Observed) × HasLine self.old row }
-        ensures { OnOk result ((rows : List SatelliteRow) (observed : List Observed) → HasRows self.old rows → HasLine self.old observed
-            → HasRows self.new (rows ++ record { satellite = satellite; observed = record { items = observed } } ∷ [])) };
+        ensures { (rows : List SatelliteRow) (observed : List Observed) → HasRows self.old rows → HasLine self.old observed
+            → HasRows self.new (rows ++ record { satellite = satellite; observed = record { items = observed } } ∷ []) };
 
     /// Writes the epoch line before the lines if there are any. The text is the record then.
     fn finish(&mut self, time: GpsMs)
@@ -108,9 +108,8 @@ impl RowLines for RecordLines {
     }
 
     #[inline(always)]
-    fn close_line(&mut self, satellite: u8) -> Result<(), AllocError> {
+    fn close_line(&mut self, satellite: u8) {
         RecordLines::close_line(self, satellite);
-        Ok(())
     }
 
     #[inline(always)]
@@ -130,62 +129,48 @@ impl RowLines for RecordLines {
     fn blank_rows_are_left_out() {}
 }
 
-/// The text of a record of any systems, and what the codes show in the line that is open.
-#[derive(Drop)]
-pub(crate) struct SignalLines {
-    lines: MixedRecordLines,
-    row: [Observed; 16],
-    // How many codes the open line has.
-    codes: usize,
-}
-
-impl RowLines for SignalLines {
+impl RowLines for MixedRecordLines {
+    ghost use Rattle.rtk_rinex.specs.RecordLines.{HasOpenLine};
     ghost use Rattle.rtk_rinex.specs.MixedRecord.{HoldsMixedLines};
-    ghost use Rattle.rtk_convert.specs.Steps.RowLines.{IsOpenRow};
 
-    ghost HasRows = { λ l rows. HoldsMixedLines l.lines rows };
+    ghost HasRows = { HoldsMixedLines };
 
-    ghost HasLine = { λ l row. IsOpenRow l.row l.codes row };
+    ghost HasLine = { HasOpenLine };
 
     ghost greatest = { 221 };
 
-    ghost text_of = { λ l. l.lines.text };
+    ghost text_of = { λ l. l.text };
 
-    fn new(alloc: Global) -> SignalLines {
-        SignalLines {
-            lines: MixedRecordLines::new(alloc),
-            row: [Observed::default(); 16],
-            codes: 0,
-        }
+    fn new(alloc: Global) -> MixedRecordLines {
+        MixedRecordLines::new(alloc)
     }
 
     fn restart(&mut self) {
-        self.lines.restart();
+        MixedRecordLines::restart(self);
     }
 
     fn open_line(&mut self, codes: usize) -> Result<(), AllocError> {
-        self.row = [Observed::default(); 16];
-        self.codes = codes;
-        Ok(())
+        MixedRecordLines::open_line(self, codes)
     }
 
+    #[inline(always)]
     fn put_code(&mut self, place: usize, observed: &Observed) {
-        self.row[place] = *observed;
+        MixedRecordLines::put_code(self, place, observed);
     }
 
-    fn close_line(&mut self, satellite: u8) -> Result<(), AllocError> {
+    fn close_line(&mut self, satellite: u8) {
         let Some(satellite) = SatelliteIndex::new(satellite) else {
             unreachable!()
         };
-        self.lines.push_row(satellite, &self.row[..self.codes])
+        MixedRecordLines::close_line(self, satellite);
     }
 
     fn finish(&mut self, time: GpsMs) {
-        self.lines.finish(time);
+        MixedRecordLines::finish(self, time);
     }
 
     fn text(&self) -> &[u8] {
-        self.lines.text()
+        MixedRecordLines::text(self)
     }
 
     fn has_gps_alone() -> bool {

@@ -10,7 +10,7 @@ ghost use Rattle.rtk_obs.specs.Rollover.{digits_since, last_after};
 ghost use Rattle.rtk_obs.specs.Slip.{epoch_cell};
 ghost use Rattle.rtk_obs.specs.Tracks.{IsLater};
 ghost use Rattle.rtk_convert.specs.LastPhases.{track_at};
-ghost use Rattle.rtk_convert.specs.Rows.{band_of};
+ghost use Rattle.rtk_convert.specs.Rows.{rolling_frequency};
 ghost use Rattle.rtk_convert.specs.Steps.PhaseBlocks.{HasNoPhases};
 
 use rtk_obs::{ALL_CODES, Code, Digits, GpsMs, SignalEntry, Tracks};
@@ -52,12 +52,15 @@ fn add_block(blocks: &mut Vec<Tracks>) -> Result<(), AllocError>
     Ok(())
 }
 
+// The codes of GPS by their places. A constant would be copied for each cell.
+static CODES: [Code; 16] = ALL_CODES;
+
 // Returns the code of GPS with this place.
 fn code_at(place: usize) -> Code
     requires { place < 16 }
     ensures { place_of result ≡ place }
 {
-    ALL_CODES[place]
+    CODES[place]
 }
 
 impl SignalPhases {
@@ -72,20 +75,27 @@ impl SignalPhases {
         Ok(SignalPhases { blocks })
     }
 
-    /// Returns the digits of a cell. Its phase is the last one of its satellite and code from then on.
+    /// Returns the digits of a cell. Its phase is the last one of its satellite and code from then on. Rolls are
+    /// counted by the carrier of the code.
     pub(crate) fn step(&mut self, entry: &SignalEntry, epoch: GpsMs) -> Digits
         requires range { IsSignalInRange entry.now }
         requires later { IsLater (track_at self.old entry.now.satellite entry.now.code) epoch }
-        ensures digits { result ≡ digits_since (band_of entry.now.code) (track_at self.old entry.now.satellite entry.now.code) (epoch_cell epoch entry.now.cell) }
+        ensures digits { result ≡ digits_since (rolling_frequency entry.now.code) (track_at self.old entry.now.satellite entry.now.code) (epoch_cell epoch entry.now.cell) }
         ensures bound { unsigned_abs result.rolls ≤ epoch }
         ensures same { track_at self.new entry.now.satellite entry.now.code
-            ≡ last_after (band_of entry.now.code) (track_at self.old entry.now.satellite entry.now.code) (epoch_cell epoch entry.now.cell) }
+            ≡ last_after (rolling_frequency entry.now.code) (track_at self.old entry.now.satellite entry.now.code) (epoch_cell epoch entry.now.cell) }
         ensures others { (s : ℕ) (c : AnyCode) → signal_place s c ≢ signal_place entry.now.satellite entry.now.code
             → track_at self.new s c ≡ track_at self.old s c }
     {
         let place = entry.satellite.index() - 1;
         let satellite = place % BLOCK + 1;
         let code = code_at(entry.code.place());
-        self.blocks[usize::from(place / BLOCK)].step(satellite, code, epoch, &entry.cell)
+        self.blocks[usize::from(place / BLOCK)].step_any(
+            satellite,
+            code,
+            entry.code,
+            epoch,
+            &entry.cell,
+        )
     }
 }

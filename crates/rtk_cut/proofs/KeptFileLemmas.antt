@@ -5,7 +5,8 @@ use Rattle.std.specs.List.{filter, list_any}
 use Rattle.std.proofs.lemmas.List.Sums.{length-filter, count_by-le-length}
 use Rattle.rtk_rinex.specs.declared.epoch_table.SatelliteRow.{SatelliteRow}
 use Rattle.rtk_rinex.specs.Record.{EpochTableView, has_line}
-use Rattle.rtk_rinex.specs.MixedRecord.{MixedLinesView, HoldsMixedLines, mixed_record_text}
+use Rattle.rtk_rinex.specs.RecordLines.{RecordLinesView}
+use Rattle.rtk_rinex.specs.MixedRecord.{HoldsMixedLines, mixed_record_text}
 use Rattle.rtk_rinex.specs.MixedRecords.{MixedRecordsView, AreMixedLeft, IsNextRecordOf, MixedRowsView, AreRowsLeft, IsNextRowOf}
 use Rattle.rtk_cut.specs.declared.kept_systems.KeptSystems.{KeptSystems}
 use Rattle.rtk_cut.specs.Cut.{first_of_part}
@@ -61,13 +62,13 @@ pub record HasKeptRows (ks : KeptSystems) (all : List SatelliteRow) (rows : Mixe
   pub are : made ++ filter (λ r. keeps_row ks r) left ≡ filter (λ r. keeps_row ks r) all
 
 -- their lines are written
-pub record HasKeptLines (ks : KeptSystems) (read rows : MixedRowsView) (lines : MixedLinesView) : Type 0 where
+pub record HasKeptLines (ks : KeptSystems) (read rows : MixedRowsView) (lines : RecordLinesView) : Type 0 where
   pub made : List SatelliteRow
   pub holds : HoldsMixedLines lines made
   pub room : length made + rows.count ≤ 221
   pub so_far : (e : EpochTableView) → IsRecordIn read e → HasKeptRows ks e.rows rows made
 
-pub lines-none : (ks : KeptSystems) (read rows : MixedRowsView) (lines : MixedLinesView) → HoldsMixedLines lines [] → rows ≡ read → rows.count ≤ 221 → HasKeptLines ks read rows lines
+pub lines-none : (ks : KeptSystems) (read rows : MixedRowsView) (lines : RecordLinesView) → HoldsMixedLines lines [] → rows ≡ read → rows.count ≤ 221 → HasKeptLines ks read rows lines
 lines-none ks read rows lines holds is few = record {
   made = [];
   holds = holds;
@@ -76,7 +77,7 @@ lines-none ks read rows lines holds is few = record {
 }
 
 -- a line more has room
-pub lines-room : (ks : KeptSystems) (read rows : MixedRowsView) (lines : MixedLinesView) (count : ℕ) → HasKeptLines ks read rows lines → rows.count ≡ suc count → lines.count < 221
+pub lines-room : (ks : KeptSystems) (read rows : MixedRowsView) (lines : RecordLinesView) (count : ℕ) → HasKeptLines ks read rows lines → rows.count ≡ suc count → lines.count < 221
 lines-room ks read rows lines count so_far is =
     let lined : lines.count ≡ length (filter has_line so_far.made) = so_far.holds.count in
     let counted : length (filter has_line so_far.made) ≡ count_by has_line so_far.made = length-filter has_line so_far.made in
@@ -100,7 +101,7 @@ rows-off ks all (r ∷ rest) made row rows' next off are =
     record { left = rest; are_left = next.1; are = ap (λ xs. made ++ xs) (sym (filter-false p r rest (ap p (sym next.0) ∙ off))) ∙ are }
 
 -- the row that was read is kept, and its line is written
-pub lines-more : (ks : KeptSystems) (read rows rows' : MixedRowsView) (lines lines' : MixedLinesView) (row : SatelliteRow) → HasKeptLines ks read rows lines
+pub lines-more : (ks : KeptSystems) (read rows rows' : MixedRowsView) (lines lines' : RecordLinesView) (row : SatelliteRow) → HasKeptLines ks read rows lines
     → ((xs : List SatelliteRow) → AreRowsLeft rows xs → IsNextRowOf xs row rows') → rows.count ≡ suc rows'.count → keeps_row ks row ≡ true
     → ((xs : List SatelliteRow) → HoldsMixedLines lines xs → HoldsMixedLines lines' (xs ++ row ∷ [])) → HasKeptLines ks read rows' lines'
 lines-more ks read rows rows' lines lines' row so_far next count on pushes =
@@ -116,7 +117,7 @@ lines-more ks read rows rows' lines lines' row so_far next count on pushes =
     }
 
 -- it is not
-pub lines-past : (ks : KeptSystems) (read rows rows' : MixedRowsView) (lines : MixedLinesView) (row : SatelliteRow) → HasKeptLines ks read rows lines
+pub lines-past : (ks : KeptSystems) (read rows rows' : MixedRowsView) (lines : RecordLinesView) (row : SatelliteRow) → HasKeptLines ks read rows lines
     → ((xs : List SatelliteRow) → AreRowsLeft rows xs → IsNextRowOf xs row rows') → rows.count ≡ suc rows'.count → keeps_row ks row ≡ false → HasKeptLines ks read rows' lines
 lines-past ks read rows rows' lines row so_far next count off =
     let room = so_far.room in

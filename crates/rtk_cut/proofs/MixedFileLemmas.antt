@@ -14,7 +14,8 @@ use Rattle.rtk_rinex.specs.Record.{EpochTableView, no_observation, has_line}
 use Rattle.rtk_rinex.specs.Table.{IsObserved}
 use Rattle.rtk_rinex.specs.MixedForm.{FormView}
 use Rattle.rtk_rinex.specs.MixedTable.{IsMixedRow, IsMixedEpoch}
-use Rattle.rtk_rinex.specs.MixedRecord.{MixedLinesView, HoldsMixedLines, mixed_record_text}
+use Rattle.rtk_rinex.specs.RecordLines.{RecordLinesView}
+use Rattle.rtk_rinex.specs.MixedRecord.{HoldsMixedLines, mixed_record_text}
 use Rattle.rtk_rinex.specs.MixedRecords.{MixedRecordsView, AreMixedLeft, IsNextRecordOf, MixedRowsView, AreRowsLeft, IsNextRowOf}
 use Rattle.rtk_cut.specs.Cut.{code_at}
 use Rattle.rtk_cut.specs.CutLaws.{IsFileEpoch}
@@ -217,13 +218,13 @@ pub record HasMadeRows (old marks : List Bool) (all : List SatelliteRow) (rows :
   pub are : made ≡ map (row_with_own_marks old) (take at all)
 
 -- their lines are written
-pub record HasMadeLines (old marks : List Bool) (read rows : MixedRowsView) (lines : MixedLinesView) : Type 0 where
+pub record HasMadeLines (old marks : List Bool) (read rows : MixedRowsView) (lines : RecordLinesView) : Type 0 where
   pub made : List SatelliteRow
   pub holds : HoldsMixedLines lines made
   pub room : length made + rows.count ≤ 221
   pub so_far : (e : EpochTableView) → IsRecordIn read e → HasMadeRows old marks e.rows rows made
 
-pub made-none : (marks : List Bool) (read rows : MixedRowsView) (lines : MixedLinesView) → HoldsMixedLines lines [] → rows ≡ read → rows.count ≤ 221 → HasMadeLines marks marks read rows lines
+pub made-none : (marks : List Bool) (read rows : MixedRowsView) (lines : RecordLinesView) → HoldsMixedLines lines [] → rows ≡ read → rows.count ≤ 221 → HasMadeLines marks marks read rows lines
 made-none marks read rows lines holds is few = record {
   made = [];
   holds = holds;
@@ -232,7 +233,7 @@ made-none marks read rows lines holds is few = record {
 }
 
 -- a line more has room
-pub made-room : (old marks : List Bool) (read rows : MixedRowsView) (lines : MixedLinesView) (count : ℕ) → HasMadeLines old marks read rows lines → rows.count ≡ suc count → lines.count < 221
+pub made-room : (old marks : List Bool) (read rows : MixedRowsView) (lines : RecordLinesView) (count : ℕ) → HasMadeLines old marks read rows lines → rows.count ≡ suc count → lines.count < 221
 made-room old marks read rows lines count so_far is =
     let lined : lines.count ≡ length (filter has_line so_far.made) = so_far.holds.count in
     let counted : length (filter has_line so_far.made) ≡ count_by has_line so_far.made = length-filter has_line so_far.made in
@@ -240,7 +241,7 @@ made-room old marks read rows lines count so_far is =
     let room = so_far.room in
     omega (arith, lined, counted, few, room, is)
 
-pub made-more : (old marks marks' : List Bool) (read rows rows' : MixedRowsView) (lines lines' : MixedLinesView) (row : SatelliteRow) (n : ℕ) (shown : List Observed) (is_changed : Bool) → HasMadeLines old marks read rows lines
+pub made-more : (old marks marks' : List Bool) (read rows rows' : MixedRowsView) (lines lines' : RecordLinesView) (row : SatelliteRow) (n : ℕ) (shown : List Observed) (is_changed : Bool) → HasMadeLines old marks read rows lines
     → ((xs : List SatelliteRow) → AreRowsLeft rows xs → IsNextRowOf xs row rows') → rows.count ≡ suc rows'.count → ShowsRow marks marks' row n shown is_changed
     → ((xs : List SatelliteRow) → HoldsMixedLines lines xs → HoldsMixedLines lines' (xs ++ record { satellite = row.satellite; observed = record { items = shown } } ∷ []))
     → HasMadeLines old marks' read rows' lines'

@@ -2,7 +2,7 @@
 -- lemmas on readings, the types are told apart.
 use Rattle.std.proofs.Common.{◌≡◌, ◌≢◌, ℕ, ◌^◌, ◌<◌, ◌≤◌, Bool, false, inl, inr, List, ◌∷◌, ◌++◌, length, take, drop, Option, Some, None, Result, Ok, Err, refl, sym, ap, subst, ◌∙◌, append_assoc, arith, length-append, ltb}
 use Rattle.std.specs.Prelude.{IfOk, IfErr, IsTrue}
-use Rattle.std.proofs.lemmas.Bool.{le-ltb}
+use Rattle.std.proofs.lemmas.Bool.{le-ltb, ne_eqb}
 use Rattle.std.proofs.lemmas.Bool.Decides.{eqb_tells}
 use Rattle.std.proofs.lemmas.List.{take_at, drop_at}
 use Rattle.std.proofs.Math.Nat.{mod-eq_of_lt}
@@ -129,6 +129,13 @@ decodes_fault bs f first = record { message = tt; fault = first; only = only bs 
 
 -- ---- the four messages in the wider set
 
+-- none of the four is a 1012
+pub four_other : (m : Message) → number_of m ≢ 1012
+four_other (Obs1004 m) e = absurd (omega (arith, e))
+four_other (Arp1005 m) e = absurd (omega (arith, e))
+four_other (Arp1006 m) e = absurd (omega (arith, e))
+four_other (Msm1074 m) e = absurd (omega (arith, e))
+
 -- none of the four is another MSM than 1074
 pub four_number : (m : Message) → number_of m ≤ 1074
 four_number (Obs1004 m) = omega arith
@@ -143,20 +150,21 @@ four_member (Arp1005 m) = refl
 four_member (Arp1006 m) = refl
 four_member (Msm1074 m) = refl
 
--- the fault after a number that is none of another MSM than 1074
-other-fault : (n : ℕ) (bs : List Bool) (o : Option MsmType) → type_of_number n ≡ o → ((t : MsmType) → form.IsWide t → n ≢ number_of_type t) → fault_of_type o n bs ≡ if_any_fault_of (fault_after_number n bs)
-other-fault n bs None e none = refl
-other-fault n bs (Some t) e none =
+-- the fault after a number that is none of a 1012 and of another MSM than 1074
+other-fault : (any_day : Bool) (n : ℕ) (bs : List Bool) (o : Option MsmType) → type_of_number n ≡ o → n ≢ 1012 → ((t : MsmType) → form.IsWide t → n ≢ number_of_type t)
+    → fault_of_type any_day o n bs ≡ if_any_fault_of (fault_after_number n bs)
+other-fault any_day n bs None e other none = rw (ne_eqb n 1012 other) refl
+other-fault any_day n bs (Some t) e other none =
     let number : n ≡ number_of_type t = number_of_its_type n t e in
     elim (eqb_tells n 1074) [
       | inl h ↦
           let same : gps Msm4 ≡ t = same_type (gps Msm4) t (sym h.1 ∙ number) in
-          subst (λ (x : MsmType). form.first_fault x bs ≡ if_any_fault_of (fault_after_number n bs)) same (rw h.1 (sym (fault_of_1074 bs)))
+          subst (λ (x : MsmType). form.first_fault any_day x bs ≡ if_any_fault_of (fault_after_number n bs)) same (rw h.1 (sym (fault_of_1074 any_day bs)))
       | inr h ↦ absurd (none t (is_wide t (λ k. h.1 (number ∙ k))) number)
     ]
 
-pub same_fault_of_other : (n : ℕ) (bs : List Bool) → ((t : MsmType) → form.IsWide t → n ≢ number_of_type t) → any.fault_after_number n bs ≡ if_any_fault_of (fault_after_number n bs)
-same_fault_of_other n bs none = other-fault n bs (type_of_number n) refl none
+pub same_fault_of_other : (any_day : Bool) (n : ℕ) (bs : List Bool) → n ≢ 1012 → ((t : MsmType) → form.IsWide t → n ≢ number_of_type t) → any.fault_after_number any_day n bs ≡ if_any_fault_of (fault_after_number n bs)
+same_fault_of_other any_day n bs other none = other-fault any_day n bs (type_of_number n) refl other none
 
 -- the faults of the set of the four are those of `decode`
 pub fault_by_four : (n : ℕ) (bs : List Bool) → fault_by four n bs ≡ if_any_fault_of (fault_after_number n bs)
@@ -166,9 +174,12 @@ fault_by_four n bs = elim (eqb_tells n 1004) [
     | inl e ↦ rw e.1 refl
     | inr e5 ↦ elim (eqb_tells n 1006) [
       | inl e ↦ rw e.1 refl
-      | inr e6 ↦ elim (eqb_tells n 1074) [
-        | inl e ↦ rw e.1 (sym (fault_of_1074 bs))
-        | inr e74 ↦ rw (e4.0, e5.0, e6.0, e74.0, four-number n e74.1) refl
+      | inr e6 ↦ elim (eqb_tells n 1012) [
+        | inl e ↦ rw e.1 refl
+        | inr e12 ↦ elim (eqb_tells n 1074) [
+          | inl e ↦ rw e.1 (sym (fault_of_1074 false bs))
+          | inr e74 ↦ rw (e4.0, e5.0, e6.0, e12.0, e74.0, four-number n e74.1) refl
+        ]
       ]
     ]
   ]

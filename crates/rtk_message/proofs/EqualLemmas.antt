@@ -10,6 +10,8 @@ use Rattle.rtk_message.specs.declared.fault.DecodeFault.{DecodeFault}
 use Rattle.rtk_message.specs.declared.fault.DecodeFault.TheVariants.{NoNumber, Other, Short, EpochRange, TooManyCells}
 use Rattle.rtk_message.specs.declared.obs1004.Satellite.{Satellite}
 use Rattle.rtk_message.specs.declared.obs1004.Obs1004 as declared_obs1004
+use Rattle.rtk_message.specs.declared.obs1012.GlonassSatellite.{GlonassSatellite}
+use Rattle.rtk_message.specs.declared.obs1012.Obs1012 as declared_obs1012
 use Rattle.rtk_message.specs.declared.arp1005.Arp1005 as declared_arp1005
 use Rattle.rtk_message.specs.declared.arp1006.Arp1006 as declared_arp1006
 use Rattle.rtk_message.specs.declared.msm1074.MsmHeader.{MsmHeader}
@@ -31,6 +33,8 @@ use Rattle.rtk_message.specs.contracts.arp1005.Arp1005PartialEq.TheImpl as arp10
 use Rattle.rtk_message.specs.contracts.arp1006.Arp1006PartialEq.TheImpl as arp1006_eq
 use Rattle.rtk_message.specs.contracts.msm1074.MsmHeaderPartialEq.TheImpl as header_eq
 use Rattle.rtk_message.specs.contracts.obs1004.Obs1004PartialEq.TheImpl as obs1004_eq
+use Rattle.rtk_message.specs.contracts.obs1012.GlonassSatellitePartialEq.TheImpl as glonass_satellite_eq
+use Rattle.rtk_message.specs.contracts.obs1012.Obs1012PartialEq.TheImpl as obs1012_eq
 use Rattle.rtk_message.specs.contracts.msm1074.Msm1074PartialEq.TheImpl as msm1074_eq
 use Rattle.rtk_message.specs.contracts.message.MessagePartialEq.TheImpl as message_eq
 use Rattle.rtk_message.specs.contracts.system.SystemPartialEq.TheImpl as system_eq
@@ -78,6 +82,18 @@ obs1004_same s t = Decides-like ((obs1004_eq.ghosts).eq s t)
     (λ h i. record { station = h.0 i; tow = h.1.0 i; synchronous = h.1.1.0 i; smoothing = h.1.1.1.0 i; smoothing_interval = h.1.1.1.1.0 i; satellites = h.1.1.1.1.1 i })
     (λ e. (ap (λ (x : declared_obs1004.Obs1004). x.station) e, (ap (λ (x : declared_obs1004.Obs1004). x.tow) e, (ap (λ (x : declared_obs1004.Obs1004). x.synchronous) e, (ap (λ (x : declared_obs1004.Obs1004). x.smoothing) e, (ap (λ (x : declared_obs1004.Obs1004). x.smoothing_interval) e, ap (λ (x : declared_obs1004.Obs1004). x.satellites) e))))))
     (Decides-and _ _ (unsigned_Decides s.station t.station) (Decides-and _ _ (unsigned_Decides s.tow t.tow) (Decides-and _ _ (bool_same s.synchronous t.synchronous) (Decides-and _ _ (bool_same s.smoothing t.smoothing) (Decides-and _ _ (unsigned_Decides s.smoothing_interval t.smoothing_interval) (list_same _ satellite_same s.satellites t.satellites))))))
+
+glonass_satellite_same : (s t : GlonassSatellite) → Decides ((glonass_satellite_eq.ghosts).eq s t) (s ≡ t)
+glonass_satellite_same s t = Decides-like ((glonass_satellite_eq.ghosts).eq s t)
+    (λ h i. record { slot = h.0 i; l1_code = h.1.0 i; channel = h.1.1.0 i; l1_range = h.1.1.1.0 i; l1_phase_difference = h.1.1.1.1.0 i; l1_lock_indicator = h.1.1.1.1.1.0 i; modulus_ambiguity = h.1.1.1.1.1.1.0 i; l1_cnr = h.1.1.1.1.1.1.1.0 i; l2_code = h.1.1.1.1.1.1.1.1.0 i; l2_range_difference = h.1.1.1.1.1.1.1.1.1.0 i; l2_phase_difference = h.1.1.1.1.1.1.1.1.1.1.0 i; l2_lock_indicator = h.1.1.1.1.1.1.1.1.1.1.1.0 i; l2_cnr = h.1.1.1.1.1.1.1.1.1.1.1.1 i })
+    (λ e. (ap (λ (x : GlonassSatellite). x.slot) e, (ap (λ (x : GlonassSatellite). x.l1_code) e, (ap (λ (x : GlonassSatellite). x.channel) e, (ap (λ (x : GlonassSatellite). x.l1_range) e, (ap (λ (x : GlonassSatellite). x.l1_phase_difference) e, (ap (λ (x : GlonassSatellite). x.l1_lock_indicator) e, (ap (λ (x : GlonassSatellite). x.modulus_ambiguity) e, (ap (λ (x : GlonassSatellite). x.l1_cnr) e, (ap (λ (x : GlonassSatellite). x.l2_code) e, (ap (λ (x : GlonassSatellite). x.l2_range_difference) e, (ap (λ (x : GlonassSatellite). x.l2_phase_difference) e, (ap (λ (x : GlonassSatellite). x.l2_lock_indicator) e, ap (λ (x : GlonassSatellite). x.l2_cnr) e)))))))))))))
+    (Decides-and _ _ (unsigned_Decides s.slot t.slot) (Decides-and _ _ (bool_same s.l1_code t.l1_code) (Decides-and _ _ (unsigned_Decides s.channel t.channel) (Decides-and _ _ (unsigned_Decides s.l1_range t.l1_range) (Decides-and _ _ (signed_Decides s.l1_phase_difference t.l1_phase_difference) (Decides-and _ _ (unsigned_Decides s.l1_lock_indicator t.l1_lock_indicator) (Decides-and _ _ (unsigned_Decides s.modulus_ambiguity t.modulus_ambiguity) (Decides-and _ _ (unsigned_Decides s.l1_cnr t.l1_cnr) (Decides-and _ _ (unsigned_Decides s.l2_code t.l2_code) (Decides-and _ _ (signed_Decides s.l2_range_difference t.l2_range_difference) (Decides-and _ _ (signed_Decides s.l2_phase_difference t.l2_phase_difference) (Decides-and _ _ (unsigned_Decides s.l2_lock_indicator t.l2_lock_indicator) (unsigned_Decides s.l2_cnr t.l2_cnr)))))))))))))
+
+pub obs1012_same : (s t : declared_obs1012.Obs1012) → Decides ((obs1012_eq.ghosts).eq s t) (s ≡ t)
+obs1012_same s t = Decides-like ((obs1012_eq.ghosts).eq s t)
+    (λ h i. record { station = h.0 i; time_of_day_ms = h.1.0 i; synchronous = h.1.1.0 i; smoothing = h.1.1.1.0 i; smoothing_interval = h.1.1.1.1.0 i; satellites = h.1.1.1.1.1 i })
+    (λ e. (ap (λ (x : declared_obs1012.Obs1012). x.station) e, (ap (λ (x : declared_obs1012.Obs1012). x.time_of_day_ms) e, (ap (λ (x : declared_obs1012.Obs1012). x.synchronous) e, (ap (λ (x : declared_obs1012.Obs1012). x.smoothing) e, (ap (λ (x : declared_obs1012.Obs1012). x.smoothing_interval) e, ap (λ (x : declared_obs1012.Obs1012). x.satellites) e))))))
+    (Decides-and _ _ (unsigned_Decides s.station t.station) (Decides-and _ _ (unsigned_Decides s.time_of_day_ms t.time_of_day_ms) (Decides-and _ _ (bool_same s.synchronous t.synchronous) (Decides-and _ _ (bool_same s.smoothing t.smoothing) (Decides-and _ _ (unsigned_Decides s.smoothing_interval t.smoothing_interval) (list_same _ glonass_satellite_same s.satellites t.satellites))))))
 
 pub msm1074_same : (s t : declared_msm1074.Msm1074) → Decides ((msm1074_eq.ghosts).eq s t) (s ≡ t)
 msm1074_same s t = Decides-like ((msm1074_eq.ghosts).eq s t)
@@ -156,8 +172,13 @@ msm_same s t = Decides-like ((msm_eq.ghosts).eq s t)
 pub any_message_same : (a b : AnyMessage) → Decides ((any_message_eq.ghosts).eq a b) (a ≡ b)
 any_message_same (any_message.Message m) (any_message.Message n) = (λ e. ap any_message.Message ((message_same m n).0 e), λ e. (message_same m n).1 cc)
 any_message_same (any_message.Message m) (any_message.Msm n) = (λ e. absurd cc, λ e. absurd cc)
+any_message_same (any_message.Message m) (any_message.Obs1012 n) = (λ e. absurd cc, λ e. absurd cc)
 any_message_same (any_message.Msm m) (any_message.Message n) = (λ e. absurd cc, λ e. absurd cc)
 any_message_same (any_message.Msm m) (any_message.Msm n) = (λ e. ap any_message.Msm ((msm_same m n).0 e), λ e. (msm_same m n).1 cc)
+any_message_same (any_message.Msm m) (any_message.Obs1012 n) = (λ e. absurd cc, λ e. absurd cc)
+any_message_same (any_message.Obs1012 m) (any_message.Message n) = (λ e. absurd cc, λ e. absurd cc)
+any_message_same (any_message.Obs1012 m) (any_message.Msm n) = (λ e. absurd cc, λ e. absurd cc)
+any_message_same (any_message.Obs1012 m) (any_message.Obs1012 n) = (λ e. ap any_message.Obs1012 ((obs1012_same m n).0 e), λ e. (obs1012_same m n).1 cc)
 
 pub any_fault_same : (a b : AnyFault) → Decides ((any_fault_eq.ghosts).eq a b) (a ≡ b)
 any_fault_same any_fault.NoNumber any_fault.NoNumber = (λ e. refl, λ e. refl)

@@ -10,5 +10,6 @@ mod MsmLemmas
 mod AnyDecodedLemmas
 mod NumberLemmas
 mod Obs1004Lemmas
+mod Obs1012Lemmas
 mod SystemsLemmas
 mod WordLemmas

@@ -1,7 +1,7 @@
 -- Multiple signal messages: the widths of a kind, the first fault, the columns of a message that has
 -- its form, and that bits begin with at most one message of a type. A 1074 has the form of MSM4.
-use Rattle.std.proofs.Common.{◌≡◌, ℕ, ℤ, Bool, true, false, List, [], ◌++◌, length, Some, None, refl, sym, ap, subst, ◌∙◌, ◌+◌, ◌*◌, ◌<◌, ◌≤◌, ltb, inl, inr, arith, append_assoc, length-append, sum_by, count_ones}
-use Rattle.std.proofs.lemmas.Bool.{le-ltb, lt-ltb, ltb-true}
+use Rattle.std.proofs.Common.{◌≡◌, ℕ, ℤ, Bool, true, false, List, [], ◌++◌, length, Some, None, refl, sym, ap, subst, ◌∙◌, ◌+◌, ◌*◌, ◌/◌, ◌%◌, ◌^◌, ◌<◌, ◌≤◌, ltb, inl, inr, arith, append_assoc, length-append, sum_by, count_ones}
+use Rattle.std.proofs.lemmas.Bool.{le-ltb, lt-ltb, ltb-true, and_parts}
 use Rattle.std.proofs.lemmas.Bool.Decides.{leb_tells}
 use Rattle.std.proofs.lemmas.List.{append-nil}
 use Rattle.std.specs.Prelude.{IsTrue, not, nat_lt, nat_le, if◌then◌else◌}
@@ -11,10 +11,11 @@ use Rattle.rtk_message.specs.declared.msm_kind.MsmKind.{MsmKind}
 use Rattle.rtk_message.specs.declared.msm_kind.MsmKind.TheVariants.{Msm4, Msm5, Msm6, Msm7}
 use Rattle.rtk_message.specs.declared.msm_type.MsmType.{MsmType}
 use Rattle.rtk_message.specs.declared.system.System.{System}
+use Rattle.rtk_message.specs.declared.system.System.TheVariants.{Gps, Glonass, Galileo, Beidou, Qzss, Sbas, Navic}
 use Rattle.rtk_message.specs.declared.msm1074.MsmHeader.{MsmHeader}
 use Rattle.rtk_message.specs.declared.msm1074.Msm1074.{Msm1074}
 use Rattle.rtk_message.specs.declared.msm.Msm.{Msm}
-use Rattle.rtk_message.specs.Fields.{week_ms, tow_in, Field, bits_of_fields, FieldsFit, TakesAll}
+use Rattle.rtk_message.specs.Fields.{week_ms, longest_day_ms, tow_in, Field, bits_of_fields, FieldsFit, TakesAll}
 use Rattle.rtk_message.specs.FieldLaws.{total, length-bits_of_fields, bits_of_fields-append, fit-append, fit-parts}
 use Rattle.rtk_message.specs.FieldColumns.{numbers, integers, flags}
 use Rattle.rtk_message.specs.ColumnLaws.{total-numbers, total-integers, total-flags, peel, peel_numbers, peel_integers, peel_flags, last_integers}
@@ -22,7 +23,7 @@ use Rattle.rtk_message.specs.Msm1074 as msm1074
 use Rattle.rtk_message.specs.Msm1074.{header_table, satellite_count, signal_count, satellite_count_in, mask_bits_in, cell_count_in}
 use Rattle.rtk_message.specs.Msm1074Laws.{header_says, cells_says, split, same_header}
 use Rattle.rtk_message.specs.MsmForm.{form_of, if_rates, mask_table, satellite_table, cell_table, column_table, table, cell_count, HasLengths, HasForm, msm_of_1074, satellite_bits, cell_bits, first_fault, type_of}
-use Rattle.rtk_message.specs.Systems.{gps, number_of_type, is_in_week}
+use Rattle.rtk_message.specs.Systems.{gps, number_of_type, tells_time}
 use Rattle.rtk_message.specs.AnyDecoded.{if_any_fault_of}
 use Rattle.rtk_message.specs.Steps.MsmColumns.{HasWidths, bits_of_cells, HasSatellites, HasCells, ChangesCells, SatellitesFit, CellsFit}
 use Rattle.rtk_message.proofs.ColumnLemmas.{flags-fit}
@@ -125,35 +126,35 @@ length-column_table m l =
 abbrev due : MsmKind → List Bool → ℕ
 due k bs = 157 + mask_bits_in bs + satellite_bits k * satellite_count_in bs + cell_bits k * cell_count_in bs
 
-pub is_out_of_week : (t : MsmType) {h : MsmHeader} {bs rest : List Bool} → TakesAll (header_table h) bs rest → is_in_week t.system h.tow ≡ false → first_fault t bs ≡ Some (EpochRange (number_of_type t))
-is_out_of_week t {h = h} {bs = bs} took late =
+pub is_out_of_week : (any_day : Bool) (t : MsmType) {h : MsmHeader} {bs rest : List Bool} → TakesAll (header_table h) bs rest → tells_time any_day t.system h.tow ≡ false → first_fault any_day t bs ≡ Some (EpochRange (number_of_type t))
+is_out_of_week any_day t {h = h} {bs = bs} took late =
     let says = header_says took in
     let long : ltb (length bs) 157 ≡ false = le-ltb (length bs) 157 (omega (arith, says.len)) in
-    let when : not (is_in_week t.system (tow_in bs)) ≡ true = ap not (ap (is_in_week t.system) says.tow_is ∙ late) in
+    let when : not (tells_time any_day t.system (tow_in bs)) ≡ true = ap not (ap (tells_time any_day t.system) says.tow_is ∙ late) in
     rw (long, when) refl
 
-pub is_many : (t : MsmType) {h : MsmHeader} {bs rest : List Bool} → TakesAll (header_table h) bs rest → is_in_week t.system h.tow ≡ true → 64 < satellite_count h * signal_count h → first_fault t bs ≡ Some (TooManyCells (number_of_type t))
-is_many t {h = h} {bs = bs} took time many =
+pub is_many : (any_day : Bool) (t : MsmType) {h : MsmHeader} {bs rest : List Bool} → TakesAll (header_table h) bs rest → tells_time any_day t.system h.tow ≡ true → 64 < satellite_count h * signal_count h → first_fault any_day t bs ≡ Some (TooManyCells (number_of_type t))
+is_many any_day t {h = h} {bs = bs} took time many =
     let says = header_says took in
     let long : ltb (length bs) 157 ≡ false = le-ltb (length bs) 157 (omega (arith, says.len)) in
-    let when : not (is_in_week t.system (tow_in bs)) ≡ false = ap not (ap (is_in_week t.system) says.tow_is ∙ time) in
+    let when : not (tells_time any_day t.system (tow_in bs)) ≡ false = ap not (ap (tells_time any_day t.system) says.tow_is ∙ time) in
     let big : ltb 64 (mask_bits_in bs) ≡ true = lt-ltb 64 (mask_bits_in bs) (omega (arith, says.mask_bits_is, many)) in
     rw (long, when, big) refl
 
-is_cut : (t : MsmType) {h : MsmHeader} {bs rest : List Bool} → TakesAll (header_table h) bs rest → is_in_week t.system h.tow ≡ true → satellite_count h * signal_count h ≤ 64 → length bs < due t.kind bs → first_fault t bs ≡ Some (Short (number_of_type t))
-is_cut t {h = h} {bs = bs} took time few short =
+is_cut : (any_day : Bool) (t : MsmType) {h : MsmHeader} {bs rest : List Bool} → TakesAll (header_table h) bs rest → tells_time any_day t.system h.tow ≡ true → satellite_count h * signal_count h ≤ 64 → length bs < due t.kind bs → first_fault any_day t bs ≡ Some (Short (number_of_type t))
+is_cut any_day t {h = h} {bs = bs} took time few short =
     let says = header_says took in
     let long : ltb (length bs) 157 ≡ false = le-ltb (length bs) 157 (omega (arith, says.len)) in
-    let when : not (is_in_week t.system (tow_in bs)) ≡ false = ap not (ap (is_in_week t.system) says.tow_is ∙ time) in
+    let when : not (tells_time any_day t.system (tow_in bs)) ≡ false = ap not (ap (tells_time any_day t.system) says.tow_is ∙ time) in
     let big : ltb 64 (mask_bits_in bs) ≡ false = le-ltb 64 (mask_bits_in bs) (omega (arith, says.mask_bits_is, few)) in
     let cut : ltb (length bs) (due t.kind bs) ≡ true = lt-ltb (length bs) (due t.kind bs) short in
     rw (long, when, big, cut) refl
 
 -- fewer bits than the cell mask
-pub is_cut_mask : (t : MsmType) {h : MsmHeader} {bs rest : List Bool} → TakesAll (header_table h) bs rest → is_in_week t.system h.tow ≡ true → satellite_count h * signal_count h ≤ 64 → length rest < satellite_count h * signal_count h → first_fault t bs ≡ Some (Short (number_of_type t))
-is_cut_mask t {h = h} {bs = bs} {rest = rest} took time few short =
+pub is_cut_mask : (any_day : Bool) (t : MsmType) {h : MsmHeader} {bs rest : List Bool} → TakesAll (header_table h) bs rest → tells_time any_day t.system h.tow ≡ true → satellite_count h * signal_count h ≤ 64 → length rest < satellite_count h * signal_count h → first_fault any_day t bs ≡ Some (Short (number_of_type t))
+is_cut_mask any_day t {h = h} {bs = bs} {rest = rest} took time few short =
     let says = header_says took in
-    is_cut t took time few (mask_short (length bs) (length rest) (mask_bits_in bs) (satellite_count h * signal_count h) (satellite_bits t.kind * satellite_count_in bs) (cell_bits t.kind * cell_count_in bs) says.len says.mask_bits_is short) where
+    is_cut any_day t took time few (mask_short (length bs) (length rest) (mask_bits_in bs) (satellite_count h * signal_count h) (satellite_bits t.kind * satellite_count_in bs) (cell_bits t.kind * cell_count_in bs) says.len says.mask_bits_is short) where
       mask_short : (all left bits mask satellites cells : ℕ) → all ≡ 157 + left → bits ≡ mask → left < mask → all < 157 + bits + satellites + cells
       mask_short all left bits mask satellites cells len same short = omega (arith, len, same, short)
 
@@ -166,38 +167,37 @@ due-is k {h = h} {bs = bs} ns took mask len =
       sums : (a b c x y z s t : ℕ) → a ≡ x → b ≡ y → c ≡ z → 157 + a + s * b + t * c ≡ 157 + x + s * y + t * z
       sums a b c x y z s t p q r = rw (p, q, r) refl
 
-pub is_cut_rest : (t : MsmType) {h : MsmHeader} {bs rest after : List Bool} (ns : List ℕ) → TakesAll (header_table h) bs rest → TakesAll (numbers (signal_count h) ns) rest after → length ns ≡ satellite_count h → is_in_week t.system h.tow ≡ true → satellite_count h * signal_count h ≤ 64
-    → length rest ≡ signal_count h * satellite_count h + length after → length after < satellite_bits t.kind * satellite_count h + cell_bits t.kind * sum_by count_ones ns → first_fault t bs ≡ Some (Short (number_of_type t))
-is_cut_rest t {h = h} {bs = bs} {rest = rest} {after = after} ns took mask len time few size short =
+pub is_cut_rest : (any_day : Bool) (t : MsmType) {h : MsmHeader} {bs rest after : List Bool} (ns : List ℕ) → TakesAll (header_table h) bs rest → TakesAll (numbers (signal_count h) ns) rest after → length ns ≡ satellite_count h → tells_time any_day t.system h.tow ≡ true → satellite_count h * signal_count h ≤ 64
+    → length rest ≡ signal_count h * satellite_count h + length after → length after < satellite_bits t.kind * satellite_count h + cell_bits t.kind * sum_by count_ones ns → first_fault any_day t bs ≡ Some (Short (number_of_type t))
+is_cut_rest any_day t {h = h} {bs = bs} {rest = rest} {after = after} ns took mask len time few size short =
     let says = header_says took in
     let all = due-is t.kind ns took mask len in
-    is_cut t took time few (rest_short (length bs) (length rest) (length after) (satellite_count h * signal_count h) (due t.kind bs) (satellite_bits t.kind * satellite_count h) (cell_bits t.kind * sum_by count_ones ns) says.len (omega (arith, size)) all short) where
+    is_cut any_day t took time few (rest_short (length bs) (length rest) (length after) (satellite_count h * signal_count h) (due t.kind bs) (satellite_bits t.kind * satellite_count h) (cell_bits t.kind * sum_by count_ones ns) says.len (omega (arith, size)) all short) where
       rest_short : (all left after mask due satellites cells : ℕ) → all ≡ 157 + left → left ≡ mask + after → due ≡ 157 + mask + satellites + cells → after < satellites + cells → all < due
       rest_short all left after mask due satellites cells len size sum short = omega (arith, len, size, sum, short)
 
-is_whole : (t : MsmType) {h : MsmHeader} {bs rest : List Bool} → TakesAll (header_table h) bs rest → is_in_week t.system h.tow ≡ true → satellite_count h * signal_count h ≤ 64 → due t.kind bs ≤ length bs → first_fault t bs ≡ None
-is_whole t {h = h} {bs = bs} took time few enough =
+is_whole : (any_day : Bool) (t : MsmType) {h : MsmHeader} {bs rest : List Bool} → TakesAll (header_table h) bs rest → tells_time any_day t.system h.tow ≡ true → satellite_count h * signal_count h ≤ 64 → due t.kind bs ≤ length bs → first_fault any_day t bs ≡ None
+is_whole any_day t {h = h} {bs = bs} took time few enough =
     let says = header_says took in
     let long : ltb (length bs) 157 ≡ false = le-ltb (length bs) 157 (omega (arith, says.len)) in
-    let when : not (is_in_week t.system (tow_in bs)) ≡ false = ap not (ap (is_in_week t.system) says.tow_is ∙ time) in
+    let when : not (tells_time any_day t.system (tow_in bs)) ≡ false = ap not (ap (tells_time any_day t.system) says.tow_is ∙ time) in
     let big : ltb 64 (mask_bits_in bs) ≡ false = le-ltb 64 (mask_bits_in bs) (omega (arith, says.mask_bits_is, few)) in
     let enough_bits : ltb (length bs) (due t.kind bs) ≡ false = le-ltb (length bs) (due t.kind bs) enough in
     rw (long, when, big, enough_bits) refl
 
 -- bits that begin with a message have no fault
-pub is_accepted : (m : Msm) (rest : List Bool) → HasForm m → first_fault (type_of m) (bits_of_fields (table m) ++ rest) ≡ None
-is_accepted m rest valid =
+pub is_accepted : (any_day : Bool) (m : Msm) (rest : List Bool) → HasForm m → tells_time any_day m.system m.header.tow ≡ true → first_fault any_day (type_of m) (bits_of_fields (table m) ++ rest) ≡ None
+is_accepted any_day m rest valid time =
     let h = m.header in
     let bs = bits_of_fields (table m) ++ rest in
     let after_header = mask_table m ++ column_table m in
     let head : TakesAll (header_table h) bs (bits_of_fields after_header ++ rest) = split (header_table h) after_header bs rest valid.fields_fit refl in
     let mask : TakesAll (mask_table m) (bits_of_fields after_header ++ rest) (bits_of_fields (column_table m) ++ rest) = split (mask_table m) (column_table m) (bits_of_fields after_header ++ rest) rest (fit-parts (header_table h) after_header valid.fields_fit).1 refl in
     let says = header_says head in
-    let time : is_in_week m.system h.tow ≡ true = valid.time_in_week in
     let all = due-is m.kind m.cell_mask head mask valid.lengths.cell_mask in
     let l1 : length (bits_of_fields after_header ++ rest) ≡ signal_count h * satellite_count h + length (bits_of_fields (column_table m) ++ rest) =
     ap length mask.is ∙ length-append (bits_of_fields (mask_table m)) (bits_of_fields (column_table m) ++ rest) ∙ ap (λ (k : ℕ). k + length (bits_of_fields (column_table m) ++ rest)) (length-bits_of_fields (mask_table m) ∙ total-numbers (signal_count h) m.cell_mask ∙ ap (λ (k : ℕ). signal_count h * k) valid.lengths.cell_mask) in
-    is_whole (type_of m) head time valid.mask_bits (whole (length bs) (length (bits_of_fields after_header ++ rest)) (length (bits_of_fields (column_table m) ++ rest)) (length rest) (satellite_count h * signal_count h) (due m.kind bs) (satellite_bits m.kind * satellite_count h) (cell_bits m.kind * cell_count m)
+    is_whole any_day (type_of m) head time valid.mask_bits (whole (length bs) (length (bits_of_fields after_header ++ rest)) (length (bits_of_fields (column_table m) ++ rest)) (length rest) (satellite_count h * signal_count h) (due m.kind bs) (satellite_bits m.kind * satellite_count h) (cell_bits m.kind * cell_count m)
     says.len (omega (arith, l1)) all (length-append (bits_of_fields (column_table m)) rest ∙ ap (λ (k : ℕ). k + length rest) (length-column_table m valid.lengths))) where
       whole : (all left after rest mask due satellites cells : ℕ) → all ≡ 157 + left → left ≡ mask + after → due ≡ 157 + mask + satellites + cells → after ≡ satellites + cells + rest → due ≤ all
       whole all left after rest mask due satellites cells len size sum columns = omega (arith, len, size, sum, columns)
@@ -240,10 +240,21 @@ all_fit m head s c =
     fit-append (header_table m.header) (mask_table m ++ column_table m) head
     (fit-append (mask_table m) (column_table m) s.cell_mask (fit-append (satellite_table m) (cell_table k m) satellites cells))
 
-pub has_form : (m : Msm) → FieldsFit (header_table m.header) → IsTrue (is_in_week m.system m.header.tow) → satellite_count m.header * signal_count m.header ≤ 64 → HasLengths m → SatellitesFit m → CellsFit (form_of m.kind) m → HasForm m
-has_form m head time few lengths s c = record { fields_fit = all_fit m head s c; time_in_week = time; mask_bits = few; lengths = lengths }
+pub has_form : (m : Msm) → FieldsFit (header_table m.header) → IsTrue (tells_time true m.system m.header.tow) → satellite_count m.header * signal_count m.header ≤ 64 → HasLengths m → SatellitesFit m → CellsFit (form_of m.kind) m → HasForm m
+has_form m head time few lengths s c = record { fields_fit = all_fit m head s c; time = time; mask_bits = few; lengths = lengths }
 
 -- ---- what was read
+
+-- a clock that tells a time tells it if any day is taken
+some_day : (any_day : Bool) (s : System) (c : ℕ) → tells_time any_day s c ≡ true → tells_time true s c ≡ true
+some_day true s c h = h
+some_day false Gps c h = h
+some_day false Glonass c h = (and_parts (nat_lt (c / 2 ^ 27) 7) (nat_lt (c % 2 ^ 27) longest_day_ms) h).1
+some_day false Galileo c h = h
+some_day false Beidou c h = h
+some_day false Qzss c h = h
+some_day false Sbas c h = h
+some_day false Navic c h = h
 
 -- the table of a message by its parts
 abbrev whole : MsmHeader → List ℕ → List Field → List Field → List Field
@@ -251,11 +262,11 @@ whole h ns satellites cells = header_table h ++ (numbers (signal_count h) ns ++ 
 
 -- the header, the cell mask, the columns of the satellites and those of the cells are read one after
 -- another
-pub all_read : {t : MsmType} {h : MsmHeader} {ns : List ℕ} {mid new : Msm} {b0 b1 b2 b3 b4 : List Bool} → mid.system ≡ t.system → mid.kind ≡ t.kind → mid.header ≡ h → mid.cell_mask ≡ ns → ChangesCells mid new
+pub all_read : (any_day : Bool) {t : MsmType} {h : MsmHeader} {ns : List ℕ} {mid new : Msm} {b0 b1 b2 b3 b4 : List Bool} → mid.system ≡ t.system → mid.kind ≡ t.kind → mid.header ≡ h → mid.cell_mask ≡ ns → ChangesCells mid new
     → TakesAll (header_table h) b0 b1 → TakesAll (numbers (signal_count h) ns) b1 b2 → TakesAll (satellite_table mid) b2 b3 → TakesAll (cell_table (form_of t.kind) new) b3 b4
-    → is_in_week t.system h.tow ≡ true → satellite_count h * signal_count h ≤ 64 → length ns ≡ satellite_count h → HasSatellites (satellite_count h) (if_rates t.kind (satellite_count h)) mid → HasCells (sum_by count_ones ns) (if_rates t.kind (sum_by count_ones ns)) new
-    → HasForm new × (type_of new ≡ t) × TakesAll (table new) b0 b4
-all_read {t = t} {h = h} {ns = ns} {mid = mid} {new = new} {b0 = b0} {b4 = b4} is_system is_kind is_header is_mask second head rows satellites cells time few len s c =
+    → tells_time any_day t.system h.tow ≡ true → satellite_count h * signal_count h ≤ 64 → length ns ≡ satellite_count h → HasSatellites (satellite_count h) (if_rates t.kind (satellite_count h)) mid → HasCells (sum_by count_ones ns) (if_rates t.kind (sum_by count_ones ns)) new
+    → HasForm new × (type_of new ≡ t) × TakesAll (table new) b0 b4 × IsTrue (tells_time any_day new.system new.header.tow)
+all_read any_day {t = t} {h = h} {ns = ns} {mid = mid} {new = new} {b0 = b0} {b4 = b4} is_system is_kind is_header is_mask second head rows satellites cells time few len s c =
     let system : new.system ≡ t.system = ap (λ (x : Msm). x.system) second ∙ is_system in
     let kind : new.kind ≡ t.kind = ap (λ (x : Msm). x.kind) second ∙ is_kind in
     let header : new.header ≡ h = ap (λ (x : Msm). x.header) second ∙ is_header in
@@ -284,14 +295,16 @@ all_read {t = t} {h = h} {ns = ns} {mid = mid} {new = new} {b0 = b0} {b4 = b4} i
       cnr = c.cnr ∙ count;
       fine_rate = c.fine_rate ∙ rated_cells;
     } in
+    let clock : IsTrue (tells_time any_day new.system new.header.tow) =
+    subst (λ (x : System). IsTrue (tells_time any_day x new.header.tow)) (sym system) (subst (λ (x : MsmHeader). IsTrue (tells_time any_day t.system x.tow)) (sym header) time) in
     let form : HasForm new = record {
       fields_fit = taken.fit;
-      time_in_week = subst (λ (x : System). IsTrue (is_in_week x new.header.tow)) (sym system) (subst (λ (x : MsmHeader). IsTrue (is_in_week t.system x.tow)) (sym header) time);
+      time = some_day any_day new.system new.header.tow clock;
       mask_bits = subst (λ (x : MsmHeader). satellite_count x * signal_count x ≤ 64) (sym header) few;
       lengths = lengths;
     } in
     let types : type_of new ≡ t = λ i. record { system = system i; kind = kind i } in
-    (form, types, taken)
+    (form, types, taken, clock)
 
 -- ---- one reading
 
@@ -364,7 +377,7 @@ table_of_1074 m =
 pub form_of_valid_1074 : (m : Msm1074) → msm1074.IsValid m → HasForm (msm_of_1074 m)
 form_of_valid_1074 m v = let l = v.lengths in record {
   fields_fit = subst FieldsFit (table_of_1074 m) v.fields_fit;
-  time_in_week = lt-ltb m.header.tow week_ms v.time_in_week;
+  time = lt-ltb m.header.tow week_ms v.time_in_week;
   mask_bits = v.mask_bits;
   lengths = record {
     cell_mask = l.cell_mask;
@@ -384,7 +397,7 @@ form_of_valid_1074 m v = let l = v.lengths in record {
 pub valid_1074_of_form : (m : Msm1074) → HasForm (msm_of_1074 m) → msm1074.IsValid m
 valid_1074_of_form m v = let l = v.lengths in record {
   fields_fit = subst FieldsFit (sym (table_of_1074 m)) v.fields_fit;
-  time_in_week = ltb-true m.header.tow week_ms v.time_in_week;
+  time_in_week = ltb-true m.header.tow week_ms v.time;
   mask_bits = v.mask_bits;
   lengths = record {
     cell_mask = l.cell_mask;
@@ -411,5 +424,5 @@ same_order false false false false = refl
 late-is : (c : ℕ) → not (nat_lt c week_ms) ≡ nat_le week_ms c
 late-is c = elim (leb_tells week_ms c) [ inl h ↦ rw (le-ltb c week_ms h.1, h.0) refl | inr h ↦ rw (lt-ltb c week_ms h.1, h.0) refl ]
 
-pub fault_of_1074 : (bs : List Bool) → if_any_fault_of (msm1074.first_fault bs) ≡ first_fault (gps Msm4) bs
-fault_of_1074 bs = rw (late-is (tow_in bs)) (same_order _ _ _ _)
+pub fault_of_1074 : (any_day : Bool) (bs : List Bool) → if_any_fault_of (msm1074.first_fault bs) ≡ first_fault any_day (gps Msm4) bs
+fault_of_1074 any_day bs = rw (late-is (tow_in bs)) (same_order _ _ _ _)

@@ -10,7 +10,7 @@ use Rattle.rtk_message.specs.declared.msm_kind.MsmKind.TheVariants.{Msm4, Msm5, 
 use Rattle.rtk_message.specs.declared.msm_type.MsmType.{MsmType}
 use Rattle.rtk_message.specs.declared.system.System.{System}
 use Rattle.rtk_message.specs.declared.system.System.TheVariants.{Gps, Glonass, Galileo, Beidou, Qzss, Sbas, Navic}
-use Rattle.rtk_message.specs.Accepted.{no_kind, takes_kind, of_gps, four, takes, takes_some, accepts}
+use Rattle.rtk_message.specs.Accepted.{no_kind, takes_kind, of_gps, four, takes, takes_some, with_1012, accepts}
 use Rattle.rtk_message.specs.MsmForm.{IsWide}
 use Rattle.rtk_message.specs.Systems.{tens_of, digit_of, number_of_type, system_of_tens, kind_of_digit, type_of_both, type_of_number}
 
@@ -131,7 +131,7 @@ pub accepts-type : (a : Accepted) (t : MsmType) → accepts a (number_of_type t)
 accepts-type a t =
     let r = number-range t in
     let n = number_of_type t in
-    rw (ne_eqb n 1004 (λ e. omega (arith, r.0, e)), ne_eqb n 1005 (λ e. omega (arith, r.0, e)), ne_eqb n 1006 (λ e. omega (arith, r.0, e)), read_back t) refl
+    rw (ne_eqb n 1004 (λ e. omega (arith, r.0, e)), ne_eqb n 1005 (λ e. omega (arith, r.0, e)), ne_eqb n 1006 (λ e. omega (arith, r.0, e)), ne_eqb n 1012 (λ e. omega (arith, r.0, e)), read_back t) refl
 
 none-takes : (k : MsmKind) → takes_kind no_kind k ≡ false
 none-takes Msm4 = refl
@@ -154,6 +154,19 @@ takes-gps ks t e = only-gps ks t.system t.kind e
 
 pub accepts-gps : (ks : MsmKinds) (t : MsmType) → accepts (of_gps ks) (number_of_type t) ≡ true → t.system ≡ Gps
 accepts-gps ks t e = takes-gps ks t (sym (accepts-type (of_gps ks) t) ∙ e)
+
+-- a set and 1012 has the types of the set
+with-1012 : (a : Accepted) (s : System) (k : MsmKind) → takes (with_1012 a) (record { system = s; kind = k }) ≡ takes a (record { system = s; kind = k })
+with-1012 a Gps k = refl
+with-1012 a Glonass k = refl
+with-1012 a Galileo k = refl
+with-1012 a Beidou k = refl
+with-1012 a Qzss k = refl
+with-1012 a Sbas k = refl
+with-1012 a Navic k = refl
+
+pub takes-1012 : (a : Accepted) (t : MsmType) → takes (with_1012 a) t ≡ takes a t
+takes-1012 a t = with-1012 a t.system t.kind
 
 -- the set of the four has no type but 1074
 four-type : (s : System) (k : MsmKind) → number_of_type (record { system = s; kind = k }) ≢ 1074 → takes four (record { system = s; kind = k }) ≡ false

@@ -46,9 +46,9 @@ with_kind ks Msm7 = record ks { msm7 = true }
 -- ---- sets of messages
 
 -- table
--- these kinds of GPS, and no MSM of another system
+-- these kinds of GPS, no MSM of another system, and no 1012
 abbrev pub of_gps : MsmKinds → Accepted
-of_gps ks = record { gps = ks; glonass = no_kind; galileo = no_kind; beidou = no_kind; qzss = no_kind; sbas = no_kind; navic = no_kind }
+of_gps ks = record { gps = ks; glonass = no_kind; galileo = no_kind; beidou = no_kind; qzss = no_kind; sbas = no_kind; navic = no_kind; obs1012 = false }
 
 -- no MSM
 abbrev pub no_msm : Accepted
@@ -59,9 +59,9 @@ abbrev pub four : Accepted
 four = of_gps (only_kind Msm4)
 
 -- table
--- all MSM
+-- all MSM, and no 1012
 abbrev pub all : Accepted
-all = record { gps = all_kinds; glonass = all_kinds; galileo = all_kinds; beidou = all_kinds; qzss = all_kinds; sbas = all_kinds; navic = all_kinds }
+all = record { gps = all_kinds; glonass = all_kinds; galileo = all_kinds; beidou = all_kinds; qzss = all_kinds; sbas = all_kinds; navic = all_kinds; obs1012 = false }
 
 -- the MSM of GPS of this kind and no other
 abbrev pub only : MsmKind → Accepted
@@ -93,6 +93,10 @@ with_kinds a Navic ks = record a { navic = ks }
 abbrev pub with_type : Accepted → MsmType → Accepted
 with_type a t = with_kinds a t.system (with_kind (kinds_of a t.system) t.kind)
 
+-- the set and 1012
+abbrev pub with_1012 : Accepted → Accepted
+with_1012 a = record a { obs1012 = true }
+
 -- whether the MSM of this type are read
 abbrev pub takes : Accepted → MsmType → Bool
 takes a t = takes_kind (kinds_of a t.system) t.kind
@@ -105,4 +109,5 @@ takes_some a (Some t) = takes a t
 -- whether a message of this number is read
 abbrev pub accepts : Accepted → ℕ → Bool
 accepts a n =
-    if n == 1004 then true else if n == 1005 then true else if n == 1006 then true else takes_some a (type_of_number n)
+    if n == 1004 then true else if n == 1005 then true else if n == 1006 then true else if n == 1012 then a.obs1012 else
+    takes_some a (type_of_number n)

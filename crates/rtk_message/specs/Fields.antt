@@ -21,6 +21,11 @@ field_bits (flag b) = b ∷ []
 abbrev pub week_ms : ℕ
 week_ms = 604_800_000
 
+-- constant
+-- the milliseconds of a day that ends with a leap second; a time of day (DF034) is less than this number
+abbrev pub longest_day_ms : ℕ
+longest_day_ms = 86_401_000
+
 -- formula
 -- the time of week (DF004) in the bits after the number of a message with observations: the 30 bits
 -- after the station

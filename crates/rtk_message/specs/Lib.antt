@@ -2,6 +2,8 @@ pub mod Fields
 pub mod FieldLaws
 pub mod Obs1004
 pub mod Obs1004Laws
+pub mod Obs1012
+pub mod Obs1012Laws
 pub mod Arp1005
 pub mod Arp1005Laws
 pub mod Arp1006

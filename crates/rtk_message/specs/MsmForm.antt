@@ -1,7 +1,7 @@
 -- The multiple signal messages after their number (RTCM 10403.3, MSM4 to MSM7): a header of 157
 -- bits, the cell mask, the columns. One table serves all kinds and all systems.
 -- Source: RTCM 10403.3, messages 1071 to 1137
-use Rattle.std.specs.Prelude.{◌≡◌, ℕ, ◌+◌, ◌*◌, ◌≤◌, ◌<◌, Bool, not, IsTrue, List, [], ◌++◌, length, sum_by, count_ones, Option, Some, None, nat_lt, if◌then◌else◌}
+use Rattle.std.specs.Prelude.{◌≡◌, ℕ, ◌+◌, ◌*◌, ◌≤◌, ◌<◌, Bool, true, not, IsTrue, List, [], ◌++◌, length, sum_by, count_ones, Option, Some, None, nat_lt, if◌then◌else◌}
 use Rattle.rtk_message.specs.Fields.{tow_in, Field, FieldsFit}
 use Rattle.rtk_message.specs.FieldColumns.{numbers, integers, flags}
 use Rattle.rtk_message.specs.Msm1074.{header_table, satellite_count, signal_count, satellite_count_in, mask_bits_in, cell_count_in}
@@ -14,7 +14,7 @@ use Rattle.rtk_message.specs.declared.msm_type.MsmType.{MsmType}
 use Rattle.rtk_message.specs.declared.system.System.TheVariants.{Gps}
 use Rattle.rtk_message.specs.declared.msm.Msm.{Msm}
 use Rattle.rtk_message.specs.declared.msm1074.Msm1074.{Msm1074}
-use Rattle.rtk_message.specs.Systems.{number_of_type, is_in_week}
+use Rattle.rtk_message.specs.Systems.{number_of_type, tells_time}
 
 -- the type of a message: its system and its kind
 abbrev pub type_of : Msm → MsmType
@@ -99,11 +99,11 @@ pub record HasNoCells (m : Msm) : Type 0 where
   pub fine_rate : m.fine_rate ≡ []
 
 -- constant
--- the message has the form of its kind: each field fits, the clock lies in a week, the cell mask has
--- at most 64 bits, the columns have their lengths
+-- the message has the form of its kind: each field fits, the clock tells a time, with a day or without, the
+-- cell mask has at most 64 bits, the columns have their lengths
 pub record HasForm (m : Msm) : Type 0 where
   pub fields_fit : FieldsFit (table m)
-  pub time_in_week : IsTrue (is_in_week m.system m.header.tow)
+  pub time : IsTrue (tells_time true m.system m.header.tow)
   pub mask_bits : satellite_count m.header * signal_count m.header ≤ 64
   pub lengths : HasLengths m
 
@@ -149,11 +149,12 @@ abbrev pub cell_bits : MsmKind → ℕ
 cell_bits k = (form_of k).fine_range + (form_of k).fine_phase + (form_of k).lock_indicator + 1 + (form_of k).cnr + if_rates k 15
 
 -- formula
--- in the order in which causes are looked for (this project's rule)
-abbrev pub first_fault : MsmType → List Bool → Option AnyFault
-first_fault t bs =
+-- in the order in which causes are looked for (this project's rule), if the day of a clock has to be known or
+-- any day is taken
+abbrev pub first_fault : Bool → MsmType → List Bool → Option AnyFault
+first_fault any_day t bs =
     if nat_lt (length bs) 157 then Some (Short (number_of_type t)) else
-    if not (is_in_week t.system (tow_in bs)) then Some (EpochRange (number_of_type t)) else
+    if not (tells_time any_day t.system (tow_in bs)) then Some (EpochRange (number_of_type t)) else
     if nat_lt 64 (mask_bits_in bs) then Some (TooManyCells (number_of_type t)) else
     if nat_lt (length bs) (157 + mask_bits_in bs + satellite_bits t.kind * satellite_count_in bs + cell_bits t.kind * cell_count_in bs)
     then Some (Short (number_of_type t)) else None

@@ -1,7 +1,7 @@
 -- The multiple signal messages (MSM) of the satellite systems: their numbers and their clocks.
 -- Source: RTCM 10403.3, messages 1071 to 1137
-use Rattle.std.specs.Prelude.{ℕ, ◌+◌, ◌*◌, ◌/◌, ◌%◌, ◌^◌, ◌==◌, Bool, ◌&&◌, Option, Some, None, nat_lt, if◌then◌else◌}
-use Rattle.rtk_message.specs.Fields.{week_ms}
+use Rattle.std.specs.Prelude.{ℕ, ◌+◌, ◌*◌, ◌/◌, ◌%◌, ◌^◌, ◌==◌, Bool, false, ◌&&◌, ◌||◌, Option, Some, None, nat_lt, if◌then◌else◌}
+use Rattle.rtk_message.specs.Fields.{week_ms, longest_day_ms}
 use Rattle.rtk_message.specs.declared.msm_kind.MsmKind.{MsmKind}
 use Rattle.rtk_message.specs.declared.msm_kind.MsmKind.TheVariants.{Msm4, Msm5, Msm6, Msm7}
 use Rattle.rtk_message.specs.declared.msm_type.MsmType.{MsmType}
@@ -72,14 +72,18 @@ type_of_number n = type_of_both (system_of_tens (n / 10)) (kind_of_digit (n % 10
 -- ---- clocks
 
 -- table
--- whether a clock lies in a week. That of GLONASS is a day of the week (DF416, 3 bits; 7 is unknown)
--- before a time of day in ms (DF034, 27 bits), of a day that can end with a leap second. That of any
--- other system is a time of week in ms (DF004, DF248, DF427, DF428, DF004 and DF546)
+-- whether a clock tells a time. That of GLONASS is a day of the week (DF416, 3 bits; 7 is unknown) before a
+-- time of day in ms (DF034, 27 bits), of a day that can end with a leap second; its day is known, or any day
+-- is taken. That of any other system is a time of week in ms (DF004, DF248, DF427, DF428, DF004 and DF546)
+abbrev pub tells_time : Bool → System → ℕ → Bool
+tells_time any_day Gps c = nat_lt c week_ms
+tells_time any_day Glonass c = (any_day || nat_lt (c / 2 ^ 27) 7) && nat_lt (c % 2 ^ 27) longest_day_ms
+tells_time any_day Galileo c = nat_lt c week_ms
+tells_time any_day Beidou c = nat_lt c week_ms
+tells_time any_day Qzss c = nat_lt c week_ms
+tells_time any_day Sbas c = nat_lt c week_ms
+tells_time any_day Navic c = nat_lt c week_ms
+
+-- a clock lies in a week if it tells a time, on a day that is known
 abbrev pub is_in_week : System → ℕ → Bool
-is_in_week Gps c = nat_lt c week_ms
-is_in_week Glonass c = nat_lt (c / 2 ^ 27) 7 && nat_lt (c % 2 ^ 27) 86_401_000
-is_in_week Galileo c = nat_lt c week_ms
-is_in_week Beidou c = nat_lt c week_ms
-is_in_week Qzss c = nat_lt c week_ms
-is_in_week Sbas c = nat_lt c week_ms
-is_in_week Navic c = nat_lt c week_ms
+is_in_week s c = tells_time false s c

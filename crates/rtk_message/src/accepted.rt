@@ -1,7 +1,7 @@
 //! Which messages are read.
 
 ghost use Rattle.std.specs.Prelude.{◌≡◌};
-ghost use Rattle.rtk_message.specs.Accepted.{only_kind, takes_kind, with_kind, only, kinds_of, takes, takes_some, with_type, accepts};
+ghost use Rattle.rtk_message.specs.Accepted.{only_kind, takes_kind, with_kind, only, kinds_of, takes, takes_some, with_type, with_1012, accepts};
 ghost use Rattle.rtk_message.specs.Systems.{type_of_number};
 
 use crate::msm_kind::MsmKind;
@@ -75,8 +75,8 @@ impl MsmKinds {
     }
 }
 
-/// The set of messages that are read. These are 1004, 1005 and 1006, and of each system the MSM of
-/// these kinds.
+/// The set of messages that are read. These are 1004, 1005 and 1006, of each system the MSM of these
+/// kinds, and 1012 if its flag is set.
 #[derive(Clone, Copy, Debug, PartialEq, Eq)]
 pub struct Accepted {
     /// 1074 to 1077.
@@ -93,10 +93,12 @@ pub struct Accepted {
     pub sbas: MsmKinds,
     /// 1134 to 1137.
     pub navic: MsmKinds,
+    /// Whether 1012 is read, which tells no day, and so an MSM of GLONASS whose day is unknown (DF416 7).
+    pub obs1012: bool,
 }
 
 impl Accepted {
-    /// The set of 1004, 1005 and 1006. It has no MSM.
+    /// The set of 1004, 1005 and 1006. It has no MSM and no 1012.
     pub const NO_MSM: Accepted = Accepted {
         gps: MsmKinds::NONE,
         glonass: MsmKinds::NONE,
@@ -105,6 +107,7 @@ impl Accepted {
         qzss: MsmKinds::NONE,
         sbas: MsmKinds::NONE,
         navic: MsmKinds::NONE,
+        obs1012: false,
     };
 
     /// The set of 1004, 1005, 1006 and 1074, which `decode` reads.
@@ -122,7 +125,7 @@ impl Accepted {
         ..Accepted::NO_MSM
     };
 
-    /// The set of 1004, 1005, 1006, and MSM4 to MSM7 of all systems.
+    /// The set of 1004, 1005, 1006, and MSM4 to MSM7 of all systems. It has no 1012.
     pub const ALL: Accepted = Accepted {
         gps: MsmKinds::ALL,
         glonass: MsmKinds::ALL,
@@ -131,6 +134,7 @@ impl Accepted {
         qzss: MsmKinds::ALL,
         sbas: MsmKinds::ALL,
         navic: MsmKinds::ALL,
+        obs1012: false,
     };
 
     /// Returns the set of 1004, 1005, 1006 and the MSM of GPS of this kind.
@@ -177,6 +181,16 @@ impl Accepted {
         }
     }
 
+    /// Returns the set of these messages and 1012.
+    pub fn with_1012(self) -> Accepted
+        ensures { result ≡ with_1012 self }
+    {
+        Accepted {
+            obs1012: true,
+            ..self
+        }
+    }
+
     /// Returns the kinds of MSM of a system that are read.
     pub fn kinds(self, system: System) -> MsmKinds
         ensures { result ≡ kinds_of self system }
@@ -210,6 +224,7 @@ impl Accepted {
             1075 => self.gps.msm5,
             1076 => self.gps.msm6,
             1077 => self.gps.msm7,
+            1012 => self.obs1012,
             _ => self.takes_number(number),
         }
     }

@@ -1,8 +1,8 @@
 //! From the bytes of a payload to its message, by a set of messages.
 
-ghost use Rattle.std.specs.Prelude.{◌≡◌, ◌<◌, ◌++◌, Bool, List, Some, Err, IfOk, IfErr};
+ghost use Rattle.std.specs.Prelude.{◌≡◌, ◌<◌, ◌++◌, Bool, false, List, Some, Err, IfOk, IfErr, IsTrue};
 ghost use Rattle.rtk_bits.specs.Bits.{bits, bits_of};
-ghost use Rattle.rtk_message.specs.AnyDecoded.{DecodesBy, any_of, fault_after_number};
+ghost use Rattle.rtk_message.specs.AnyDecoded.{DecodesBy, any_of, fault_after_number, takes_clock};
 ghost use Rattle.rtk_message.specs.MsmForm.{IsWide};
 ghost use Rattle.rtk_message.specs.Steps.AfterAnyNumber.{BeginsAfterAnyNumber};
 ghost use Rattle.rtk_message.specs.Systems.{number_of_type};
@@ -19,6 +19,7 @@ use crate::msm::Msm;
 use crate::msm_type::MsmType;
 use crate::msm1074::Msm1074;
 use crate::obs1004::Obs1004;
+use crate::obs1012::Obs1012;
 use rtk_bits::BitReader;
 
 /// Returns the message of the set that the payload begins with. If it begins with no message of the
@@ -38,7 +39,7 @@ pub fn decode_any(accepted: Accepted, payload: &[u8]) -> Result<AnyMessage, AnyF
     if !accepted.accepts(number) {
         return Err(AnyFault::Other { number });
     }
-    read_any_by_number(number, reader)
+    read_any_by_number(number, accepted.obs1012, reader)
 }
 
 /// Decodes payloads one after another by a set of messages, and keeps the last reading of each kind.
@@ -123,10 +124,10 @@ impl AnyDecoder {
             return &self.other;
         }
         let Some(msm_type) = MsmType::wide_of_number(number) else {
-            keep_new(&mut self.other, number, reader);
+            keep_new(&mut self.other, number, accepted.obs1012, reader);
             return &self.other;
         };
-        keep_msm(&mut self.msm, msm_type, reader);
+        keep_msm(&mut self.msm, msm_type, accepted.obs1012, reader);
         &self.msm
     }
 }
@@ -135,7 +136,7 @@ impl AnyDecoder {
 #[inline(never)]
 fn keep_1004(kept: &mut Result<AnyMessage, AnyFault>, mut reader: BitReader<'_>)
     ensures message { IfOk kept.new (λ m. BeginsAfterAnyNumber 1004 reader.entry m) }
-    ensures fault { IfErr kept.new (λ f. fault_after_number 1004 reader.entry ≡ Some f) }
+    ensures fault { IfErr kept.new (λ f. fault_after_number false 1004 reader.entry ≡ Some f) }
 {
     if let Ok(AnyMessage::Message(Message::Obs1004(message))) = kept {
         let Err(fault) = message.replace_fields(&mut reader) else {
@@ -144,14 +145,14 @@ fn keep_1004(kept: &mut Result<AnyMessage, AnyFault>, mut reader: BitReader<'_>)
         keep_fault(kept, AnyFault::from(fault));
         return;
     }
-    keep_new(kept, Obs1004::NUMBER, reader);
+    keep_new(kept, Obs1004::NUMBER, false, reader);
 }
 
 // Reads a 1074, over the one that is kept.
 #[inline(never)]
 fn keep_1074(kept: &mut Result<AnyMessage, AnyFault>, mut reader: BitReader<'_>)
     ensures message { IfOk kept.new (λ m. BeginsAfterAnyNumber 1074 reader.entry m) }
-    ensures fault { IfErr kept.new (λ f. fault_after_number 1074 reader.entry ≡ Some f) }
+    ensures fault { IfErr kept.new (λ f. fault_after_number false 1074 reader.entry ≡ Some f) }
 {
     if let Ok(AnyMessage::Message(Message::Msm1074(message))) = kept {
         let Err(fault) = message.replace_fields(&mut reader) else {
@@ -160,14 +161,14 @@ fn keep_1074(kept: &mut Result<AnyMessage, AnyFault>, mut reader: BitReader<'_>)
         keep_fault(kept, AnyFault::from(fault));
         return;
     }
-    keep_new(kept, Msm1074::NUMBER, reader);
+    keep_new(kept, Msm1074::NUMBER, false, reader);
 }
 
 // Reads a 1005, over the one that is kept.
 #[inline(never)]
 fn keep_1005(kept: &mut Result<AnyMessage, AnyFault>, mut reader: BitReader<'_>)
     ensures message { IfOk kept.new (λ m. BeginsAfterAnyNumber 1005 reader.entry m) }
-    ensures fault { IfErr kept.new (λ f. fault_after_number 1005 reader.entry ≡ Some f) }
+    ensures fault { IfErr kept.new (λ f. fault_after_number false 1005 reader.entry ≡ Some f) }
 {
     if let Ok(AnyMessage::Message(Message::Arp1005(message))) = kept {
         let Err(fault) = message.read(&mut reader) else {
@@ -176,14 +177,14 @@ fn keep_1005(kept: &mut Result<AnyMessage, AnyFault>, mut reader: BitReader<'_>)
         keep_fault(kept, AnyFault::from(fault));
         return;
     }
-    keep_new(kept, Arp1005::NUMBER, reader);
+    keep_new(kept, Arp1005::NUMBER, false, reader);
 }
 
 // Reads a 1006, over the one that is kept.
 #[inline(never)]
 fn keep_1006(kept: &mut Result<AnyMessage, AnyFault>, mut reader: BitReader<'_>)
     ensures message { IfOk kept.new (λ m. BeginsAfterAnyNumber 1006 reader.entry m) }
-    ensures fault { IfErr kept.new (λ f. fault_after_number 1006 reader.entry ≡ Some f) }
+    ensures fault { IfErr kept.new (λ f. fault_after_number false 1006 reader.entry ≡ Some f) }
 {
     if let Ok(AnyMessage::Message(Message::Arp1006(message))) = kept {
         let Err(fault) = message.read(&mut reader) else {
@@ -192,24 +193,30 @@ fn keep_1006(kept: &mut Result<AnyMessage, AnyFault>, mut reader: BitReader<'_>)
         keep_fault(kept, AnyFault::from(fault));
         return;
     }
-    keep_new(kept, Arp1006::NUMBER, reader);
+    keep_new(kept, Arp1006::NUMBER, false, reader);
 }
 
 // Reads an MSM other than 1074, over the one of these that is kept.
 #[inline(never)]
-fn keep_msm(kept: &mut Result<AnyMessage, AnyFault>, msm_type: MsmType, mut reader: BitReader<'_>)
+fn keep_msm(
+    kept: &mut Result<AnyMessage, AnyFault>,
+    msm_type: MsmType,
+    any_day: bool,
+    mut reader: BitReader<'_>,
+)
     requires { IsWide msm_type }
     ensures message { IfOk kept.new (λ m. BeginsAfterAnyNumber (number_of_type msm_type) reader.entry m) }
-    ensures fault { IfErr kept.new (λ f. fault_after_number (number_of_type msm_type) reader.entry ≡ Some f) }
+    ensures clock { IfOk kept.new (λ m. IsTrue (takes_clock any_day m)) }
+    ensures fault { IfErr kept.new (λ f. fault_after_number any_day (number_of_type msm_type) reader.entry ≡ Some f) }
 {
     if let Ok(AnyMessage::Msm(message)) = kept {
-        let Err(fault) = message.replace_fields(msm_type, &mut reader) else {
+        let Err(fault) = message.replace_fields(msm_type, any_day, &mut reader) else {
             return;
         };
         keep_fault(kept, fault);
         return;
     }
-    keep_new_msm(kept, msm_type, reader);
+    keep_new_msm(kept, msm_type, any_day, reader);
 }
 
 // These have a reading among their locals, which a function clears when it is called. They are not
@@ -217,21 +224,33 @@ fn keep_msm(kept: &mut Result<AnyMessage, AnyFault>, msm_type: MsmType, mut read
 
 // Keeps a new reading of a message of this number.
 #[inline(never)]
-fn keep_new(kept: &mut Result<AnyMessage, AnyFault>, number: u16, reader: BitReader<'_>)
+fn keep_new(
+    kept: &mut Result<AnyMessage, AnyFault>,
+    number: u16,
+    any_day: bool,
+    reader: BitReader<'_>,
+)
     ensures message { IfOk kept.new (λ m. BeginsAfterAnyNumber number reader.entry m) }
-    ensures fault { IfErr kept.new (λ f. fault_after_number number reader.entry ≡ Some f) }
+    ensures clock { IfOk kept.new (λ m. IsTrue (takes_clock any_day m)) }
+    ensures fault { IfErr kept.new (λ f. fault_after_number any_day number reader.entry ≡ Some f) }
 {
-    *kept = read_any_by_number(number, reader);
+    *kept = read_any_by_number(number, any_day, reader);
 }
 
 // Keeps a new reading of an MSM that is no 1074.
 #[inline(never)]
-fn keep_new_msm(kept: &mut Result<AnyMessage, AnyFault>, msm_type: MsmType, reader: BitReader<'_>)
+fn keep_new_msm(
+    kept: &mut Result<AnyMessage, AnyFault>,
+    msm_type: MsmType,
+    any_day: bool,
+    reader: BitReader<'_>,
+)
     requires { IsWide msm_type }
     ensures message { IfOk kept.new (λ m. BeginsAfterAnyNumber (number_of_type msm_type) reader.entry m) }
-    ensures fault { IfErr kept.new (λ f. fault_after_number (number_of_type msm_type) reader.entry ≡ Some f) }
+    ensures clock { IfOk kept.new (λ m. IsTrue (takes_clock any_day m)) }
+    ensures fault { IfErr kept.new (λ f. fault_after_number any_day (number_of_type msm_type) reader.entry ≡ Some f) }
 {
-    *kept = read_msm(msm_type, reader);
+    *kept = read_msm(msm_type, any_day, reader);
 }
 
 // Keeps a fault in place of a reading.
@@ -243,12 +262,20 @@ fn keep_fault(kept: &mut Result<AnyMessage, AnyFault>, fault: AnyFault)
 }
 
 // Reads the message after its number.
-fn read_any_by_number(number: u16, reader: BitReader<'_>) -> Result<AnyMessage, AnyFault>
+fn read_any_by_number(
+    number: u16,
+    any_day: bool,
+    reader: BitReader<'_>,
+) -> Result<AnyMessage, AnyFault>
     ensures message { IfOk result (λ m. BeginsAfterAnyNumber number reader.entry m) }
-    ensures fault { IfErr result (λ f. fault_after_number number reader.entry ≡ Some f) }
+    ensures clock { IfOk result (λ m. IsTrue (takes_clock any_day m)) }
+    ensures fault { IfErr result (λ f. fault_after_number any_day number reader.entry ≡ Some f) }
 {
+    if number == Obs1012::NUMBER {
+        return read_1012(reader);
+    }
     match MsmType::wide_of_number(number) {
-        Some(msm_type) => read_msm(msm_type, reader),
+        Some(msm_type) => read_msm(msm_type, any_day, reader),
         None => widened(read_by_number(number, reader)),
     }
 }
@@ -265,12 +292,31 @@ fn widened(reading: Result<Message, DecodeFault>) -> Result<AnyMessage, AnyFault
 
 // Reads an MSM that is no 1074 after its number.
 #[inline(never)]
-fn read_msm(msm_type: MsmType, mut reader: BitReader<'_>) -> Result<AnyMessage, AnyFault>
+fn read_msm(
+    msm_type: MsmType,
+    any_day: bool,
+    mut reader: BitReader<'_>,
+) -> Result<AnyMessage, AnyFault>
     requires { IsWide msm_type }
     ensures message { IfOk result (λ m. BeginsAfterAnyNumber (number_of_type msm_type) reader.entry m) }
-    ensures fault { IfErr result (λ f. fault_after_number (number_of_type msm_type) reader.entry ≡ Some f) }
+    ensures clock { IfOk result (λ m. IsTrue (takes_clock any_day m)) }
+    ensures fault { IfErr result (λ f. fault_after_number any_day (number_of_type msm_type) reader.entry ≡ Some f) }
 {
     let mut message = Msm::empty(msm_type);
-    message.replace_fields(msm_type, &mut reader)?;
+    message.replace_fields(msm_type, any_day, &mut reader)?;
     Ok(AnyMessage::Msm(message))
+}
+
+// Reads a 1012 after its number. One comes at most once an epoch, so it is not read over the last one.
+#[inline(never)]
+fn read_1012(mut reader: BitReader<'_>) -> Result<AnyMessage, AnyFault>
+    ensures message { IfOk result (λ m. BeginsAfterAnyNumber 1012 reader.entry m) }
+    ensures clock { (any_day : Bool) → IfOk result (λ m. IsTrue (takes_clock any_day m)) }
+    ensures fault { IfErr result (λ f. fault_after_number false 1012 reader.entry ≡ Some f) }
+{
+    let mut message = Obs1012::empty();
+    match message.read(&mut reader) {
+        Ok(()) => Ok(AnyMessage::Obs1012(message)),
+        Err(fault) => Err(AnyFault::from(fault)),
+    }
 }

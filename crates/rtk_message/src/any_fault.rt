@@ -6,8 +6,8 @@ use thiserror::Error;
 /// Why a payload is not read by a set of messages: the first cause that holds.
 ///
 /// The causes, their order and the fixed part of a message are those of `DecodeFault`. Each MSM has the
-/// fixed part of a 1074: 169 bits. `TooManyCells` gives the number of the message, since each MSM has
-/// a cell mask (DF396).
+/// fixed part of a 1074: 169 bits. That of a 1012 is its header: 61 bits. `TooManyCells` gives the number
+/// of the message, since each MSM has a cell mask (DF396).
 #[derive(Clone, Copy, Debug, PartialEq, Eq, Error)]
 pub enum AnyFault {
     /// The payload has fewer than 12 bits, so there is no message number (DF002).
@@ -20,7 +20,8 @@ pub enum AnyFault {
     #[error("{} message {number} is cut short", self.code())]
     Short { number: u16 },
     /// The clock does not lie in a week. GPS: the time of week (DF004) is 604,800,000 ms or more; other
-    /// systems: `System::is_in_week`.
+    /// systems: `System::is_in_week`. By a set with 1012 the day of a clock of GLONASS may be unknown. 1012:
+    /// the time of day (DF034) is 86,401,000 ms or more.
     #[error("{} message {number} has a time outside the week", self.code())]
     EpochRange { number: u16 },
     /// The cell mask of an MSM (DF396) would have more than 64 bits.

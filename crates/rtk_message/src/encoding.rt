@@ -17,7 +17,7 @@ use crate::accepted::Accepted;
 use crate::any_fault::AnyFault;
 use crate::any_message::AnyMessage;
 use crate::fault::DecodeFault;
-use crate::message::Message;
+use crate::message::{Message, write_as};
 use crate::msm::Msm;
 use rtk_bits::BitWriter;
 use std::alloc::{AllocError, Global};
@@ -43,6 +43,7 @@ pub fn encode_any(alloc: Global, message: &AnyMessage) -> Result<Vec<u8>, AllocE
     match message {
         AnyMessage::Message(message) => message.write(&mut writer)?,
         AnyMessage::Msm(message) => write_msm(&mut writer, message)?,
+        AnyMessage::Obs1012(message) => write_as(&mut writer, message)?,
     }
     Ok(writer.finish())
 }
@@ -64,8 +65,10 @@ pub fn decode_of_encode()
 {}
 
 /// A law: if `encode_any` writes a message of a set, `decode_any` reads the same message from these
-/// bytes by this set, and so does `AnyDecoder::read`.
+/// bytes by this set, and so does `AnyDecoder::read`. An MSM of GLONASS whose day is unknown is read by a set
+/// with 1012.
 pub fn decode_any_of_encode_any()
     ensures { (a : Accepted) (m : AnyMessage) (payload : List ℕ) (r : Result AnyMessage AnyFault) → any.IsValid m
-        → IsTrue (accepts a (any.number_of m)) → any.IsPayloadOf m payload → any.DecodesBy a (bits payload) r → r ≡ Ok m }
+        → IsTrue (accepts a (any.number_of m)) → IsTrue (any.takes_clock a.obs1012 m) → any.IsPayloadOf m payload
+        → any.DecodesBy a (bits payload) r → r ≡ Ok m }
 {}

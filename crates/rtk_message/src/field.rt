@@ -309,6 +309,9 @@ impl FieldValue for bool {
 /// The milliseconds of a week. A time of week (DF004) is less than this number.
 pub const WEEK_MS: u32 = 604_800_000;
 
+/// The milliseconds of a day that ends with a leap second. A time of day (DF034) is less than this number.
+pub(crate) const LONGEST_DAY_MS: u32 = 86_401_000;
+
 /// Puts an unsigned field.
 pub(crate) fn put_u(writer: &mut BitWriter, width: usize, value: u64) -> Result<(), AllocError>
     requires { (1 ≤ width) × (width ≤ 64) × (value < 2 ^ width) }

@@ -3,7 +3,7 @@
 
 ghost use Rattle.std.specs.Int.{IsInRange};
 ghost use Rattle.std.specs.Prelude.{ℕ, ◌<◌, ◌^◌, List, ◌∷◌, ◌++◌, ◌≡◌, ◌≢◌, ◌↔◌, Bool, IfSome, IsTrue, Some, Result, decimal};
-ghost use Rattle.rtk_message.specs.Accepted.{no_msm, four, all, all_kinds, of_gps, takes, with_type, accepts};
+ghost use Rattle.rtk_message.specs.Accepted.{no_msm, four, all, all_kinds, of_gps, takes, with_type, with_1012, accepts};
 ghost use Rattle.rtk_message.specs.AnyDecoded as any;
 ghost use Rattle.rtk_message.specs.AnyDecoded.{any_of, if_any_fault_of, DecodesBy};
 ghost use Rattle.rtk_message.specs.Decoded.{Decodes};
@@ -31,6 +31,7 @@ use crate::message::Message;
 use crate::msm::Msm;
 use crate::msm1074::Msm1074;
 use crate::obs1004::Obs1004;
+use crate::obs1012::Obs1012;
 
 /// A law: `==` says whether all fields of two messages are the same, their lists included.
 pub fn equal_messages(a: &Message, b: &Message) -> bool
@@ -41,6 +42,13 @@ pub fn equal_messages(a: &Message, b: &Message) -> bool
 
 /// A law: `==` says whether all fields of two messages 1004 are the same.
 pub fn equal_1004(a: &Obs1004, b: &Obs1004) -> bool
+    ensures { SaysEqual result a.now b.now }
+{
+    a == b
+}
+
+/// A law: `==` says whether all fields of two messages 1012 are the same.
+pub fn equal_1012(a: &Obs1012, b: &Obs1012) -> bool
     ensures { SaysEqual result a.now b.now }
 {
     a == b
@@ -82,11 +90,11 @@ pub fn equal_any_faults(a: &AnyFault, b: &AnyFault) -> bool
 }
 
 /// A law: a 1074 has the form of the kind MSM4. Its table, its validity and its first fault are
-/// those that the form gives to the same columns.
+/// those that the form gives to the same columns, whether any day is taken or not.
 pub fn form_of_1074()
     ensures table { (m : Msm1074) → msm1074.table m ≡ form.table (form.msm_of_1074 m) }
     ensures valid { (m : Msm1074) → msm1074.IsValid m ↔ form.HasForm (form.msm_of_1074 m) }
-    ensures fault { (bs : List Bool) → if_any_fault_of (msm1074.first_fault bs) ≡ form.first_fault (gps Msm4) bs }
+    ensures fault { (any_day : Bool) (bs : List Bool) → if_any_fault_of (msm1074.first_fault bs) ≡ form.first_fault any_day (gps Msm4) bs }
 {}
 
 /// A law: it says which messages the named sets have.
@@ -106,12 +114,14 @@ pub fn numbers_of_types()
 
 /// A law: a set reads the messages of the number of an MSM if it has the type of this MSM. A set with
 /// one type more has this type, and for the rest the types that it had. A set of kinds of GPS has no
-/// type of another system.
+/// type of another system. A set with 1012 reads it, and has the types that it had.
 pub fn sets_of_types()
     ensures accepts { (a : Accepted) (t : MsmType) → accepts a (number_of_type t) ≡ takes a t }
     ensures added { (a : Accepted) (t : MsmType) → IsTrue (takes (with_type a t) t) }
     ensures others { (a : Accepted) (s t : MsmType) → s ≢ t → takes (with_type a t) s ≡ takes a s }
     ensures gps { (ks : MsmKinds) (t : MsmType) → IsTrue (takes (of_gps ks) t) → t.system ≡ Gps }
+    ensures legacy { (a : Accepted) → IsTrue (accepts (with_1012 a) 1012) }
+    ensures same { (a : Accepted) (t : MsmType) → takes (with_1012 a) t ≡ takes a t }
 {}
 
 /// A law: in a set without MSM of other systems than GPS a message has a time of week (DF004) less

@@ -1,8 +1,8 @@
-//! Messages of a base station, by their tables of fields: 1004, 1005, 1006, and the multiple signal
+//! Messages of a base station, by their tables of fields: 1004, 1005, 1006, 1012, and the multiple signal
 //! messages MSM4 to MSM7 of GPS, GLONASS, Galileo, BeiDou, QZSS, SBAS and NavIC. Source: RTCM 10403.3.
 //!
 //! `Message`, `decode` and `encode` are for 1004, 1005, 1006 and 1074. `AnyMessage`, `decode_any` and
-//! `encode_any` are for these and for the other MSM: a set, `Accepted`, says which are read.
+//! `encode_any` are for these, for 1012 and for the other MSM: a set, `Accepted`, says which are read.
 //!
 //! Its tests: tests/values/src/message.rt.in and message/
 //!
@@ -54,6 +54,8 @@ mod msm1074;
 mod msm_kind;
 mod msm_type;
 mod obs1004;
+mod obs1012;
+mod satellite_list;
 mod system;
 mod text;
 
@@ -69,9 +71,9 @@ pub use encoding::{decode_any_of_encode_any, decode_of_encode, encode, encode_an
 pub use fault::DecodeFault;
 pub use field::WEEK_MS;
 pub use laws::{
-    clocks_of_gps_lie_in_a_week, decodes_by_four, equal_1004, equal_1074, equal_any_faults,
-    equal_any_messages, equal_faults, equal_messages, equal_msm, form_of_1074, named_sets,
-    numbers_end, numbers_of_types, parts_of_fields_fit, sets_of_types,
+    clocks_of_gps_lie_in_a_week, decodes_by_four, equal_1004, equal_1012, equal_1074,
+    equal_any_faults, equal_any_messages, equal_faults, equal_messages, equal_msm, form_of_1074,
+    named_sets, numbers_end, numbers_of_types, parts_of_fields_fit, sets_of_types,
 };
 pub use layout::Layout;
 pub use message::Message;
@@ -80,5 +82,7 @@ pub use msm_kind::MsmKind;
 pub use msm_type::MsmType;
 pub use msm1074::{Msm1074, MsmHeader};
 pub use obs1004::{Obs1004, Satellite, Satellites};
+pub use obs1012::{GlonassSatellite, Obs1012};
+pub use satellite_list::SatelliteList;
 pub use system::System;
 pub use text::{put_any_fault, put_fault, put_named, put_number, put_sh_quoted};

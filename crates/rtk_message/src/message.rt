@@ -94,8 +94,8 @@ impl Message {
     }
 }
 
-// Puts the number and the fields after it. The proof uses only the clauses of `Layout`.
-fn write_as<T: Layout>(writer: &mut BitWriter, message: &T) -> Result<(), AllocError>
+/// Puts the number and the fields after it. The proof uses only the clauses of `Layout`.
+pub(crate) fn write_as<T: Layout>(writer: &mut BitWriter, message: &T) -> Result<(), AllocError>
     requires number { T.NUMBER < 4096 }
     requires valid { T.IsValid message.now }
     ensures { OnOk result (writer.new ≡ writer.old ++ bits_of_fields (u 12 T.NUMBER ∷ T.table message.now)) }

@@ -5,6 +5,7 @@ ghost use Rattle.std.specs.Prelude.{◌≡◌, ◌+◌, ◌*◌, ◌≤◌, ◌+
 ghost use Rattle.rtk_message.specs.Fields.{TakesAll, FieldsAreZero, bits_of_fields};
 ghost use Rattle.rtk_message.specs.Msm1074.{satellite_count};
 ghost use Rattle.rtk_message.specs.MsmForm.{form_of, if_rates, satellite_bits, cell_bits, satellite_table, cell_table, table, type_of, cell_count, first_fault, HasForm, HasNoCells, IsValid, IsWide};
+ghost use Rattle.rtk_message.specs.Systems.{tells_time};
 ghost use Rattle.rtk_message.specs.Steps.MsmColumns.{HasWidths, bits_of_cells, HaveSatelliteLengths, HasSatellites, HasCells, ChangesSatellites, ChangesCells, SatellitesFit, CellsFit};
 ghost use Rattle.rtk_message.specs.Steps.FieldSteps.{PutsAll};
 
@@ -103,16 +104,19 @@ impl Msm {
     }
 
     /// Reads the fields after the number in place of those that the message has. After a fault the
-    /// message has fields of both, and is to be dropped.
+    /// message has fields of both, and is to be dropped. If any day is taken, the day of a clock of
+    /// GLONASS may be unknown.
     #[inline(always)]
     pub(crate) fn replace_fields(
         &mut self,
         msm_type: MsmType,
+        any_day: bool,
         reader: &mut BitReader<'_>,
     ) -> Result<(), AnyFault>
         requires { IsWide msm_type }
         ensures fields { OnOk result (IsValid self.new × (type_of self.new ≡ msm_type) × TakesAll (table self.new) reader.old reader.new) }
-        ensures fault { IfErr result (λ f. first_fault msm_type reader.old ≡ Some f) }
+        ensures clock { OnOk result (IsTrue (tells_time any_day self.new.system self.new.header.tow)) }
+        ensures fault { IfErr result (λ f. first_fault any_day msm_type reader.old ≡ Some f) }
     {
         let number = msm_type.number();
         if reader.remaining() < 157 {
@@ -122,7 +126,7 @@ impl Msm {
         self.system = msm_type.system;
         self.kind = kind;
         self.header = next_header(reader);
-        if !msm_type.system.is_in_week(self.header.tow) {
+        if !msm_type.system.tells_time(any_day, self.header.tow) {
             return Err(AnyFault::EpochRange { number });
         }
         let satellites = self.header.satellite_count();
@@ -238,15 +242,15 @@ impl Msm {
     }
 
     /// Returns whether the message can be written as bits: it is no MSM4 of GPS, each field fits its
-    /// width, the columns have their lengths, the clock lies in a week, and the cell mask has at most
-    /// 64 bits.
+    /// width, the columns have their lengths, the clock tells a time, and the cell mask has at most 64
+    /// bits. The day of a clock of GLONASS may be unknown.
     pub fn fits(&self) -> bool
         ensures { IsTrue result ↔ IsValid self.now }
     {
         if self.msm_type().number() == 1074 || !self.header.fits() {
             return false;
         }
-        if !self.system.is_in_week(self.header.tow) {
+        if !self.system.tells_time(true, self.header.tow) {
             return false;
         }
         if has_too_many_cells(self.header.satellite_count(), self.header.signal_count()) {

@@ -4,15 +4,14 @@ ghost use Rattle.rtk_message.specs.Fields.{TakesAll, FieldsFit};
 ghost use Rattle.rtk_message.specs.Steps.FieldSteps.{PutsAll};
 ghost use Rattle.rtk_message.specs.Obs1004.{satellite_table, table, first_fault, IsValid};
 ghost use Rattle.std.specs.List.{flat_map};
-ghost use Rattle.std.specs.Prelude.{◌≡◌, ◌≤◌, ◌+◌, ◌*◌, [], length, slice_set, Some, OnOk, IfErr, IsTrue, ◌↔◌, ◌<◌, ◌∷◌, ◌++◌};
+ghost use Rattle.std.specs.Prelude.{◌≡◌, ◌≤◌, ◌+◌, ◌*◌, length, Some, OnOk, IfErr, IsTrue, ◌↔◌};
 
 use crate::fault::DecodeFault;
 use crate::field::{FieldValue, WEEK_MS, next_word, put_flag, put_i16, put_i32, put_u};
 use crate::layout::Layout;
-use arrayvec::ArrayVec;
+use crate::satellite_list::SatelliteList;
 use rtk_bits::{BitReader, BitWriter};
 use std::alloc::AllocError;
-use std::marker::Model;
 
 /// Extended L1 and L2 GPS observations of one epoch: 64 bits, and 125 bits for each satellite.
 ///
@@ -30,7 +29,7 @@ pub struct Obs1004 {
     /// Smoothing interval indicator (DF008), 0 to 7.
     pub smoothing_interval: u8,
     /// The satellites in the order of the message.
-    pub satellites: Satellites,
+    pub satellites: SatelliteList<Satellite>,
 }
 
 impl Layout for Obs1004 {
@@ -57,7 +56,7 @@ impl Layout for Obs1004 {
             synchronous: false,
             smoothing: false,
             smoothing_interval: 0,
-            satellites: Satellites::new(),
+            satellites: SatelliteList::new(),
         }
     }
 
@@ -121,7 +120,7 @@ impl Obs1004 {
 
 // Reads the satellites of a list, in place of those that it has.
 #[inline(always)]
-fn read_satellites(satellites: &mut Satellites, reader: &mut BitReader<'_>, count: u8)
+fn read_satellites(satellites: &mut SatelliteList<Satellite>, reader: &mut BitReader<'_>, count: u8)
     requires few { count ≤ 31 }
     requires enough { 125 * count ≤ length reader.old }
     ensures fields { TakesAll (flat_map satellite_table satellites.new) reader.old reader.new }
@@ -258,93 +257,4 @@ pub struct Satellite {
 }
 
 /// The satellites of a 1004 in their order, at most 31 of them. A contract sees the list.
-#[derive(Drop)]
-pub struct Satellites {
-    list: ArrayVec<Satellite, 31>,
-}
-
-// Clauses see the list of satellites, at most 31. Source: RTCM 10403.3, DF006.
-impl Model for Satellites {
-    ghost use Rattle.std.specs.Prelude.{List, length, ◌≤◌};
-    ghost use Rattle.rtk_message.specs.declared.obs1004.Satellite.{Satellite};
-
-    ghost Value = { List Satellite };
-
-    ghost view = { λ s. s.list.items };
-
-    ghost invariant = { λ s. length s.list.items ≤ 31 };
-}
-
-impl Satellites {
-    /// Makes a list without satellites.
-    pub fn new() -> Satellites
-        ensures { result ≡ [] }
-    {
-        Satellites {
-            list: ArrayVec::new(),
-        }
-    }
-
-    /// Returns how many satellites there are.
-    pub fn len(&self) -> usize
-        ensures value { result ≡ length self.now }
-        ensures few { result ≤ 31 }
-    {
-        self.list.len()
-    }
-
-    /// Returns the satellites in their order.
-    pub fn as_slice(&self) -> &[Satellite]
-        ensures value { result.now ≡ self.now }
-        ensures few { length result.now ≤ 31 }
-    {
-        self.list.as_slice()
-    }
-
-    // Makes the list this long: it leaves out the last ones, or adds some that are to be set.
-    fn resize(&mut self, count: usize)
-        requires { count ≤ 31 }
-        ensures { length self.new ≡ count }
-    {
-        self.list.truncate(count);
-        for _ in self.list.len()..count {
-            self.list.push(Satellite::default());
-        }
-    }
-
-    // Sets the satellite at this place.
-    fn set(&mut self, place: usize, satellite: Satellite)
-        requires { place < length self.old }
-        ensures { self.new ≡ slice_set self.old place satellite }
-    {
-        self.list.as_mut_slice()[place] = satellite;
-    }
-
-    /// Adds a satellite after the others.
-    pub fn push(&mut self, satellite: Satellite)
-        requires { length self.old < 31 }
-        ensures { self.new ≡ self.old ++ satellite ∷ [] }
-    {
-        self.list.push(satellite);
-    }
-}
-
-impl PartialEq for Satellites {
-    ghost use Rattle.std.specs.Cmp.Lexicographic.{pointwise, lists_per};
-    ghost use Rattle.rtk_message.specs.contracts.obs1004.SatellitePartialEq.TheImpl.Laws.{laws-law as satellite_per};
-
-    ghost eq = { λ s t. pointwise ⟦<Satellite as PartialEq>⟧.eq s t };
-
-    ghost laws = { lists_per satellite_per };
-
-    fn eq(&self, other: &Satellites) -> bool {
-        self.as_slice() == other.as_slice()
-    }
-}
-
-impl Eq for Satellites {
-    ghost use Rattle.std.specs.Cmp.Lexicographic.{lists_equiv};
-    ghost use Rattle.rtk_message.specs.contracts.obs1004.SatelliteEq.TheImpl.Laws.{laws-law as satellite_equiv};
-
-    ghost laws = { lists_equiv satellite_equiv };
-}
+pub type Satellites = SatelliteList<Satellite>;

@@ -1,9 +1,9 @@
 //! The satellite systems whose multiple signal messages (MSM) are read, and their clocks.
 
 ghost use Rattle.std.specs.Prelude.{◌≡◌, ◌≤◌};
-ghost use Rattle.rtk_message.specs.Systems.{tens_of, system_of_tens, is_in_week};
+ghost use Rattle.rtk_message.specs.Systems.{tens_of, system_of_tens, tells_time, is_in_week};
 
-use crate::field::WEEK_MS;
+use crate::field::{LONGEST_DAY_MS, WEEK_MS};
 
 /// A satellite system. Source: RTCM 10403.3, messages 1071 to 1137.
 #[derive(Clone, Copy, Debug, PartialEq, Eq)]
@@ -25,13 +25,10 @@ pub enum System {
 }
 
 // The clock of GLONASS has 3 bits of the day (DF416) before 27 bits of the time of day (DF034).
-const TIME_OF_DAY: u32 = 1 << 27;
+pub(crate) const TIME_OF_DAY: u32 = 1 << 27;
 
 // The day of the week is 0 to 6; 7 is an unknown day.
 const DAYS: u32 = 7;
-
-// The milliseconds of a day that ends with a leap second.
-const LONGEST_DAY_MS: u32 = 86_401_000;
 
 impl System {
     /// Returns whether a clock of this system, the 30 bits after the station ID of its MSM, lies in a
@@ -43,8 +40,18 @@ impl System {
     pub fn is_in_week(self, clock: u32) -> bool
         ensures { result ≡ is_in_week self clock }
     {
+        self.tells_time(false, clock)
+    }
+
+    /// Returns whether a clock of this system tells a time. It lies in a week, but if any day is taken, that of
+    /// a clock of GLONASS may be unknown (DF416 7).
+    pub fn tells_time(self, any_day: bool, clock: u32) -> bool
+        ensures { result ≡ tells_time any_day self clock }
+    {
         match self {
-            System::Glonass => clock / TIME_OF_DAY < DAYS && clock % TIME_OF_DAY < LONGEST_DAY_MS,
+            System::Glonass => {
+                (any_day || clock / TIME_OF_DAY < DAYS) && clock % TIME_OF_DAY < LONGEST_DAY_MS
+            }
             _ => clock < WEEK_MS,
         }
     }

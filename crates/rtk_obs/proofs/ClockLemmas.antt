@@ -1,22 +1,25 @@
 -- A clock has one moment near a reference, and a message one number of leap seconds.
-use Rattle.std.proofs.Common.{◌≡◌, ℕ, ◌+◌, ◌-◌, ◌*◌, ◌/◌, ◌%◌, ◌^◌, ◌<◌, ◌≤◌, Bool, true, false, Option, Some, None, sym, subst, ◌∙◌, inl, inr, arith}
+use Rattle.std.proofs.Common.{◌≡◌, ℕ, ◌+◌, ◌-◌, ◌*◌, ◌/◌, ◌%◌, ◌^◌, ◌<◌, ◌≤◌, Bool, true, false, Option, Some, None, sym, ap, subst, ◌∙◌, inl, inr, arith}
 use Rattle.std.specs.Bool.{Decides}
-use Rattle.std.specs.Prelude.{nat_le, nat_lt, ◌&&◌}
+use Rattle.std.specs.Prelude.{nat_le, nat_lt, ◌&&◌, ◌||◌}
 use Rattle.std.proofs.lemmas.Bool.Decides.{leb_tells, nat_tests}
-use Rattle.rtk_message.specs.Systems.{is_in_week}
+use Rattle.rtk_message.specs.Fields.{longest_day_ms}
+use Rattle.rtk_message.specs.Obs1012.{IsValid, clock_of}
+use Rattle.rtk_message.specs.Systems.{tells_time}
+use Rattle.rtk_message.specs.declared.obs1012.Obs1012.{Obs1012}
 use Rattle.rtk_message.specs.declared.system.System.{System}
 use Rattle.rtk_message.specs.declared.system.System.TheVariants.{Gps, Glonass, Galileo, Beidou, Qzss, Sbas, Navic}
 use Rattle.rtk_obs.specs.declared.glonass_time.GlonassTime.{GlonassTime}
 use Rattle.rtk_obs.specs.Dating.{IsDated}
 use Rattle.rtk_obs.specs.LeapSeconds.{leap_start, IsLeapSecondsAt}
-use Rattle.rtk_obs.specs.GlonassTime.{glonass_time_of, glonass_tow, IsDatedInDay, IsMoscowMoment, IsMomentWith, HasBegunBy, IsNumberOf, IsGlonassMoment}
+use Rattle.rtk_obs.specs.GlonassTime.{glonass_time_of, glonass_tow, glonass_tod, known_day, IsDatedInDay, IsMoscowMoment, IsMomentWith, HasBegunBy, IsNumberOf, IsGlonassMoment}
 use Rattle.rtk_obs.specs.Clocks.{IsClock, beidou_tow, IsClockMoment}
 use Rattle.rtk_obs.proofs.LeapLemmas.{one_row}
 
 one_date : (near tow s t : ℕ) → IsDated near tow s → IsDated near tow t → s ≡ t
 one_date near tow s t p q = omega (arith, p.time_of_week, p.from, p.before, q.time_of_week, q.from, q.before)
 
-one_date-day : (near tod s t : ℕ) → IsDatedInDay near tod s → IsDatedInDay near tod t → s ≡ t
+pub one_date-day : (near tod s t : ℕ) → IsDatedInDay near tod s → IsDatedInDay near tod t → s ≡ t
 one_date-day near tod s t p q = omega (arith, p.time_of_day, p.from, p.before, q.time_of_day, q.from, q.before)
 
 one_moscow : (near : ℕ) (day : Option ℕ) (ms n s t : ℕ) → IsMoscowMoment near day ms n s → IsMoscowMoment near day ms n t → s ≡ t
@@ -72,6 +75,29 @@ at_moment near day ms n t p d e = record {
   last = λ k above known h. p.last k above known (record { moment = t + 1000 * (k - n); is_moment = shifted near day ms n k t above known d e; begun = omega (arith, h) });
 }
 
+-- without a day the moment with more leap seconds is later by these, short of half a day after the reference
+shifted-day : (near ms n k t : ℕ) → n < k → k ≤ 18 → IsDatedInDay near (glonass_tod ms n) t → t + 18_000 < near + 43_200_000
+    → IsDatedInDay near (glonass_tod ms k) (t + 1000 * (k - n))
+shifted-day near ms n k t a b p e = record {
+  time_of_day = omega (arith, p.time_of_day, a);
+  from = omega (arith, p.from);
+  before = omega (arith, e, a, b);
+}
+
+begun_at-day : (near ms n t : ℕ) → HasBegunBy near (record { day = None; time_of_day_ms = ms }) n → IsDatedInDay near (glonass_tod ms n) t → leap_start n ≤ t
+begun_at-day near ms n t h d =
+    let same = one_date-day near (glonass_tod ms n) h.moment t h.is_moment d in
+    omega (arith, h.begun, same)
+
+-- the number of a message without a day is that of its moment
+pub at_time_of_day : (near ms n t : ℕ) → IsNumberOf near (record { day = None; time_of_day_ms = ms }) None n → IsDatedInDay near (glonass_tod ms n) t
+    → t + 18_000 < near + 43_200_000 → IsLeapSecondsAt t n
+at_time_of_day near ms n t p d e = record {
+  known = p.known;
+  begun = λ some. (let h = p.begun some in begun_at-day near ms n t h d);
+  last = λ k above known h. p.last k above known (record { moment = t + 1000 * (k - n); is_moment = shifted-day near ms n k t above known d e; begun = omega (arith, h) });
+}
+
 -- ---- clocks
 
 pub one_clock : (s : System) (near c : ℕ) (given : Option ℕ) (m t : ℕ) → IsClockMoment s near c given m → IsClockMoment s near c given t → m ≡ t
@@ -90,12 +116,26 @@ second : (a b : Bool) → (a && b) ≡ true → b ≡ true
 second true b h = h
 second false b h = absurd cc
 
--- a clock that lies in a week tells a time
-pub in_week : (s : System) (c : ℕ) → is_in_week s c ≡ true → IsClock s c
-in_week Gps c h = below c _ h
-in_week Glonass c h = below (c % 2 ^ 27) 86_401_000 (second (nat_lt (c / 2 ^ 27) 7) _ h)
-in_week Galileo c h = below c _ h
-in_week Beidou c h = below c _ h
-in_week Qzss c h = below c _ h
-in_week Sbas c h = below c _ h
-in_week Navic c h = below c _ h
+-- a clock that tells a time is one of its system
+pub is_clock : (any_day : Bool) (s : System) (c : ℕ) → tells_time any_day s c ≡ true → IsClock s c
+is_clock any_day Gps c h = below c _ h
+is_clock any_day Glonass c h = below (c % 2 ^ 27) longest_day_ms (second (any_day || nat_lt (c / 2 ^ 27) 7) _ h)
+is_clock any_day Galileo c h = below c _ h
+is_clock any_day Beidou c h = below c _ h
+is_clock any_day Qzss c h = below c _ h
+is_clock any_day Sbas c h = below c _ h
+is_clock any_day Navic c h = below c _ h
+
+-- ---- the clock of a 1012
+
+time-is : (ms : ℕ) → ms < longest_day_ms → (7 * 2 ^ 27 + ms % 2 ^ 27) % 2 ^ 27 ≡ ms
+time-is ms h = omega (arith, h)
+
+day-is : (ms : ℕ) → (7 * 2 ^ 27 + ms % 2 ^ 27) / 2 ^ 27 ≡ 7
+day-is ms = omega arith
+
+pub clock-of-1012 : (m : Obs1012) → IsValid m → IsClock Glonass (clock_of m)
+clock-of-1012 m valid = (let time = time-is m.time_of_day_ms valid.time_in_day in omega (arith, time, valid.time_in_day))
+
+pub no-day : (m : Obs1012) → IsValid m → glonass_time_of (clock_of m) ≡ record { day = None; time_of_day_ms = m.time_of_day_ms }
+no-day m valid = λ i. record { day = ap known_day (day-is m.time_of_day_ms) i; time_of_day_ms = time-is m.time_of_day_ms valid.time_in_day i }

@@ -40,7 +40,7 @@ others : (s : Satellite) (ts : List Satellite) → AllByRecursion (AreOthers s) 
 others s [] = tt
 others s (t ∷ ts) = others_if (nat_eq t.satellite s.satellite) s t (filter (λ (t : Satellite). not (has_number s.satellite t)) ts) refl (others s ts)
 
-first_others : (ss : List Satellite) → Pairs AreOthers (first_entries ss)
+pub first_others : (ss : List Satellite) → Pairs AreOthers (first_entries ss)
 unfolding first_entries
 first_others [] = tt
 first_others (s ∷ ss) = (others s (first_entries ss), pairs_filter AreOthers (λ (t : Satellite). not (has_number s.satellite t)) (first_entries ss) (first_others ss))
@@ -59,7 +59,7 @@ l2_place_if false false false = omega arith
 l2_place : (n : ℕ) → 6 ≤ place_of (l2_code_of n)
 l2_place n = l2_place_if (nat_eq n 0) (nat_eq n 1) (nat_eq n 2)
 
-two_codes : (b : Bool) (n : ℕ) → l1_code_of b ≢ l2_code_of n
+pub two_codes : (b : Bool) (n : ℕ) → l1_code_of b ≢ l2_code_of n
 two_codes b n same = absurd (omega (arith, l1_place b, l2_place n, ap place_of same))
 
 away : (e : CellEntry) (ts : List Satellite) → AllByRecursion (λ t. e.satellite ≢ t.satellite) ts → AllByRecursion (AreDifferentSignals e) (flat_map satellite_entries ts)
@@ -82,7 +82,7 @@ cells_of_1004-distinct ss =
 abbrev pub IsLess : Satellite → Satellite → Type 0
 IsLess s t = s.satellite < t.satellite
 
-all_first : (P : Satellite → Type 0) (ss : List Satellite) → AllByRecursion P ss → AllByRecursion P (first_entries ss)
+pub all_first : (P : Satellite → Type 0) (ss : List Satellite) → AllByRecursion P ss → AllByRecursion P (first_entries ss)
 unfolding first_entries
 all_first P [] a = tt
 all_first P (s ∷ ss) a = (a.0, all_filter P (λ (t : Satellite). not (has_number s.satellite t)) (first_entries ss) (all_first P ss a.1))

@@ -37,7 +37,7 @@ fresh-step : (x : Satellite) (xs : List Satellite) (s : Satellite) → filter (�
 fresh-step x xs s =
     kept (nat_eq x.satellite s.satellite) (list_any (has_number s.satellite) xs) (λ t. not (has_number x.satellite t)) s (ap not (either_way s.satellite x.satellite))
 
-entries-snoc : (ss : List Satellite) (s : Satellite) → first_entries (ss ++ s ∷ []) ≡ first_entries ss ++ fresh ss s
+pub entries-snoc : (ss : List Satellite) (s : Satellite) → first_entries (ss ++ s ∷ []) ≡ first_entries ss ++ fresh ss s
 unfolding first_entries
 entries-snoc [] s = refl
 entries-snoc (x ∷ xs) s = rw (entries-snoc xs s, filter-append (λ (t : Satellite). not (has_number x.satellite t)) (first_entries xs) (fresh xs s), fresh-step x xs s) refl
@@ -112,7 +112,7 @@ strength_if : (b : Bool) (n : ℕ) → nat_eq n 0 ≡ b → n < 256 → IfSome (
 strength_if true n e h = tt
 strength_if false n e h = record { least = grind (arith, nat_tests); greatest = omega arith; step = omega arith }
 
-strength_in_range : (n : ℕ) → n < 256 → IfSome (strength_of 250 n) IsStrength
+pub strength_in_range : (n : ℕ) → n < 256 → IfSome (strength_of 250 n) IsStrength
 strength_in_range n h = strength_if (nat_eq n 0) n refl h
 
 satellite_in_range : (n : ℕ) → is_satellite n ≡ true → IsSatellite n

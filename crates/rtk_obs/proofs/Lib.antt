@@ -24,6 +24,11 @@ mod AnyCodeLemmas
 mod SignalCellLemmas
 mod OwnCodeLemmas
 mod DistinctEntryLemmas
+mod SeenLemmas
+mod GlonassLemmas
+mod GlonassEntryLemmas
+mod NormalFieldLemmas
+mod SbasLemmas
 mod SignalEntryLemmas
 mod LeapLemmas
 mod ClockLemmas

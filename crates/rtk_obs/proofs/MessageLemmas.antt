@@ -45,6 +45,7 @@ of-message (any.Message (Arp1006 m)) = tt
 of-message (any.Message (Msm1074 m)) = all-msm_entries m.header (cell_of_1074 m) HasSatellite (λ k row satellite code is. is) m.cell_mask
 of-message (any.Msm m) =
     gps_or_none (λ (cs : List CellEntry). AllByRecursion HasSatellite cs) m.system _ (all-msm_entries m.header (cell_of_msm m) HasSatellite (λ k row satellite code is. is) m.cell_mask) tt
+of-message (any.Obs1012 m) = tt
 
 pub cells_of-satellites : (m : AnyMessage) → All HasSatellite (cells_of m)
 cells_of-satellites m = All-from_recursion HasSatellite (cells_of m) (of-message m)
@@ -70,6 +71,7 @@ cells_of-kind (any.Msm m) = (
   All-from_recursion (IsOf Msm) (cells_of_msm m)
       (gps_or_none (λ (cs : List CellEntry). AllByRecursion (IsOf Msm) cs) m.system _ (all-msm_entries m.header (cell_of_msm m) (IsOf Msm) (λ k row satellite code is. refl) m.cell_mask) tt),
 )
+cells_of-kind (any.Obs1012 m) = (Legacy, All-nil (IsOf Legacy))
 
 -- ---- ranges and signals
 
@@ -79,6 +81,7 @@ cells_of-in_range (any.Message (Arp1005 m)) valid = All-nil IsInRange
 cells_of-in_range (any.Message (Arp1006 m)) valid = All-nil IsInRange
 cells_of-in_range (any.Message (Msm1074 m)) valid = cells_in_range-1074 m valid
 cells_of-in_range (any.Msm m) valid = cells_in_range-msm m valid
+cells_of-in_range (any.Obs1012 m) valid = All-nil IsInRange
 
 pub cells_of-distinct : (m : AnyMessage) → IsValid m → AreDistinct (cells_of m)
 cells_of-distinct (any.Message (Obs1004 m)) valid = cells_of_1004-distinct m.satellites
@@ -86,3 +89,4 @@ cells_of-distinct (any.Message (Arp1005 m)) valid = none-distinct
 cells_of-distinct (any.Message (Arp1006 m)) valid = none-distinct
 cells_of-distinct (any.Message (Msm1074 m)) valid = cells_of_1074-distinct m valid
 cells_of-distinct (any.Msm m) valid = cells_of_msm-distinct m valid
+cells_of-distinct (any.Obs1012 m) valid = none-distinct

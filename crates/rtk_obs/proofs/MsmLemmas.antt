@@ -103,9 +103,9 @@ next_count ss rest top bit fits =
 pub no_count : (ss : List ℕ) (rest : ℕ) → rest ≡ 0 → rest < 2 ^ length ss → count_ones rest ≡ 0
 no_count ss rest none fits = sym (count-row_slots ss 0 rest fits) ∙ no_slots ss 0 rest none
 
-module _ (f : ℕ → Slot → List CellEntry) where
+module _ {Y : Type 0} (f : ℕ → Slot → List Y) where
   -- the entries that stand and those of the bits that are left are the same after a bit
-  pub next_entries : (ss : List ℕ) (row cell rest top signal : ℕ) (stood stand all : List CellEntry)
+  pub next_entries : (ss : List ℕ) (row cell rest top signal : ℕ) (stood stand all : List Y)
       → (top < length ss) × (2 ^ top ≤ rest) × (rest < 2 ^ suc top) → signal ≡ get_or ss (length ss - 1 - top) 0
       → stand ≡ stood ++ f cell (slot_of row signal)
       → stood ++ join_from f cell (row_slots ss row rest) ≡ all
@@ -116,17 +116,28 @@ module _ (f : ℕ → Slot → List CellEntry) where
       let now : stand ≡ stood ++ f cell s = added ∙ ap (λ (n : ℕ). stood ++ f cell (slot_of row n)) is in
       let rest_is : join_from f cell (row_slots ss row rest) ≡ f cell s ++ join_from f (cell + 1) left =
       ap (λ (xs : List Slot). join_from f cell xs) (row_slots-step ss row rest top bit) ∙ join_from-first f cell s left in
-      ap (λ (es : List CellEntry). es ++ join_from f (cell + 1) left) now
+      ap (λ (es : List Y). es ++ join_from f (cell + 1) left) now
       ∙ (append_assoc stood (f cell s) (join_from f (cell + 1) left)
-      ∙ (ap (λ (es : List CellEntry). stood ++ es) (sym rest_is) ∙ so_far))
+      ∙ (ap (λ (es : List Y). stood ++ es) (sym rest_is) ∙ so_far))
 
-  pub all_entries : (ss : List ℕ) (row cell rest : ℕ) (stand all : List CellEntry) → rest ≡ 0
+  pub all_entries : (ss : List ℕ) (row cell rest : ℕ) (stand all : List Y) → rest ≡ 0
       → stand ++ join_from f cell (row_slots ss row rest) ≡ all → stand ≡ all
   all_entries ss row cell rest stand all none so_far =
       let nothing : join_from f cell (row_slots ss row rest) ≡ [] =
       ap (λ (r : ℕ). join_from f cell (row_slots ss row r)) none
       ∙ (ap (λ (xs : List Slot). join_from f cell xs) (row_slots-none ss row) ∙ join_from-empty f cell) in
-      sym (append-nil stand) ∙ (ap (λ (es : List CellEntry). stand ++ es) (sym nothing) ∙ so_far)
+      sym (append-nil stand) ∙ (ap (λ (es : List Y). stand ++ es) (sym nothing) ∙ so_far)
+
+-- cells that give no entry
+module _ {Y : Type 0} (f : ℕ → Slot → List Y) where
+  none-from : (cell row : ℕ) (g : ℕ → ℕ) (ps : List ℕ) → ((k signal : ℕ) → f k (slot_of row signal) ≡ []) → join_from f cell (map (λ p. slot_of row (g p)) ps) ≡ []
+  unfolding join_from
+  none-from cell row g [] none = refl
+  none-from cell row g (p ∷ ps) none = rw (none cell (g p), none-from (suc cell) row g ps none) refl
+
+  pub none-of-row : (ss : List ℕ) (cell row bits : ℕ) (stood : List Y) → ((k signal : ℕ) → f k (slot_of row signal) ≡ []) → stood ≡ stood ++ join_from f cell (row_slots ss row bits)
+  none-of-row ss cell row bits stood none =
+      sym (ap (λ (es : List Y). stood ++ es) (none-from cell row (λ p. get_or ss (p - 1) 0) (set_bits (length ss) bits) none) ∙ append-nil stood)
 
 -- a satellite that RINEX doesn't have has no entries
 module _ (h : MsmHeader) (cell_of : ℕ → ℕ → Band → Cell) where

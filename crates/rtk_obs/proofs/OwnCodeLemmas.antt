@@ -123,7 +123,7 @@ own-code Qzss n = qzss-own n
 own-code Sbas n = sbas-own n
 own-code Navic n = navic-own n
 
-own-index : (s : System) (bit : ℕ) (o : Option ℕ) → index_in s bit ≡ o → IfSome o (λ i. IsSatelliteIndex i × (system_at i ≡ s))
+pub own-index : (s : System) (bit : ℕ) (o : Option ℕ) → index_in s bit ≡ o → IfSome o (λ i. IsSatelliteIndex i × (system_at i ≡ s))
 own-index s bit None e = tt
 own-index s bit (Some i) e = let back = index_back s bit i e in (back.0, back.1.0)
 

@@ -16,3 +16,9 @@ pub use Rattle.rtk_obs.proofs.SignalEntryLemmas.{entries_of-own, entries_of-in_r
 -- the clauses `bound`, `numbers` and `equality` of `any_code_laws`, and that a number is below 69
 pub use Rattle.rtk_obs.proofs.AnyCodeLemmas.{place_below, same_number, number_below}
 pub use Rattle.rtk_obs.proofs.EqualityLemmas.{any_code_same}
+-- the clauses `time` and `legacy` of `clock_laws`
+pub use Rattle.rtk_obs.proofs.ClockLemmas.{is_clock, clock-of-1012}
+-- the clauses of `sbas_laws`: codes, range, differ, kind and plain
+pub use Rattle.rtk_obs.proofs.SbasLemmas.{sbas-own, sbas-range, sbas-differ, sbas-kind, plain-1004}
+-- the clauses of `normal_field_laws`: twice, marks and cells
+pub use Rattle.rtk_obs.proofs.NormalFieldLemmas.{normal-twice, normal-marks, normal-cells}

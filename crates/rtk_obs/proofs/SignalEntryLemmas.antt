@@ -17,7 +17,7 @@ use Rattle.rtk_obs.specs.declared.code.Code.TheVariants.{G1C, G1P, G1W, G1S, G1L
 use Rattle.rtk_obs.specs.declared.any_code.AnyCode.{AnyCode}
 use Rattle.rtk_obs.specs.declared.cell.CellEntry.{CellEntry}
 use Rattle.rtk_obs.specs.declared.cell.CellSource.{CellSource}
-use Rattle.rtk_obs.specs.declared.cell.CellSource.TheVariants.{Msm as SourceMsm}
+use Rattle.rtk_obs.specs.declared.cell.CellSource.TheVariants.{Legacy, Msm as SourceMsm}
 use Rattle.rtk_obs.specs.declared.signal_cells.SignalEntry.{SignalEntry}
 use Rattle.rtk_obs.specs.AnyCode as any_code
 use Rattle.rtk_obs.specs.AnyCode.{code_of_gps, carrier_of, system_of, IsSignal}
@@ -32,6 +32,7 @@ use Rattle.rtk_obs.specs.Signals.{gps_code, code_in}
 use Rattle.rtk_obs.specs.SignalCells.{channel_in, bit_of_row, field_of_row, entry_if, signal_entry, signal_entries, signal_of, entries_of, AreDifferentEntries, IsSignalInRange, EntriesAreOfOneKind}
 use Rattle.rtk_obs.proofs.CodeLemmas.{same_code}
 use Rattle.rtk_obs.proofs.DistinctEntryLemmas.{entries-distinct}
+use Rattle.rtk_obs.proofs.GlonassEntryLemmas.{glonass-own, glonass-range, glonass-differ, glonass-legacy}
 use Rattle.rtk_obs.proofs.MaskLemmas.{all-join_from}
 use Rattle.rtk_obs.proofs.MessageLemmas.{cells_of-in_range, cells_of-distinct, cells_of-satellites, cells_of-kind}
 use Rattle.rtk_obs.proofs.MsmFieldLemmas.{kind_if, cnr_at}
@@ -112,7 +113,7 @@ frequency-of-gps G5I = refl
 frequency-of-gps G5Q = refl
 frequency-of-gps G5X = refl
 
-same-code : (c d : Code) → code_of_gps c ≡ code_of_gps d → c ≡ d
+pub same-code : (c d : Code) → code_of_gps c ≡ code_of_gps d → c ≡ d
 same-code c d e = same_code c d (sym (name-of-gps c) ∙ ap any_code.name_of e ∙ name-of-gps d)
 
 -- the first code is the same, and so are the others
@@ -197,7 +198,7 @@ module _ (m : Msm) (valid : IsValidMsm m) where
 abbrev IsOwn : SignalEntry → Type 0
 IsOwn e = IsSignal e.satellite e.code
 
-own : (e : CellEntry) → IsSatellite e.satellite → IsOwn (signal_of e)
+pub own : (e : CellEntry) → IsSatellite e.satellite → IsOwn (signal_of e)
 own e h = ((h.0, omega (arith, h.1)), code-of-gps e.code ∙ sym (at-gps e.satellite h.1))
 
 pub entries_of-own : (channels : List (Option ℤ)) (m : AnyMessage) → All IsOwn (entries_of channels m)
@@ -205,6 +206,7 @@ entries_of-own channels (any.Message m) =
     All-map IsOwn signal_of (cells_of (any.Message m))
     (All-weaker (λ (e : CellEntry). IsSatellite e.satellite) (λ (e : CellEntry). IsOwn (signal_of e)) own (cells_of (any.Message m)) (cells_of-satellites (any.Message m)))
 entries_of-own channels (any.Msm m) = entries-own channels m
+entries_of-own channels (any.Obs1012 m) = glonass-own channels m.satellites
 
 in-range : (e : CellEntry) → IsInRange e → IsSignalInRange (signal_of e)
 in-range e h = record { signal = own e h.satellite; strength = h.strength }
@@ -214,6 +216,7 @@ entries_of-in_range channels (any.Message m) valid =
     All-map IsSignalInRange signal_of (cells_of (any.Message m))
     (All-weaker IsInRange (λ (e : CellEntry). IsSignalInRange (signal_of e)) in-range (cells_of (any.Message m)) (cells_of-in_range (any.Message m) valid))
 entries_of-in_range channels (any.Msm m) valid = entries-range m valid channels
+entries_of-in_range channels (any.Obs1012 m) valid = glonass-range channels m valid
 
 -- ---- no two of one satellite and code
 
@@ -237,6 +240,7 @@ all-differ (x ∷ xs) h =
 pub entries_of-differ : (channels : List (Option ℤ)) (m : AnyMessage) → IsValid m → AllPairs AreDifferentEntries (entries_of channels m)
 entries_of-differ channels (any.Message m) valid = all-differ (cells_of (any.Message m)) (cells_of-distinct (any.Message m) valid)
 entries_of-differ channels (any.Msm m) valid = entries-distinct channels m valid
+entries_of-differ channels (any.Obs1012 m) valid = glonass-differ channels m.satellites
 
 -- ---- one kind
 
@@ -257,3 +261,4 @@ entries_of-kind channels (any.Msm m) = (
       (all-join_from (signal_entry channels m) (IsOfKind SourceMsm) 0 (length (slots_of m.header m.cell_mask)) (slots_of m.header m.cell_mask) (omega arith)
       (λ k slot below. if-kind m k slot.row (channel_in m.system channels (bit_of_row m slot.row) (field_of_row m slot.row)) (index_in m.system (bit_of_row m slot.row)) (code_in m.system slot.signal))),
 )
+entries_of-kind channels (any.Obs1012 m) = (Legacy, glonass-legacy channels m.satellites)

@@ -1,20 +1,19 @@
 -- The last phase of a list of epochs, and the places of a Tracks after a step.
-use Rattle.std.proofs.Common.{get_or-set_same, get_or-set_other, ◌≡◌, ◌≢◌, ℕ, zero, suc, length, set, replicate, ◌+◌, ◌-◌, ◌*◌, ◌<◌, ◌≤◌, [], ◌∷◌, List, refl, sym, ap, subst, ◌∙◌, arith, get_or, Some, None, Option, true, false, Bool, nat_eq, ◌&&◌, cond, inl, inr}
+use Rattle.std.proofs.Common.{get_or-set_same, get_or-set_other, ◌≡◌, ◌≢◌, ℕ, zero, suc, set, replicate, ◌+◌, ◌-◌, ◌*◌, ◌<◌, ◌≤◌, [], ◌∷◌, List, refl, sym, ap, subst, ◌∙◌, arith, get_or, Some, None, Option, true, false, Bool, nat_eq, ◌&&◌, cond, inl, inr}
+use Rattle.std.proofs.lemmas.List.{length-set}
 use Rattle.std.specs.Prelude.{filter, MatchOption}
 use Rattle.std.specs.List.{AllByRecursion}
 use Rattle.std.proofs.lemmas.Bool.Decides.{nat_tests}
 use Rattle.std.proofs.lemmas.Bool.{cases_order}
-use Rattle.rtk_obs.specs.declared.code.Band.{Band}
 use Rattle.rtk_obs.specs.declared.code.Code.{Code}
 use Rattle.rtk_obs.specs.declared.code.Code.TheVariants.{G1C, G1P, G1W, G1S, G1L, G1X, G2C, G2D, G2P, G2W, G2S, G2L, G2X, G5I, G5Q, G5X}
 use Rattle.rtk_obs.specs.declared.track.Track.{Track}
-use Rattle.rtk_obs.specs.declared.track.Digits.{Digits}
-use Rattle.rtk_obs.specs.Code.{place_of, band_of}
-use Rattle.rtk_obs.specs.Slip.{EpochCell, has_phase, slip_since}
+use Rattle.rtk_obs.specs.Code.{place_of, frequency_of_code}
+use Rattle.rtk_obs.specs.Slip.{EpochCell, has_phase}
 use Rattle.rtk_obs.specs.Cell.{IsSatellite}
-use Rattle.rtk_obs.specs.Rollover.{last_after, last_phase, track_of, rolls_since, digits_since}
+use Rattle.rtk_obs.specs.Rollover.{last_after, last_phase, track_of, rolls_since}
 use Rattle.rtk_obs.specs.CellSteps.{Step, epoch_cells_of, IsFalling, PhasesFall}
-use Rattle.rtk_obs.specs.Tracks.{IsLater, track_at, place_of_signal, RepresentsSteps}
+use Rattle.rtk_obs.specs.Tracks.{IsBounded, IsLater, HasPlaces, track_at, place_of_signal, RepresentsSteps}
 use Rattle.rtk_obs.specs.TracksLaws.{IsGreatest, LastIsGreatest, LaterThanSteps, LaterAfterStep, AllLaterAfterStep}
 
 pub get_or-replicate : {X : Type 0} (n i : ℕ) (y : X) → get_or (replicate n y) i y ≡ y
@@ -127,17 +126,17 @@ below_if true e rest t last x same falls later more = (omega arith, all_more res
 below_if false e rest t last x same falls later more = more falls later
 
 -- an epoch after the last phase is after each of them
-all_below : (band : Band) (es : List EpochCell) (x : ℕ) → PhasesFall es → IsLater (last_phase band es) x → AllByRecursion (λ e. e.epoch < x) (filter has_phase es)
-all_below band [] x falls later = tt
-all_below band (e ∷ es) x falls later =
-    below_if (has_phase e) e (filter has_phase es) (track_of band (last_phase band es) e) (last_phase band es) x refl falls later (all_below band es x)
+all_below : (frequency : ℕ) (es : List EpochCell) (x : ℕ) → PhasesFall es → IsLater (last_phase frequency es) x → AllByRecursion (λ e. e.epoch < x) (filter has_phase es)
+all_below frequency [] x falls later = tt
+all_below frequency (e ∷ es) x falls later =
+    below_if (has_phase e) e (filter has_phase es) (track_of frequency (last_phase frequency es) e) (last_phase frequency es) x refl falls later (all_below frequency es x)
 
 falls_if : (b : Bool) (e : EpochCell) (rest : List EpochCell) → AllByRecursion (λ c. c.epoch < e.epoch) rest → IsFalling rest → IsFalling (cond b (e ∷ rest) rest)
 falls_if true e rest a falls = (a, falls)
 falls_if false e rest a falls = falls
 
-pub falls_more : (band : Band) (e : EpochCell) (es : List EpochCell) → PhasesFall es → IsLater (last_phase band es) e.epoch → PhasesFall (e ∷ es)
-falls_more band e es falls later = falls_if (has_phase e) e (filter has_phase es) (all_below band es e.epoch falls later) falls
+pub falls_more : (frequency : ℕ) (e : EpochCell) (es : List EpochCell) → PhasesFall es → IsLater (last_phase frequency es) e.epoch → PhasesFall (e ∷ es)
+falls_more frequency e es falls later = falls_if (has_phase e) e (filter has_phase es) (all_below frequency es e.epoch falls later) falls
 
 later_if : (b : Bool) (e : EpochCell) (rest : List EpochCell) (t : Track) (last : Option Track) (x : ℕ) → t.epoch ≡ e.epoch
     → AllByRecursion (λ c. c.epoch < x) (cond b (e ∷ rest) rest) → (AllByRecursion (λ c. c.epoch < x) rest → IsLater last x)
@@ -145,29 +144,29 @@ later_if : (b : Bool) (e : EpochCell) (rest : List EpochCell) (t : Track) (last 
 later_if true e rest t last x same a more = let h = a.0 in omega arith
 later_if false e rest t last x same a more = more a
 
-later_than : (band : Band) (es : List EpochCell) (x : ℕ) → AllByRecursion (λ e. e.epoch < x) (filter has_phase es) → IsLater (last_phase band es) x
-later_than band [] x a = tt
-later_than band (e ∷ es) x a =
-    later_if (has_phase e) e (filter has_phase es) (track_of band (last_phase band es) e) (last_phase band es) x refl a (later_than band es x)
+later_than : (frequency : ℕ) (es : List EpochCell) (x : ℕ) → AllByRecursion (λ e. e.epoch < x) (filter has_phase es) → IsLater (last_phase frequency es) x
+later_than frequency [] x a = tt
+later_than frequency (e ∷ es) x a =
+    later_if (has_phase e) e (filter has_phase es) (track_of frequency (last_phase frequency es) e) (last_phase frequency es) x refl a (later_than frequency es x)
 
 pub later_than_steps : LaterThanSteps
 later_than_steps tracks steps satellite code epoch represents is_satellite a =
-    subst (λ (o : Option Track). IsLater o epoch) (sym (represents.last satellite code is_satellite)) (later_than (band_of code) (epoch_cells_of satellite code steps) epoch a)
+    subst (λ (o : Option Track). IsLater o epoch) (sym (represents.last satellite code is_satellite)) (later_than (frequency_of_code code) (epoch_cells_of satellite code steps) epoch a)
 
 chosen_later : (b : Bool) (t : Track) (last : Option Track) (x : ℕ) → IsLater last x → t.epoch < x → IsLater (cond b (Some t) last) x
 chosen_later true t last x later h = h
 chosen_later false t last x later h = later
 
 pub later_after_step : LaterAfterStep
-later_after_step band last e epoch later h = chosen_later (has_phase e) (track_of band last e) last epoch later h
+later_after_step frequency last e epoch later h = chosen_later (has_phase e) (track_of frequency last e) last epoch later h
 
 -- ---- the greatest epoch
 
-first_greatest : (b : Bool) (band : Band) (last : Option Track) (e : EpochCell) (rest : List EpochCell) → has_phase e ≡ b → last ≡ last_phase band rest
+first_greatest : (b : Bool) (frequency : ℕ) (last : Option Track) (e : EpochCell) (rest : List EpochCell) → has_phase e ≡ b → last ≡ last_phase frequency rest
     → IsFalling (cond b (e ∷ filter has_phase rest) (filter has_phase rest))
-    → (IsFalling (filter has_phase rest) → MatchOption last (filter has_phase rest ≡ []) (λ t. IsGreatest band rest t))
-    → MatchOption (cond b (Some (track_of band last e)) last) (cond b (e ∷ filter has_phase rest) (filter has_phase rest) ≡ []) (λ t. IsGreatest band (e ∷ rest) t)
-first_greatest true band last e rest is held falls more = record {
+    → (IsFalling (filter has_phase rest) → MatchOption last (filter has_phase rest ≡ []) (λ t. IsGreatest frequency rest t))
+    → MatchOption (cond b (Some (track_of frequency last e)) last) (cond b (e ∷ filter has_phase rest) (filter has_phase rest) ≡ []) (λ t. IsGreatest frequency (e ∷ rest) t)
+first_greatest true frequency last e rest is held falls more = record {
   seen = e;
   above = [];
   below = rest;
@@ -177,12 +176,12 @@ first_greatest true band last e rest is held falls more = record {
   lock_time_ms = refl;
   source = refl;
   offset = refl;
-  rolls = ap (λ (o : Option Track). rolls_since band o e) held;
+  rolls = ap (λ (o : Option Track). rolls_since frequency o e) held;
   greatest = rw is (omega arith, all_at_most (filter has_phase rest) e.epoch falls.0);
 }
-first_greatest false band None e rest is held falls more = more falls
-first_greatest false band (Some t) e rest is held falls more =
-    let g : IsGreatest band rest t = more falls in
+first_greatest false frequency None e rest is held falls more = more falls
+first_greatest false frequency (Some t) e rest is held falls more =
+    let g : IsGreatest frequency rest t = more falls in
     record {
       seen = g.seen;
       above = e ∷ g.above;
@@ -198,65 +197,47 @@ first_greatest false band (Some t) e rest is held falls more =
     }
 
 pub last_is_greatest : LastIsGreatest
-last_is_greatest band [] falls = refl
-last_is_greatest band (e ∷ es) falls = first_greatest (has_phase e) band (last_phase band es) e es refl refl falls (last_is_greatest band es)
+last_is_greatest frequency [] falls = refl
+last_is_greatest frequency (e ∷ es) falls = first_greatest (has_phase e) frequency (last_phase frequency es) e es refl refl falls (last_is_greatest frequency es)
 
 -- ---- a step
 
 pub represents_more : (old new : List (Option Track)) (steps : List Step) (a : ℕ) (b : Code) (e : EpochCell) → IsSatellite a
     → IsLater (track_at old a b) e.epoch
-    → track_at new a b ≡ last_after (band_of b) (track_at old a b) e
+    → track_at new a b ≡ last_after (frequency_of_code b) (track_at old a b) e
     → ((s : ℕ) (c : Code) → place_of_signal s c ≢ place_of_signal a b → track_at new s c ≡ track_at old s c)
     → RepresentsSteps old steps → RepresentsSteps new (record { satellite = a; code = b; seen = e } ∷ steps)
 represents_more old new steps a b e ha later same others r = record {
   rising = λ s c hs. by_eq (place_of_signal a b) (place_of_signal s c)
       (λ p. let q = same_place a (place_of b) s (place_of c) ha.0 hs.0 (place_bound b) (place_bound c) p in
       rw (same_test a (place_of b) s (place_of c) q.0 q.1)
-      (falls_more (band_of c) e (epoch_cells_of s c steps) (r.rising s c hs)
+      (falls_more (frequency_of_code c) e (epoch_cells_of s c steps) (r.rising s c hs)
       (subst (λ (o : Option Track). IsLater o e.epoch) (r.last s c hs)
       (subst (λ (x : ℕ). IsLater (track_at old x c) e.epoch) q.0 (subst (λ (y : Code). IsLater (track_at old a y) e.epoch) (same_code b c q.1) later)))))
       (λ ne. rw (other_test a (place_of b) s (place_of c) (place_bound b) (place_bound c) ne) (r.rising s c hs));
   last = λ s c hs. by_eq (place_of_signal a b) (place_of_signal s c)
       (λ p. let q = same_place a (place_of b) s (place_of c) ha.0 hs.0 (place_bound b) (place_bound c) p in
       rw (same_test a (place_of b) s (place_of c) q.0 q.1)
-      (subst (λ (x : ℕ). track_at new x c ≡ last_after (band_of c) (track_at old x c) e) q.0
-      (subst (λ (y : Code). track_at new a y ≡ last_after (band_of y) (track_at old a y) e) (same_code b c q.1) same)
-      ∙ ap (λ (o : Option Track). last_after (band_of c) o e) (r.last s c hs)))
+      (subst (λ (x : ℕ). track_at new x c ≡ last_after (frequency_of_code c) (track_at old x c) e) q.0
+      (subst (λ (y : Code). track_at new a y ≡ last_after (frequency_of_code y) (track_at old a y) e) (same_code b c q.1) same)
+      ∙ ap (λ (o : Option Track). last_after (frequency_of_code c) o e) (r.last s c hs)))
       (λ ne. rw (other_test a (place_of b) s (place_of c) (place_bound b) (place_bound c) ne)
       (others s c (λ p. ne (sym p)) ∙ r.last s c hs));
 }
 
--- the same of one place that was written
-pub represents_set : (places : List (Option Track)) (steps : List Step) (a : ℕ) (b : Code) (e : EpochCell) (t : Option Track) → IsSatellite a
-    → length places ≡ 512 → IsLater (track_at places a b) e.epoch → t ≡ last_after (band_of b) (track_at places a b) e
-    → RepresentsSteps places steps → RepresentsSteps (set places (place_of_signal a b) t) (record { satellite = a; code = b; seen = e } ∷ steps)
-represents_set places steps a b e t ha len later is r =
-    let inside : place_of_signal a b < length places = let h = place_bound b in omega (arith, ha.1) in
-    represents_more places (set places (place_of_signal a b) t) steps a b e ha later
-    (get_or-set_same places (place_of_signal a b) t None inside ∙ is)
-    (λ s c ne. get_or-set_other places (place_of_signal a b) (place_of_signal s c) t None ne)
-    r
-
--- the same by what the code computed
-pub represents_step : (places now : List (Option Track)) (steps : List Step) (a : ℕ) (b : Code) (e : EpochCell) (t : Option Track) (k : ℕ) → IsSatellite a
-    → length places ≡ 512 → places ≡ now → k ≡ place_of_signal a b → IsLater (track_at now a b) e.epoch
-    → t ≡ last_after (band_of b) (get_or places k None) e
-    → RepresentsSteps now steps → RepresentsSteps (set places k t) (record { satellite = a; code = b; seen = e } ∷ steps)
-represents_step places now steps a b e t k ha len same place later is r =
-    rw place (represents_set places steps a b e t ha len (rw same later)
-    (is ∙ ap (λ (j : ℕ). last_after (band_of b) (get_or places j None) e) place) (rw same r))
-
--- what is remembered of a phase, by its digits
-pub last_of_digits : (band : Band) (last : Option Track) (e : EpochCell) (digits : Digits) (t : Track) → has_phase e ≡ true
-    → digits ≡ digits_since band last e → (digits.rolls ≡ rolls_since band last e → t ≡ track_of band last e) → Some t ≡ last_after band last e
-last_of_digits band last e digits t some is made =
-    let shown : digits_since band last e ≡ record { slip = slip_since last e; half = e.cell.half; rolls = rolls_since band last e } = rw some refl in
-    rw some (ap (λ (x : Track). Some x) (made (ap (λ (d : Digits). d.rolls) (is ∙ shown))))
+-- one place that was written
+pub places-set : (places : List (Option Track)) (k : ℕ) (t : Option Track) → HasPlaces places → k < 512 → IsBounded t → HasPlaces (set places k t)
+places-set places k t h inside bounded = record {
+  count = length-set places k t ∙ h.count;
+  bounded = λ j. by_eq j k
+      (λ same. rw (ap (λ (i : ℕ). get_or (set places k t) i None) same, get_or-set_same places k t None (let n = h.count in omega arith)) bounded)
+      (λ other. rw (get_or-set_other places k j t None other) (h.bounded j));
+}
 
 -- ---- steps one after another
 
 pub all_later_step : AllLaterAfterStep
 all_later_step old new a b e x same others later h s c =
     by_eq (place_of_signal s c) (place_of_signal a b)
-    (λ p. subst (λ (o : Option Track). IsLater o x) (sym (ap (λ (k : ℕ). get_or new k None) p ∙ same)) (later_after_step (band_of b) (track_at old a b) e x (later a b) h))
+    (λ p. subst (λ (o : Option Track). IsLater o x) (sym (ap (λ (k : ℕ). get_or new k None) p ∙ same)) (later_after_step (frequency_of_code b) (track_at old a b) e x (later a b) h))
     (λ ne. subst (λ (o : Option Track). IsLater o x) (sym (others s c ne)) (later s c))

@@ -29,6 +29,21 @@ frequency_at E6 k = Some 1_278_750_000
 frequency_at E5b k = Some 1_207_140_000
 frequency_at E5 k = Some 1_191_795_000
 
+-- table
+-- the frequency in Hz by which the rolls of a carrier are counted: that of GLONASS is the one of channel 0, since a channel
+-- changes the change of a roll by at most 0.25% (this project's rule)
+abbrev pub roll_frequency : Carrier → ℕ
+roll_frequency L1 = 1_575_420_000
+roll_frequency L2 = 1_227_600_000
+roll_frequency L5 = 1_176_450_000
+roll_frequency G1 = 1_602_000_000
+roll_frequency G2 = 1_246_000_000
+roll_frequency B1 = 1_561_098_000
+roll_frequency B3 = 1_268_520_000
+roll_frequency E6 = 1_278_750_000
+roll_frequency E5b = 1_207_140_000
+roll_frequency E5 = 1_191_795_000
+
 -- constant
 -- a slot of GLONASS: 1 to 27 (this project's rule)
 abbrev pub IsSlot : ℕ → Type 0

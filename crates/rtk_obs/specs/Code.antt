@@ -53,6 +53,10 @@ frequency_of L1 = 1_575_420_000
 frequency_of L2 = 1_227_600_000
 frequency_of L5 = 1_176_450_000
 
+-- the frequency of the carrier of a code in Hz
+abbrev pub frequency_of_code : Code → ℕ
+frequency_of_code c = frequency_of (band_of c)
+
 -- table
 -- the place of a code in the list of all sixteen (this project's rule)
 abbrev pub place_of : Code → ℕ

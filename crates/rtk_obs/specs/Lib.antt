@@ -19,9 +19,11 @@ pub mod Mask
 pub mod Cell
 pub mod LegacyCells
 pub mod CellsLeft
+pub mod GlonassCells
 pub mod Steps
 pub mod MsmCells
 pub mod SignalCells
+pub mod SbasCells
 pub mod MessageCells
 pub mod Slip
 pub mod Rollover

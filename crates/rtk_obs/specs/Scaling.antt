@@ -1,5 +1,5 @@
--- Exact values of the fields of 1004 and of the MSM, each rounded once (RTCM 10403.3).
--- Source: RTCM 10403.3, DF011 to DF020, DF397 to DF401, DF405, DF406 and DF408
+-- Exact values of the fields of 1004, of 1012 and of the MSM, each rounded once (RTCM 10403.3).
+-- Source: RTCM 10403.3, DF011 to DF020, DF041 to DF050, DF397 to DF401, DF405, DF406 and DF408
 use Rattle.std.specs.Prelude.{ℕ, ◌+◌, ◌*◌, ◌==◌, max, min, ℤ, pos, ◌+ℤ◌, ◌*ℤ◌, Option, Some, None, if◌then◌else◌}
 use Rattle.std.specs.Ordering.{int_eq}
 use Rattle.rtk_obs.specs.declared.code.Band.{Band}
@@ -43,6 +43,18 @@ range_of_length length = rounded length 2
 -- a length as a phase in millicycles: length * f / (2 * c), where c is 299,792,458 m/s
 abbrev pub phase_of_length : Band → ℤ → ℤ
 phase_of_length band length = rounded (length *ℤ pos (frequency_of band)) 599_584_916
+
+-- ---- 1012: lengths in 0.0005 m
+
+-- formula
+-- the L1 pseudorange: DF041 in 0.02 m, and DF044 in 599,584.916 m
+abbrev pub glonass_length : ℕ → ℕ → ℤ
+glonass_length range modulus_ambiguity = pos (40 * range + 1_199_169_832 * modulus_ambiguity)
+
+-- formula
+-- a length as a phase in millicycles of a frequency f in Hz: length * f / (2 * c), where c is 299,792,458 m/s
+abbrev pub phase_of_length_on : ℕ → ℤ → ℤ
+phase_of_length_on f length = rounded (length *ℤ pos f) 599_584_916
 
 -- ---- MSM: travel times of the signal in 2^-29 ms
 

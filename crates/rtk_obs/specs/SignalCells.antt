@@ -1,5 +1,5 @@
 -- The cells of messages of any system.
--- Source: RTCM 10403.3, messages 1071 to 1137
+-- Source: RTCM 10403.3, messages 1012 and 1071 to 1137
 use Rattle.std.specs.Prelude.{◌≡◌, ◌≢◌, ℕ, ◌==◌, ℤ, pos, ◌+ℤ◌, Bool, ◌||◌, List, [], ◌∷◌, map, slice_index, slice_index_or, Option, Some, None, IfSome, nat_le, if◌then◌else◌}
 use Rattle.std.specs.List.{All}
 use Rattle.std.specs.Ordering.{int_eq}
@@ -15,6 +15,7 @@ use Rattle.rtk_obs.specs.declared.signal_cells.SignalEntry.{SignalEntry}
 use Rattle.rtk_obs.specs.AnyCode.{carrier_of, code_of_gps, IsSignal}
 use Rattle.rtk_obs.specs.Carriers.{channel_at, frequency_at}
 use Rattle.rtk_obs.specs.Cell.{IsStrength}
+use Rattle.rtk_obs.specs.GlonassCells.{entries_of_1012}
 use Rattle.rtk_obs.specs.Mask.{join_from}
 use Rattle.rtk_obs.specs.MessageCells.{cells_of}
 use Rattle.rtk_obs.specs.MsmCells.{Slot, satellites_of, slots_of, cell_on}
@@ -78,10 +79,11 @@ AreDifferentEntries a b = a.satellite ≡ b.satellite → a.code ≢ b.code
 abbrev pub signal_of : CellEntry → SignalEntry
 signal_of e = record { satellite = e.satellite; code = code_of_gps e.code; cell = e.cell }
 
--- the entries of a message, in its order: those of an MSM other than 1074, or of the cells of GPS
+-- the entries of a message, in its order: those of an MSM other than 1074, of a 1012, or of the cells of GPS
 abbrev pub entries_of : List (Option ℤ) → AnyMessage → List SignalEntry
 entries_of channels (any.Message m) = map signal_of (cells_of (any.Message m))
 entries_of channels (any.Msm m) = signal_entries channels m
+entries_of channels (any.Obs1012 m) = entries_of_1012 channels m.satellites
 
 -- a satellite with a code of its system, and no strength or one that messages give
 pub record IsSignalInRange (e : SignalEntry) : Type 0 where

@@ -3,7 +3,7 @@ use Rattle.std.specs.Prelude.{◌≡◌, ℕ, ◌+◌, ◌-◌, ◌*◌, ◌<◌
 use Rattle.rtk_obs.specs.declared.code.Code.{Code}
 use Rattle.rtk_obs.specs.declared.track.Track.{Track}
 use Rattle.rtk_obs.specs.declared.tracks.TheConstants.{SIGNALS}
-use Rattle.rtk_obs.specs.Code.{place_of, band_of}
+use Rattle.rtk_obs.specs.Code.{place_of, frequency_of_code}
 use Rattle.rtk_obs.specs.Cell.{IsSatellite}
 use Rattle.rtk_obs.specs.Rollover.{last_phase}
 use Rattle.rtk_obs.specs.CellSteps.{Step, epoch_cells_of, PhasesFall}
@@ -38,4 +38,4 @@ pub record HasPlaces (tracks : List (Option Track)) : Type 0 where
 pub record RepresentsSteps (tracks : List (Option Track)) (steps : List Step) : Type 0 where
   pub rising : (satellite : ℕ) (code : Code) → IsSatellite satellite → PhasesFall (epoch_cells_of satellite code steps)
   pub last : (satellite : ℕ) (code : Code) → IsSatellite satellite
-      → track_at tracks satellite code ≡ last_phase (band_of code) (epoch_cells_of satellite code steps)
+      → track_at tracks satellite code ≡ last_phase (frequency_of_code code) (epoch_cells_of satellite code steps)

@@ -4,18 +4,21 @@
 //! Each function here does nothing. Its contract is the law, and a caller that calls it may cite
 //! it; proofs of other crates cite the same facts from `proofs/PublicLaws.antt`.
 
-ghost use Rattle.std.specs.Prelude.{◌≡◌, ◌≢◌, ◌↔◌, ℕ, ℤ, ◌+◌, ◌<◌, ◌≤◌, List, map, Option, Some, None, MatchOption, IsTrue};
+ghost use Rattle.std.specs.Prelude.{◌≡◌, ◌≢◌, ◌↔◌, false, ℕ, ℤ, ◌+◌, ◌<◌, ◌≤◌, Bool, List, map, Option, Some, None, MatchOption, IsTrue};
 ghost use Rattle.std.specs.Ordering.{nat_cmp, partial_lt, partial_le};
 ghost use Rattle.std.specs.List.{All, AllPairs};
 ghost use Rattle.rtk_message.specs.declared.any_message.AnyMessage.{AnyMessage};
 ghost use Rattle.rtk_message.specs.declared.obs1004.Satellite.{Satellite};
 ghost use Rattle.rtk_message.specs.declared.obs1004.Obs1004.{Obs1004};
+ghost use Rattle.rtk_message.specs.declared.obs1012.GlonassSatellite.{GlonassSatellite};
+ghost use Rattle.rtk_message.specs.declared.obs1012.Obs1012.{Obs1012};
+ghost use Rattle.rtk_message.specs.Obs1012.{IsValid as IsValid1012, clock_of};
 ghost use Rattle.rtk_message.specs.declared.msm1074.Msm1074.{Msm1074};
 ghost use Rattle.rtk_message.specs.declared.msm.Msm.{Msm};
 ghost use Rattle.rtk_message.specs.declared.system.System.{System};
-ghost use Rattle.rtk_message.specs.declared.system.System.TheVariants.{Gps};
+ghost use Rattle.rtk_message.specs.declared.system.System.TheVariants.{Gps, Glonass};
 ghost use Rattle.rtk_message.specs.AnyDecoded.{IsValid};
-ghost use Rattle.rtk_message.specs.Systems.{is_in_week};
+ghost use Rattle.rtk_message.specs.Systems.{tells_time};
 ghost use Rattle.rtk_message.specs.Obs1004.{IsValid as IsValid1004};
 ghost use Rattle.rtk_message.specs.Msm1074.{IsValid as IsValid1074};
 ghost use Rattle.rtk_message.specs.MsmForm.{IsValid as IsValidMsm};
@@ -34,7 +37,8 @@ ghost use Rattle.rtk_obs.specs.Reading.{IsMoment, reading_of};
 ghost use Rattle.rtk_obs.specs.Dating.{IsDated};
 ghost use Rattle.rtk_obs.specs.declared.glonass_time.GlonassTime.{GlonassTime};
 ghost use Rattle.rtk_obs.specs.LeapSeconds.{IsLeapSecondsAt};
-ghost use Rattle.rtk_obs.specs.GlonassTime.{glonass_tow, IsNumberOf};
+ghost use Rattle.rtk_obs.specs.GlonassTime.{glonass_time_of, glonass_tow, glonass_tod, IsDatedInDay, IsNumberOf};
+ghost use Rattle.rtk_obs.specs.Carriers.{AreChannels};
 ghost use Rattle.rtk_obs.specs.Clocks.{IsClock, IsClockMoment};
 ghost use Rattle.rtk_obs.specs.Rounding.{IsRounded, rounded};
 ghost use Rattle.rtk_obs.specs.Code.{name_of, place_of};
@@ -45,6 +49,8 @@ ghost use Rattle.rtk_obs.specs.SatelliteIndex.{IsSatelliteIndex, IsOfSystem, ind
 ghost use Rattle.rtk_obs.specs.PositionFields.{HasFields};
 ghost use Rattle.rtk_obs.specs.Cell.{IsSatellite, IsInRange, AreDistinct};
 ghost use Rattle.rtk_obs.specs.LegacyCells.{cells_of_1004};
+ghost use Rattle.rtk_obs.specs.SbasCells.{is_sbas_number, signals_of_1004, entries_with_sbas};
+ghost use Rattle.rtk_obs.specs.GlonassCells.{glonass_channel, normal_satellite, entries_of_1012};
 ghost use Rattle.rtk_obs.specs.MsmCells.{cells_of_1074, cells_of_msm};
 ghost use Rattle.rtk_obs.specs.MessageCells.{cells_of, AreOfOneKind};
 ghost use Rattle.rtk_obs.specs.Tracks.{place_of_signal};
@@ -195,26 +201,38 @@ pub fn satellite_laws()
     ensures cmp { (i j : ℕ) → ⟦<SatelliteIndex as Ord>⟧.cmp i j ≡ nat_cmp i j }
 {}
 
-/// A moment has one number of leap seconds, and so has a time of GLONASS near a reference. If its day is
-/// known and no number is given, both are the same, unless half a week after the reference is near.
+/// A moment has one number of leap seconds, and so has a time of GLONASS near a reference. If no number is
+/// given, both are the same, unless half a week after the reference is near, or half a day if the day of the
+/// time is not known.
 pub fn leap_laws()
     ensures moment { (t m n : ℕ) → IsLeapSecondsAt t m → IsLeapSecondsAt t n → m ≡ n }
     ensures clock { (near : ℕ) (time : GlonassTime) (given : Option ℕ) (m n : ℕ)
         → IsNumberOf near time given m → IsNumberOf near time given n → m ≡ n }
     ensures at_moment { (near day ms n t : ℕ) → IsNumberOf near (record { day = Some day; time_of_day_ms = ms }) None n
         → IsDated near (glonass_tow day ms n) t → t + 18_000 < near + 302_400_000 → IsLeapSecondsAt t n }
+    ensures at_time_of_day { (near ms n t : ℕ) → IsNumberOf near (record { day = None; time_of_day_ms = ms }) None n
+        → IsDatedInDay near (glonass_tod ms n) t → t + 18_000 < near + 43_200_000 → IsLeapSecondsAt t n }
 {}
 
-/// A clock has one moment near a reference, and a clock that lies in a week tells a time.
+/// A clock has one moment near a reference, and the clock of a valid message tells a time. That of a 1012 tells
+/// the time of day of the message and no day.
 pub fn clock_laws()
     ensures one_moment { (system : System) (near clock : ℕ) (given : Option ℕ) (s t : ℕ)
         → IsClockMoment system near clock given s → IsClockMoment system near clock given t → s ≡ t }
-    ensures in_week { (system : System) (clock : ℕ) → IsTrue (is_in_week system clock) → IsClock system clock }
+    ensures time { (any_day : Bool) (system : System) (clock : ℕ) → IsTrue (tells_time any_day system clock) → IsClock system clock }
+    ensures legacy { (m : Obs1012) → IsValid1012 m → IsClock Glonass (clock_of m) }
+    ensures no_day { (m : Obs1012) → IsValid1012 m
+        → glonass_time_of (clock_of m) ≡ record { day = None; time_of_day_ms = m.time_of_day_ms } }
+{}
+
+/// A time of day has one date near a reference.
+pub fn date_in_day_is_unique()
+    ensures { (near time_of_day s t : ℕ) → IsDatedInDay near time_of_day s → IsDatedInDay near time_of_day t → s ≡ t }
 {}
 
 /// A place among the signals of all systems belongs to one satellite and one code of its system, and is
 /// below 3,536. The code of each entry of a message is one of the system of its satellite, and no two
-/// entries are of one satellite and code.
+/// entries are of one satellite and code: of a valid MSM, and also of a 1012 that is not valid.
 pub fn signal_laws()
     ensures bound { (satellite : ℕ) (c : AnyCode) → any.IsSignal satellite c → any.signal_place satellite c < 3536 }
     ensures distinct { (a b : ℕ) (c d : AnyCode) → any.IsSignal a c → any.IsSignal b d
@@ -223,6 +241,8 @@ pub fn signal_laws()
         → All (λ e. any.IsSignal e.satellite e.code) (signal_entries channels m) }
     ensures differ { (channels : List (Option ℤ)) (m : Msm) → IsValidMsm m
         → AllPairs AreDifferentEntries (signal_entries channels m) }
+    ensures legacy { (channels : List (Option ℤ)) (satellites : List GlonassSatellite)
+        → AllPairs AreDifferentEntries (entries_of_1012 channels satellites) }
 {}
 
 /// Each entry of a message is of a code of the system of its satellite, and all came in one kind of
@@ -236,4 +256,27 @@ pub fn entry_laws()
     ensures kind { (channels : List (Option ℤ)) (m : AnyMessage) → EntriesAreOfOneKind (entries_of channels m) }
     ensures gps { (channels : List (Option ℤ)) (m : Msm) → m.system ≡ Gps → signal_entries channels m ≡ map signal_of (cells_of_msm m) }
     ensures numbers { (c : Code) → any.number_of (any.code_of_gps c) ≡ place_of c }
+{}
+
+/// The field of a satellite of a 1012 (DF040) has a normal form by the channels of a setup. It may be taken twice,
+/// because a contradiction has a mark of its own. The satellites that have no phases are those with a mark, 30 or 31,
+/// and the cells of a 1012 are those of its normal form.
+pub fn normal_field_laws()
+    ensures twice { (channels : List (Option ℤ)) → AreChannels channels → (s : GlonassSatellite)
+        → normal_satellite channels (normal_satellite channels s) ≡ normal_satellite channels s }
+    ensures marks { (channels : List (Option ℤ)) → AreChannels channels → (s : GlonassSatellite)
+        → (glonass_channel channels s ≡ None) ↔ (30 ≤ (normal_satellite channels s).channel) }
+    ensures cells { (channels : List (Option ℤ)) → AreChannels channels → (satellites : List GlonassSatellite)
+        → entries_of_1012 channels (map (normal_satellite channels) satellites) ≡ entries_of_1012 channels satellites }
+{}
+
+/// What `entry_laws` says of the entries of a message holds also of those with SBAS of a 1004. Those of a 1004
+/// that has no satellite of SBAS are its cells.
+pub fn sbas_laws()
+    ensures codes { (channels : List (Option ℤ)) (m : AnyMessage) → All (λ e. any.IsSignal e.satellite e.code) (entries_with_sbas channels m) }
+    ensures range { (channels : List (Option ℤ)) (m : AnyMessage) → IsValid m → All IsSignalInRange (entries_with_sbas channels m) }
+    ensures differ { (channels : List (Option ℤ)) (m : AnyMessage) → IsValid m → AllPairs AreDifferentEntries (entries_with_sbas channels m) }
+    ensures kind { (channels : List (Option ℤ)) (m : AnyMessage) → EntriesAreOfOneKind (entries_with_sbas channels m) }
+    ensures plain { (satellites : List Satellite) → All (λ s. is_sbas_number s.satellite ≡ false) satellites
+        → signals_of_1004 satellites ≡ map signal_of (cells_of_1004 satellites) }
 {}

@@ -20,14 +20,14 @@ use crate::scaling::{
 use arrayvec::ArrayVec;
 use rtk_message::{Obs1004, Satellite};
 
-// The invalid mark of DF012 and DF018.
-const NO_PHASE: i32 = -524_288;
+/// The invalid mark of DF012 and DF018, and in a 1012 of DF042 and DF048.
+pub(crate) const NO_PHASE: i32 = -524_288;
 
-// The invalid mark of DF017.
-const NO_RANGE: i32 = -8192;
+/// The invalid mark of DF017, and in a 1012 of DF047.
+pub(crate) const NO_RANGE: i32 = -8192;
 
-// Thousandths of a dB-Hz in a step of DF015 and DF020.
-const LEGACY_STRENGTH_STEP: u32 = 250;
+/// Thousandths of a dB-Hz in a step of DF015 and DF020, and in a 1012 of DF045 and DF050.
+pub(crate) const LEGACY_STRENGTH_STEP: u32 = 250;
 
 /// Returns the code of L1 at an indicator (DF010).
 pub(crate) fn l1_code(indicator: bool) -> Code
@@ -56,8 +56,8 @@ pub(crate) fn l1_length(satellite: &Satellite) -> i64
     RANGE_STEP * i64::from(satellite.l1_range) + MODULUS * i64::from(satellite.modulus_ambiguity)
 }
 
-// Returns the range of L1. An invalid mark of its phase (DF012) leaves out the range too.
-fn l1_range(length: i64, offset: Option<i32>) -> Option<i64>
+/// Returns the range of L1. An invalid mark of its phase (DF012, DF042) leaves out the range too.
+pub(crate) fn l1_range(length: i64, offset: Option<i32>) -> Option<i64>
     ensures { result ≡ l1_range_of length offset }
 {
     match offset {
@@ -74,8 +74,8 @@ fn l2_length(length: i64, difference: i32) -> i64
     length + RANGE_STEP * i64::from(difference)
 }
 
-// Returns the range of L2 in mm, or `None` if its difference (DF017) has its invalid mark.
-fn l2_range(length: i64, difference: Option<i32>) -> Option<i64>
+/// Returns the range of L2 in mm, or `None` if its difference (DF017, DF047) has its invalid mark.
+pub(crate) fn l2_range(length: i64, difference: Option<i32>) -> Option<i64>
     requires { unsigned_abs length ≤ LONGEST_RANGE }
     ensures { result ≡ l2_range_of length difference }
 {

@@ -43,6 +43,7 @@ mod civil_text;
 mod clocks;
 mod code;
 mod dating;
+mod glonass_cells;
 mod glonass_time;
 mod laws;
 mod leap_seconds;
@@ -58,8 +59,11 @@ mod position;
 mod rollover;
 mod rounding;
 mod satellite_index;
+mod sbas_cells;
 mod scaling;
+mod seen;
 mod signal_cells;
+mod signal_rows;
 mod signals;
 mod slip;
 mod time;
@@ -75,12 +79,13 @@ pub use civil_text::{put_civil, put_clock, put_date, three_digits, two_digits};
 pub use clocks::date_clock;
 pub use code::{ALL_CODES, Band, Code};
 pub use dating::{HALF_WEEK_MS, WEEK_MS, date};
+pub use glonass_cells::{entries_1012, put_entries_1012};
 pub use glonass_time::GlonassTime;
 pub use laws::{
     any_code_laws, cell_laws, cells_are_distinct, cells_are_in_range, civil_laws, clock_laws,
-    code_laws, date_is_unique, entry_laws, leap_laws, moment_laws, one_reading,
-    places_are_distinct, position_laws, rounded_is_unique, satellite_laws, signal_laws, track_laws,
-    tracks_laws,
+    code_laws, date_in_day_is_unique, date_is_unique, entry_laws, leap_laws, moment_laws,
+    normal_field_laws, one_reading, places_are_distinct, position_laws, rounded_is_unique,
+    satellite_laws, sbas_laws, signal_laws, track_laws, tracks_laws,
 };
 pub use leap_seconds::leap_seconds_at;
 pub use legacy_cells::{cells_1004, put_cells_1004};
@@ -92,6 +97,7 @@ pub use position::Position;
 pub use rollover::rolled;
 pub use rounding::round_div;
 pub use satellite_index::{SatelliteIndex, satellite_in, satellite_name, satellite_named};
+pub use sbas_cells::{put_entries_with_sbas, put_signals_1004};
 pub use signal_cells::{
     SignalEntry, put_entries_of, put_signal_entries, put_signals, signal_entries,
 };

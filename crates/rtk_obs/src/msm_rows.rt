@@ -111,25 +111,25 @@ struct Row {
     rough: Option<i64>,
 }
 
-// How far the cells of a message are put.
+/// How far the cells of a message are put.
 #[derive(Clone, Copy)]
-struct Progress {
-    // How many cells of the message came so far.
-    cell: usize,
-    // How many entries of the list stand.
-    count: usize,
+pub(crate) struct Progress {
+    /// How many cells of the message came so far.
+    pub(crate) cell: usize,
+    /// How many entries of the list stand.
+    pub(crate) count: usize,
 }
 
-// Returns the code of a signal identifier.
-fn signal_code(signal: u8) -> Option<Code>
+/// Returns the code of a signal identifier.
+pub(crate) fn signal_code(signal: u8) -> Option<Code>
     requires { signal ≤ 32 }
     ensures { result ≡ code_of_signal signal }
 {
     SIGNAL_CODES[usize::from(signal)]
 }
 
-// Returns the signal identifiers of the message (DF395). They rise.
-fn signal_identifiers(header: MsmHeader) -> ArrayVec<u8, 64>
+/// Returns the signal identifiers of the message (DF395). They rise.
+pub(crate) fn signal_identifiers(header: MsmHeader) -> ArrayVec<u8, 64>
     ensures value { result.items ≡ signals_of header }
     ensures bounds { All (λ p. (1 ≤ p) × (p ≤ 32)) result.items }
 {

@@ -1,12 +1,12 @@
 //! Values of fields from exact fractions, each rounded once.
 //!
-//! The fractions have up to 68 bits. Values of an MSM are computed in 128 bits. Values of a
-//! 1004 are computed in 64 bits: the whole quotient times the factor, and the rounded rest, apart.
+//! The fractions have up to 70 bits. Values of an MSM, and phases of a 1012, are computed in 128 bits. Values
+//! of a 1004 are computed in 64 bits: the whole quotient times the factor, and the rounded rest, apart.
 
 ghost use Rattle.std.specs.Prelude.{◌≡◌, ◌+◌, ◌*◌, ◌%◌, ◌^◌, ◌<◌, ◌≤◌, pos, ◌*ℤ◌, ◌≤ℤ◌, negsuc, unsigned_abs};
 ghost use Rattle.rtk_obs.specs.Code.{frequency_of};
 ghost use Rattle.rtk_obs.specs.Rounding.{rounded, rounded_magnitude};
-ghost use Rattle.rtk_obs.specs.Scaling.{range_of_length, phase_of_length, range_of_time, phase_of_time, strength_of, strength_of_sixteenths, phase_of_extended_time, unless_invalid};
+ghost use Rattle.rtk_obs.specs.Scaling.{range_of_length, phase_of_length, phase_of_length_on, range_of_time, phase_of_time, strength_of, strength_of_sixteenths, phase_of_extended_time, unless_invalid};
 
 use crate::code::Band;
 
@@ -19,15 +19,18 @@ const TWICE_LIGHT: u32 = 599_584_916;
 // Half of the speed of light.
 const HALF_LIGHT: u64 = 149_896_229;
 
-/// A step of DF011 and DF017, which is 0.02 m, in 0.0005 m.
+/// A step of DF011 and DF017, and in a 1012 of DF041 and DF047, which is 0.02 m, in 0.0005 m.
 pub(crate) const RANGE_STEP: i64 = 40;
 
 /// A step of DF014, which is the way of light in a ms, in 0.0005 m.
 pub(crate) const MODULUS: i64 = 599_584_916;
 
-/// The longest pseudorange of L1 that a 1004 gives, in 0.0005 m: DF011 (24 bits) and DF014 (8 bits)
-/// are all ones.
-pub(crate) const LONGEST_RANGE: u64 = RANGE_STEP as u64 * 16_777_215 + MODULUS as u64 * 255;
+/// A step of DF044, which is the way of light in 2 ms, in 0.0005 m.
+pub(crate) const GLONASS_MODULUS: i64 = 1_199_169_832;
+
+/// The longest pseudorange of L1 that a 1012 gives, in 0.0005 m: DF041 (25 bits) and DF044 (7 bits) are all
+/// ones. The longest one of a 1004 is shorter, where DF011 has 24 bits and DF014 has 8.
+pub(crate) const LONGEST_RANGE: u64 = RANGE_STEP as u64 * 33_554_431 + GLONASS_MODULUS as u64 * 127;
 
 // The longest length of a phase, in 0.0005 m: such a pseudorange and any difference of 32 bits.
 const LONGEST_PHASE: u64 = LONGEST_RANGE + 2_147_483_648;
@@ -127,6 +130,27 @@ pub(crate) fn phase_from_length(band: Band, length: i64) -> i64
         return -(length_magnitude(band, length.unsigned_abs()) as i64);
     }
     length_magnitude(band, length as u64) as i64
+}
+
+// Returns the whole number nearest to n * f / (2 * c), where f is a frequency in Hz. A tie goes up.
+fn length_magnitude_on(frequency: u32, n: u64) -> u64
+    requires { n ≤ 2 ^ 38 }
+    ensures value { result ≡ rounded_magnitude (n * frequency) TWICE_LIGHT }
+    ensures bound { result < 2 ^ 63 }
+{
+    let product = u128::from(n) * u128::from(frequency);
+    ((product + u128::from(TWICE_LIGHT / 2)) / u128::from(TWICE_LIGHT)) as u64
+}
+
+/// Returns a length in 0.0005 m as a phase in millicycles of a frequency in Hz.
+pub(crate) fn phase_from_length_on(frequency: u32, length: i64) -> i64
+    requires { unsigned_abs length ≤ LONGEST_PHASE }
+    ensures { result ≡ phase_of_length_on frequency length }
+{
+    if length < 0 {
+        return -(length_magnitude_on(frequency, length.unsigned_abs()) as i64);
+    }
+    length_magnitude_on(frequency, length as u64) as i64
 }
 
 /// Returns a travel time of the signal, in 2^-29 ms, as a range in mm.

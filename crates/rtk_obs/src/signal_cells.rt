@@ -1,29 +1,28 @@
 //! The cells of messages of any system.
 
-ghost use Rattle.std.specs.Prelude.{◌≡◌, ◌+◌, ◌%◌, ◌^◌, ◌<◌, ◌≤◌, ◌++◌, length, map, IfSome};
+ghost use Rattle.std.specs.Prelude.{◌≡◌, ◌≤◌, length, map};
 ghost use Rattle.std.specs.List.{All};
 ghost use Rattle.rtk_message.specs.declared.any_message.AnyMessage.TheVariants as AnyMessage;
 ghost use Rattle.rtk_message.specs.Decoded.{IsValid as IsValidMessage};
 ghost use Rattle.rtk_message.specs.MsmForm.{IsValid};
-ghost use Rattle.rtk_message.specs.Msm1074.{satellite_count};
+ghost use Rattle.rtk_message.specs.Msm1074.{IsValid as IsValid1074};
 ghost use Rattle.rtk_obs.specs.Cell.{IsSatellite};
-ghost use Rattle.rtk_obs.specs.Mask.{join_from};
 ghost use Rattle.rtk_obs.specs.MessageCells.{cells_of};
-ghost use Rattle.rtk_obs.specs.MsmCells.{row_slots, cell_on};
-ghost use Rattle.rtk_obs.specs.Steps.MsmRows.{cells_in};
-ghost use Rattle.rtk_obs.specs.SignalCells.{unless_other, channel_in, bit_of_row, field_of_row, signal_entry, signal_entries, signal_of};
+ghost use Rattle.rtk_obs.specs.MsmCells.{cells_of_1074};
+ghost use Rattle.rtk_obs.specs.SignalCells.{unless_other, channel_in, field_of_row, signal_entries, signal_of};
 
 use crate::any_code::AnyCode;
 use crate::carrier::{Channel, Channels};
 use crate::cell::{Cell, CellEntry};
-use crate::mask::places_of_bits;
 use crate::message_cells::put_cells_of;
 use crate::msm_cells::set_values;
+use crate::msm_rows::{CellsOfMsm, signal_code};
 use crate::msm_values::rough_range;
 use crate::satellite_index::{SatelliteIndex, satellite_in};
+use crate::signal_rows::{SignalRow, SignalsOfMsm, put_entries};
 use crate::signals::code_of_signal;
 use arrayvec::ArrayVec;
-use rtk_message::{Message, Msm, System};
+use rtk_message::{Message, Msm, Msm1074, MsmHeader, System};
 
 /// A cell with its satellite and code, of any system.
 #[derive(Clone, Copy, Debug, Default, PartialEq, Eq, Hash)]
@@ -89,102 +88,120 @@ fn field_of_row(message: &Msm, row: usize) -> u8
     }
 }
 
-// Returns the cell at a place in a message, of the satellite of a row, on a carrier whose frequency is
-// known or not.
-fn cell_on(message: &Msm, place: usize, row: usize, frequency: Option<u32>) -> Cell
-    requires valid { IsValid message.now }
-    requires place { place < cells_in message.now.cell_mask }
-    requires row { row < satellite_count message.now.header }
-    requires frequency { IfSome frequency (λ f. f % 4 ≡ 0) }
-    ensures { result ≡ cell_on message.now place row frequency }
-{
-    let rough = rough_range(
-        message.rough_ms.as_slice()[row],
-        message.rough_fraction.as_slice()[row],
-    );
-    let mut cell = Cell::default();
-    set_values(message, &mut cell, place, rough, frequency);
-    cell
-}
-
-// A satellite of the message.
+/// A message with the channels by which its phases are made.
 #[derive(Clone, Copy)]
-struct Row {
-    // The place of its row in the cell mask.
-    place: usize,
-    // Its mask bit (DF394).
-    bit: u8,
-    // The field of its channel (DF419).
-    field: u8,
+struct OnChannels<'a> {
+    message: &'a Msm,
+    channels: &'a Channels,
 }
 
-// Puts the entry of a cell of a signal, if there is one.
-fn put_entry(
-    found: &mut ArrayVec<SignalEntry, 64>,
-    message: &Msm,
-    channels: &Channels,
-    cell: usize,
-    row: Row,
-    signal: u8,
-)
-    requires valid { IsValid message.now }
-    requires cell { cell < cells_in message.now.cell_mask }
-    requires place { row.place < satellite_count message.now.header }
-    requires bit { row.bit ≡ bit_of_row message.now row.place }
-    requires field { row.field ≡ field_of_row message.now row.place }
-    requires low { 1 ≤ row.bit }
-    requires room { length found.old.items < 64 }
-    ensures entries { found.new.items ≡ found.old.items
-        ++ signal_entry channels.now message.now cell (record { row = row.place; signal = signal }) }
-    ensures one { length found.new.items ≤ length found.old.items + 1 }
-{
-    let Some(satellite) = satellite_in(message.system, row.bit) else {
-        return;
-    };
-    let Some(code) = code_of_signal(message.system, signal) else {
-        return;
-    };
-    let channel = channel_in(message.system, channels, row.bit, row.field);
-    let frequency = code.carrier().frequency(channel);
-    found.push(SignalEntry {
-        satellite,
-        code,
-        cell: cell_on(message, cell, row.place, frequency),
-    });
-}
+impl<'a> SignalsOfMsm for OnChannels<'a> {
+    ghost use Rattle.rtk_message.specs.MsmForm.{IsValid};
+    ghost use Rattle.rtk_obs.specs.SignalCells.{signal_entry};
+    ghost use Rattle.rtk_obs.specs.Steps.SignalRows.{IsRowOfMsm};
 
-// Puts the entries of a row of the cell mask. The result is how many cells came until then.
-fn put_row(
-    found: &mut ArrayVec<SignalEntry, 64>,
-    message: &Msm,
-    channels: &Channels,
-    start: usize,
-    row: Row,
-    signals: &[u8],
-    bits: u32,
-) -> usize
-    requires valid { IsValid message.now }
-    requires place { row.place < satellite_count message.now.header }
-    requires bit { row.bit ≡ bit_of_row message.now row.place }
-    requires field { row.field ≡ field_of_row message.now row.place }
-    requires low { 1 ≤ row.bit }
-    requires width { length signals.now ≤ 64 }
-    requires fits { bits < 2 ^ length signals.now }
-    requires cells { start + length (row_slots signals.now row.place bits) ≤ cells_in message.now.cell_mask }
-    requires few { length found.old.items ≤ start }
-    ensures entries { found.new.items ≡ found.old.items
-        ++ join_from (signal_entry channels.now message.now) start (row_slots signals.now row.place bits) }
-    ensures cells { result ≡ start + length (row_slots signals.now row.place bits) }
-    ensures few { length found.new.items ≤ result }
-{
-    let places = places_of_bits(u64::from(bits), signals.len() as u32);
-    let mut cell = start;
-    for place in places.as_slice() {
-        let signal = signals[usize::from(*place) - 1];
-        put_entry(found, message, channels, cell, row, signal);
-        cell += 1;
+    ghost IsValid = { λ s. IsValid s.message.now };
+
+    ghost header = { λ s. s.message.now.header };
+
+    ghost cell_mask = { λ s. s.message.now.cell_mask };
+
+    ghost entry_of = { λ s. signal_entry s.channels.now s.message.now };
+
+    ghost IsRow = { λ s. IsRowOfMsm s.channels.now s.message.now };
+
+    fn mask_header(&self) -> MsmHeader {
+        self.message.header
     }
-    cell
+
+    fn cell_count(&self) -> usize {
+        self.message.fine_range.len()
+    }
+
+    fn mask_rows(&self) -> &[u32] {
+        self.message.cell_mask.as_slice()
+    }
+
+    fn row(&self, place: usize, bit: u8) -> Option<SignalRow> {
+        let Some(satellite) = satellite_in(self.message.system, bit) else {
+            return None;
+        };
+        let field = field_of_row(self.message, place);
+        Some(SignalRow {
+            satellite,
+            rough: rough_range(
+                self.message.rough_ms.as_slice()[place],
+                self.message.rough_fraction.as_slice()[place],
+            ),
+            channel: channel_in(self.message.system, self.channels, bit, field),
+        })
+    }
+
+    #[inline(always)]
+    fn set_entry(&self, entry: &mut SignalEntry, cell: usize, row: &SignalRow, signal: u8) -> bool {
+        let Some(code) = code_of_signal(self.message.system, signal) else {
+            return false;
+        };
+        entry.satellite = row.satellite;
+        entry.code = code;
+        let frequency = code.carrier().frequency(row.channel);
+        set_values(self.message, &mut entry.cell, cell, row.rough, frequency);
+        true
+    }
+}
+
+impl SignalsOfMsm for Msm1074 {
+    ghost use Rattle.rtk_obs.specs.Steps.SignalRows.{IsRowOf1074, entry_of_1074};
+
+    ghost IsValid = { IsValid1074 };
+
+    ghost header = { λ m. m.header };
+
+    ghost cell_mask = { λ m. m.cell_mask };
+
+    ghost entry_of = { entry_of_1074 };
+
+    ghost IsRow = { IsRowOf1074 };
+
+    fn mask_header(&self) -> MsmHeader {
+        self.header
+    }
+
+    fn cell_count(&self) -> usize {
+        self.fine_range.len()
+    }
+
+    fn mask_rows(&self) -> &[u32] {
+        self.cell_mask.as_slice()
+    }
+
+    fn row(&self, place: usize, bit: u8) -> Option<SignalRow> {
+        if bit > 32 {
+            return None;
+        }
+        let Some(satellite) = SatelliteIndex::new(bit) else {
+            unreachable!()
+        };
+        Some(SignalRow {
+            satellite,
+            rough: rough_range(
+                self.rough_ms.as_slice()[place],
+                self.rough_fraction.as_slice()[place],
+            ),
+            channel: None,
+        })
+    }
+
+    #[inline(always)]
+    fn set_entry(&self, entry: &mut SignalEntry, cell: usize, row: &SignalRow, signal: u8) -> bool {
+        let Some(code) = signal_code(signal) else {
+            return false;
+        };
+        entry.satellite = row.satellite;
+        entry.code = AnyCode::of_gps(code);
+        self.set_cell(&mut entry.cell, cell, row.rough, code);
+        true
+    }
 }
 
 /// Puts the cells of a message into a list, in place of what it has, as `signal_entries` gives them.
@@ -192,26 +209,7 @@ pub fn put_signal_entries(message: &Msm, channels: &Channels, found: &mut ArrayV
     requires { IsValid message.now }
     ensures { found.new.items ≡ signal_entries channels.now message.now }
 {
-    let bits_of_satellites = places_of_bits(message.header.satellite_mask, 64);
-    let signals = places_of_bits(u64::from(message.header.signal_mask), 32);
-    found.clear();
-    let mut cell = 0;
-    for (place, bits) in message.cell_mask.as_slice().iter().enumerate() {
-        let row = Row {
-            place,
-            bit: bits_of_satellites.as_slice()[place],
-            field: field_of_row(message, place),
-        };
-        cell = put_row(
-            found,
-            message,
-            channels,
-            cell,
-            row,
-            signals.as_slice(),
-            *bits,
-        );
-    }
+    put_entries(found, &OnChannels { message, channels });
 }
 
 /// Returns the cells of a message in its order, for the satellites that have an index and the signals
@@ -238,13 +236,34 @@ pub fn put_signals(cells: &[CellEntry], found: &mut ArrayVec<SignalEntry, 64>)
     }
 }
 
-/// Puts the cells of a message into a list, in place of what it has, as `put_cells_of` gives them: each
-/// as one of any system.
-pub fn put_entries_of(message: &Message, found: &mut ArrayVec<SignalEntry, 64>)
+// Puts the cells of a message into a list, in place of what it has: first into another one, which takes 4 KB of the
+// stack.
+#[inline(never)]
+fn put_entries_by_cells(message: &Message, found: &mut ArrayVec<SignalEntry, 64>)
     requires { IsValidMessage message.now }
     ensures { found.new.items ≡ map signal_of (cells_of (AnyMessage.Message message.now)) }
 {
     let mut cells = ArrayVec::new();
     let _ = put_cells_of(message, &mut cells);
     put_signals(cells.as_slice(), found);
+}
+
+// Puts the cells of a 1074 into a list, in place of what it has, each as one of any system.
+fn put_entries_1074(message: &Msm1074, found: &mut ArrayVec<SignalEntry, 64>)
+    requires { IsValid1074 message.now }
+    ensures { found.new.items ≡ map signal_of (cells_of_1074 message.now) }
+{
+    put_entries(found, message);
+}
+
+/// Puts the cells of a message into a list, in place of what it has, as `put_cells_of` gives them: each
+/// as one of any system.
+pub fn put_entries_of(message: &Message, found: &mut ArrayVec<SignalEntry, 64>)
+    requires { IsValidMessage message.now }
+    ensures { found.new.items ≡ map signal_of (cells_of (AnyMessage.Message message.now)) }
+{
+    match message {
+        Message::Msm1074(message) => put_entries_1074(message, found),
+        _ => put_entries_by_cells(message, found),
+    }
 }

@@ -1,8 +1,8 @@
-mod HeadLemmas
-mod LinkLemmas
+mod CodeLemmas
+mod EndsLemmas
 mod OnePlanLemmas
-mod PutLemmas
+mod RefusedLemmas
+mod SetupLemmas
 mod SumLemmas
 mod TakenLemmas
 mod ToldLabelLemmas
-mod WalkLemmas

@@ -1,21 +1,17 @@
 -- The command of `convert` that does what `auto` does, as sh takes it (this project's rule).
-use Rattle.std.specs.Prelude.{ℕ, ◌+◌, ◌==◌, Bool, nat_lt, List, [], ◌∷◌, ◌++◌, length, flat_map, codes, decimal, if◌then◌else◌}
+use Rattle.std.specs.Prelude.{ℕ, ◌+◌, ◌==◌, Bool, nat_lt, List, [], ◌∷◌, ◌++◌, length, flat_map, codes, decimal, Option, None, Some, if◌then◌else◌}
 use Rattle.std.specs.Borrow.{Bor}
 use Rattle.std.specs.List.{list_any}
 use Rattle.std.specs.declared.vec.Vec.{Vec}
 use Rattle.rtk_message.specs.ShellText.{sh_quoted}
-use Rattle.rtk_obs.specs.CivilText.{date_text, clock_text}
 use Rattle.rtk_obs.specs.declared.any_code.AnyCode.{AnyCode}
-use Rattle.rtk_obs.specs.AnyCode.{name_of}
+use Rattle.rtk_obs.specs.AnyCode.{system_of, name_of, text_of}
 use Rattle.rtk_rinex.specs.MixedHead.{MixedHeadView}
-use Rattle.rtk_obs.specs.Reading.{reading_of}
-use Rattle.rtk_survey.specs.SummaryText.{msm_option}
 use Rattle.rtk_setup.specs.Setup.{SetupView}
-
--- formula
--- a moment as an option writes it, its milliseconds dropped: 2024-05-17T12:00:00
-unfoldable pub time_text : ℕ → List ℕ
-time_text t = date_text (reading_of t) ++ codes "T" ++ clock_text (reading_of t)
+use Rattle.rtk_systems.specs.ChannelWords.{glonass_words}
+use Rattle.rtk_systems.specs.SystemMsms.{kinds_words}
+use Rattle.rtk_systems.specs.Values.{is_gps_system}
+use Rattle.rtk_captures.specs.TimeText.{time_text}
 
 -- formula
 -- a word that is no name of a file: its leading hyphens stay in front
@@ -34,20 +30,39 @@ unfoldable pub marker_words : MixedHeadView → List ℕ
 marker_words h = codes " --made " ++ time_text h.made ++ codes " --marker " ++ word_text h.marker
 
 -- formula
+-- a code as an option lists it: band and attribute alone for GPS, behind the letter of the system for any other
+abbrev pub said_code : AnyCode → List ℕ
+said_code c = if is_gps_system (system_of c) then name_of c else text_of c
+
+-- formula
 -- the names of codes, the first after this separator and each other one after a comma
 abbrev pub code_names : ℕ → List AnyCode → List ℕ
 code_names separator [] = []
-code_names separator (c ∷ cs) = separator ∷ name_of c ++ code_names 44 cs
+code_names separator (c ∷ cs) = separator ∷ said_code c ++ code_names 44 cs
 
 -- formula
--- the codes, the MSM of GPS and the window
+-- the codes, the MSM and the window
 unfoldable pub value_words : SetupView → List ℕ
-value_words s = codes " --codes" ++ code_names 32 s.head.listed ++ msm_option s.kinds.gps ++ codes " --window " ++ decimal s.window
+value_words s = codes " --codes" ++ code_names 32 s.head.listed ++ kinds_words s.kinds s.head.listed ++ codes " --window " ++ decimal s.window
+
+-- formula
+abbrev pub leap_option : ℕ → List ℕ
+leap_option n = codes " --leap-seconds " ++ decimal n
+
+-- the option of leap seconds, if they are given
+abbrev pub leap_words : Option ℕ → List ℕ
+leap_words None = []
+leap_words (Some n) = leap_option n
+
+-- the option of 1012, if they are asked for
+abbrev pub words_of_1012 : Bool → List ℕ
+words_of_1012 is_asked = if is_asked then codes " --with-1012" else []
 
 -- formula
 -- the command with its options
 unfoldable pub convert_words : SetupView → List ℕ
-convert_words s = station_words s ++ marker_words s.head ++ value_words s
+convert_words s =
+    station_words s ++ marker_words s.head ++ value_words s ++ glonass_words s.head.glonass ++ leap_words s.leap_seconds ++ words_of_1012 s.takes_1012
 
 -- formula
 -- names of files, each after a blank

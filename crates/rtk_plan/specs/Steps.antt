@@ -1,2 +1,2 @@
 -- Definitions that only private clauses use.
-pub mod OnlyBelow
+pub mod SetupParts

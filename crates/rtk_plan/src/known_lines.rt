@@ -4,21 +4,26 @@
 
 ghost use Rattle.std.specs.Prelude.{◌≡◌, ◌++◌, IfOk, OnOk};
 ghost use Rattle.rtk_plan.specs.KnownLines as spec;
-ghost use Rattle.rtk_plan.specs.Linking.{places_of};
+ghost use Rattle.rtk_plan.specs.Plan.{taken_messages};
+ghost use Rattle.rtk_survey.specs.Surveys.{places_of};
+ghost use Rattle.rtk_systems.specs.ToldChannels.{told_channel_lines};
 
 use crate::capture_lines::{put_epochs, put_other_dates, put_skipped, put_strays, put_undated};
-use crate::captures::Captures;
-use crate::message_lines::{put_doppler, put_msms, put_sbas, put_unread};
+use crate::leap_lines::put_other_leap_in;
 use crate::phase_lines::put_few_phases_in;
 use crate::planning::Plan;
-use crate::positions::put_no_position;
 use crate::reported::Reported;
-use crate::span_line::{DateSource, DatedSpan, put_span};
+use crate::station_setup::taken_by_setup;
 use crate::texts_left_out::put_texts_left_out;
 use crate::written_file::{Step, WrittenFile};
-use rtk_message::{MsmKind, put_named};
+use rtk_captures::{Captures, DateSource, DatedSpan, put_no_position, put_span};
+use rtk_message::{Accepted, put_named};
 use rtk_setup::{Counts, Setup};
 use rtk_survey::{CaptureSurvey, Equipment};
+use rtk_systems::{
+    is_1012_given, put_channel_lines, put_doppler, put_msms, put_obs_1004, put_sbas,
+    put_told_clocks, put_unchecked, put_unread,
+};
 use std::alloc::{AllocError, Global};
 
 // Appends how many late messages came on a link with a stray epoch.
@@ -112,9 +117,60 @@ fn late_on_links(reported: &Reported, links: &[usize]) -> u64
     count
 }
 
+// Appends the systems of a plan whose clocks differ from those of their chains, those of which no clock is compared, and
+// the captures that tell other leap seconds.
+fn put_clocks_in(
+    alloc: Global,
+    lines: &mut Vec<u8>,
+    captures: &Captures<'_, '_>,
+    plan: &Plan,
+) -> Result<(), AllocError>
+    ensures { OnOk result (lines.new.items ≡ lines.old.items
+        ++ spec.clock_lines_of captures.now.names.now captures.now.surveys.now plan.now) }
+{
+    let surveys = captures.surveys;
+    let setup = &plan.setup;
+    let station = setup.station();
+    put_told_clocks(
+        alloc,
+        lines,
+        plan.asked,
+        surveys,
+        station,
+        plan.leap_seconds,
+    )?;
+    put_unchecked(lines, setup, surveys, station)?;
+    put_other_leap_in(lines, captures, setup)?;
+    Ok(())
+}
+
+// Appends what messages tell of channels of GLONASS, and the slots that have a value and no channel.
+fn put_channels_in(
+    lines: &mut Vec<u8>,
+    surveys: &[CaptureSurvey],
+    plan: &Plan,
+) -> Result<(), AllocError>
+    ensures { OnOk result (lines.new.items ≡ lines.old.items
+        ++ told_channel_lines surveys.now plan.now.setup.station (taken_messages plan.now.setup) plan.now.own_channels plan.now.setup.head.glonass) }
+{
+    let setup = &plan.setup;
+    let taken = taken_by_setup(setup);
+    let own = &plan.own_channels;
+    put_channel_lines(
+        lines,
+        surveys,
+        setup.station(),
+        taken,
+        own,
+        setup.head().glonass(),
+    )?;
+    Ok(())
+}
+
 // Appends what a person should know before the line of late messages.
 #[tactic(auto, unfolding(crate::specs::KnownLines::lines_before_late))]
 fn put_first_lines(
+    alloc: Global,
     lines: &mut Vec<u8>,
     captures: &Captures<'_, '_>,
     plan: &Plan,
@@ -125,39 +181,63 @@ fn put_first_lines(
 {
     put_undated(lines, captures, plan)?;
     put_other_dates(lines, captures, &plan.setup)?;
+    put_clocks_in(alloc, lines, captures, plan)?;
     put_few_phases_in(lines, captures.surveys, &plan.setup)?;
+    put_channels_in(lines, captures.surveys, plan)?;
     put_texts_left_out(lines, told)?;
     put_strays(lines, captures, plan.span.until, plan.strays.as_slice())?;
     Ok(())
 }
 
 // Appends the observations that are not taken.
-#[tactic(auto, unfolding(crate::specs::KnownLines::not_taken))]
+#[tactic(auto, unfolding(crate::specs::KnownLines::not_taken_by))]
 fn put_not_taken(
     lines: &mut Vec<u8>,
     surveys: &[CaptureSurvey],
     station: u16,
-    msm: MsmKind,
+    taken: Accepted,
+    has_1004: bool,
+    has_sbas: bool,
+    is_long: bool,
 ) -> Result<(), AllocError>
-    ensures { OnOk result (lines.new.items ≡ lines.old.items ++ spec.not_taken surveys.now station msm) }
+    ensures { OnOk result (lines.new.items ≡ lines.old.items ++ spec.not_taken_by taken has_1004 has_sbas is_long surveys.now station) }
 {
-    put_msms(lines, surveys, station, msm)?;
-    put_doppler(lines, surveys, station, msm)?;
-    put_sbas(lines, surveys, station)?;
-    put_unread(lines, surveys)?;
+    put_obs_1004(lines, surveys, station, has_1004)?;
+    put_msms(lines, surveys, station, taken)?;
+    put_doppler(lines, surveys, station, taken)?;
+    put_sbas(lines, surveys, station, has_sbas)?;
+    put_unread(lines, surveys, is_long, taken)?;
     Ok(())
 }
 
-// Appends the observations that a conversion does not take.
+// Are 1012 of the station left out, since there is no moment near which they are dated right?
+fn leaves_long(surveys: &[CaptureSurvey], plan: &Plan) -> bool
+    ensures { result ≡ spec.leaves_long surveys.now plan.now }
+{
+    plan.asked.glonass && (!plan.has_near_1012 && is_1012_given(surveys, plan.setup.station()))
+}
+
+// Appends the observations that a conversion does not take; 1012 may be left out since they can't be dated.
 fn put_not_taken_in(
     lines: &mut Vec<u8>,
     surveys: &[CaptureSurvey],
+    is_long: bool,
     setup: &Setup,
 ) -> Result<(), AllocError>
-    ensures { OnOk result (lines.new.items ≡ lines.old.items
-        ++ spec.not_taken surveys.now setup.now.station setup.now.kinds.gps) }
+    ensures { OnOk result (lines.new.items ≡ lines.old.items ++ spec.not_taken surveys.now is_long setup.now) }
 {
-    put_not_taken(lines, surveys, setup.station(), setup.kinds().gps)?;
+    let taken = setup.accepted();
+    let has_1004 = setup.takes_1004();
+    let has_sbas = setup.takes_sbas();
+    put_not_taken(
+        lines,
+        surveys,
+        setup.station(),
+        taken,
+        has_1004,
+        has_sbas,
+        is_long,
+    )?;
     Ok(())
 }
 
@@ -188,13 +268,14 @@ fn put_last_lines(
         ++ spec.lines_behind_late captures.now.names.now captures.now.surveys.now plan.now) }
 {
     put_captures_in(lines, captures, plan)?;
-    put_not_taken_in(lines, captures.surveys, &plan.setup)?;
+    let is_long = leaves_long(captures.surveys, plan);
+    put_not_taken_in(lines, captures.surveys, is_long, &plan.setup)?;
     Ok(())
 }
 
 /// What a person should know of a conversion, a line each, only where it is so: captures that are dated near
-/// the others; a date that is told and does not count; codes with few phases; texts that messages told and that
-/// a label does not have; captures with a stray epoch, that are left out, that have no epoch or whose time falls;
+/// the others; a date that is told and does not count; systems whose clocks differ from those of their chains, or of which no clock is compared; captures that tell other leap seconds; codes with few phases; channels of GLONASS that many slots have, or one has several of, and satellites without one; texts
+/// that messages told and that a label does not have; captures with a stray epoch, that are left out, that have no epoch or whose time falls;
 /// and observations that are not taken.
 pub fn what_is_known(
     alloc: Global,
@@ -209,7 +290,7 @@ pub fn what_is_known(
     ensures strays { IfOk result (λ known. known.stray_links.items ≡ spec.links_with_strays (places_of plan.now.links.items) plan.now.strays.items) }
 {
     let mut first = Vec::new(alloc);
-    put_first_lines(&mut first, captures, plan, told)?;
+    put_first_lines(alloc, &mut first, captures, plan, told)?;
     let mut last = Vec::new(alloc);
     put_last_lines(&mut last, captures, plan)?;
     let strays = plan.strays.as_slice();

@@ -2,32 +2,30 @@
 
 ghost use Rattle.std.specs.Prelude.{◌≡◌, ◌<◌, ◌≤◌, None, Some, [], true, false, length, IfOk, IfErr, IsOk};
 ghost use Rattle.std.specs.List.{list_any};
-ghost use Rattle.std.specs.Option.{ForSome};
-ghost use Rattle.rtk_obs.specs.CivilText.{last_digits};
-ghost use Rattle.rtk_rinex.specs.Header.{IsCodeList};
-ghost use Rattle.rtk_plan.specs.Causes.{IfRefused, IsStationCause, IsEmptyCause, IsSetupCause, IsCaptureCause, IsCauseOf, has_frames};
-ghost use Rattle.rtk_plan.specs.Kept.{empty_captures};
-ghost use Rattle.rtk_plan.specs.Linking.{places_of, AreLinksOf};
-ghost use Rattle.rtk_plan.specs.Positions.{some_are_far};
-ghost use Rattle.rtk_plan.specs.Plan.{IsChosenStation, msm_chosen, codes_chosen, marker_chosen, captures_of, IsNearOf, ArePlaced, AreStrays, IsSpanOf, IsInReach, IsSetupFor};
-ghost use Rattle.rtk_plan.specs.Values.{codes_in_captures};
+ghost use Rattle.rtk_captures.specs.CaptureCauses.{IfRefused, IsStationCause, IsEmptyCause};
+ghost use Rattle.rtk_plan.specs.Causes.{IsCaptureCause, IsCauseOf, has_frames};
+ghost use Rattle.rtk_captures.specs.Kept.{empty_captures};
+ghost use Rattle.rtk_survey.specs.Surveys.{places_of};
+ghost use Rattle.rtk_captures.specs.Linking.{AreLinksOf};
+ghost use Rattle.rtk_captures.specs.Positions.{some_are_far};
+ghost use Rattle.rtk_plan.specs.Plan.{IsChosenStation, AreSecondsCompared, HasNear1012, IsSetupFor, systems_asked, taken_messages};
+ghost use Rattle.rtk_captures.specs.Dating.{captures_of, ArePlaced, AreStrays, IsSpanOf, IsInReach};
+ghost use Rattle.rtk_systems.specs.SlotChannels.{AreOwnChannels};
 
-use crate::captures::{Captures, StationCaptures, list_held};
-use crate::chosen_station::{OnlyStation, is_observed, only_station};
-use crate::dating::date_captures;
-use crate::kept::empty_captures;
-use crate::linking::{limit_links, links_as_given, links_found};
-use crate::positions::agree_on_position;
-use crate::refusal::{PlanFault, Refusal, refused};
-use crate::span_line::DatedSpan;
-use crate::station_capture::{StationCapture, captures_of};
-use crate::values::{codes_in_captures, msm_of_links};
+use crate::near_1012::near_of_1012;
+use crate::setup_seconds::{seconds_chosen, seconds_of_setup};
+use crate::station_setup::{own_channels_in, setup_near, systems_asked};
 use crate::wanted::Wanted;
-use rtk_message::MsmKind;
-use rtk_obs::{Code, GpsMs};
-use rtk_rinex::{CreationTime, Head, Marker};
+use rtk_captures::{
+    Captures, DatedSpan, OnlyStation, PlanFault, Refusal, StationCapture, StationCaptures,
+    agree_on_position, captures_of, date_captures, empty_captures, is_observed, limit_links,
+    links_as_given, links_found, only_station, refused,
+};
+use rtk_obs::Channels;
+use rtk_rinex::CreationTime;
 use rtk_setup::{Reference, Setup, Station};
 use rtk_survey::{CaptureSurvey, Placed};
+use rtk_systems::{SystemFlags, list_held};
 use std::alloc::{AllocError, Global};
 
 /// What a conversion of captures is told.
@@ -44,6 +42,14 @@ pub struct Plan {
     pub strays: Vec<usize>,
     /// What each capture tells of the station.
     pub captures: Vec<StationCapture>,
+    /// The systems that are asked for.
+    pub asked: SystemFlags,
+    /// The leap seconds by which clocks of GLONASS are compared with those of GPS.
+    pub leap_seconds: u8,
+    /// The channels of slots of GLONASS that messages of the station tell.
+    pub own_channels: Channels,
+    /// Is there a moment near which 1012 are dated right? They tell no day, so the epochs have to lie within a day.
+    pub has_near_1012: bool,
 }
 
 // The plan of a station, but for what its captures tell.
@@ -54,6 +60,8 @@ struct Planned {
     links: Vec<Vec<usize>>,
     skipped: Vec<usize>,
     strays: Vec<usize>,
+    leap_seconds: u8,
+    has_near_1012: bool,
 }
 
 // The station that is named, if it has observations.
@@ -123,106 +131,6 @@ fn captures_to_skip(
     Ok(empty)
 }
 
-// The codes that are converted.
-fn codes_to_convert(
-    alloc: Global,
-    surveys: &[CaptureSurvey],
-    station: u16,
-    msm: MsmKind,
-    wanted: &Option<Vec<Code>>,
-) -> Result<Vec<Code>, PlanFault>
-    requires { ForSome wanted.now (λ codes. IsCodeList codes.items) }
-    ensures codes { IfOk result (λ codes. codes.items ≡ codes_chosen wanted.now surveys.now station msm) }
-    ensures good { IfOk result (λ codes. IsCodeList codes.items) }
-    ensures refused { IfErr result (IfRefused (λ refusal. (refusal ≡ Refusal.NoCode) × (wanted.now ≡ None)
-        × (codes_in_captures surveys.now station msm ≡ []))) }
-{
-    if let Some(codes) = wanted {
-        return Ok(Vec::from_slice(alloc, codes.as_slice())?);
-    }
-    let codes = codes_in_captures(alloc, surveys, station, msm)?;
-    if codes.is_empty() {
-        return refused(Refusal::NoCode, list_held(alloc, surveys)?);
-    }
-    Ok(codes)
-}
-
-// The four digits of a station's number.
-fn digits_of(station: u16) -> [u8; 4]
-    ensures { result ≡ last_digits 4 station }
-{
-    let digit = |number: u16| b'0' + (number % 10) as u8;
-    [
-        digit(station / 10 / 10 / 10),
-        digit(station / 10 / 10),
-        digit(station / 10),
-        digit(station),
-    ]
-}
-
-// The head of the file. If no marker is named, the station's number stands for it.
-fn head_of(station: u16, marker: &Option<Marker>, codes: &[Code], made: CreationTime) -> Head
-    requires { IsCodeList codes.now }
-    ensures { result ≡ record { marker = marker_chosen marker.now station; listed = codes.now; made = made } }
-{
-    let digits = digits_of(station);
-    let name = match marker {
-        Some(marker) => marker.as_bytes(),
-        None => digits.as_slice(),
-    };
-    let Ok(marker) = Marker::new(name) else {
-        unreachable!();
-    };
-    let Ok(head) = Head::from_parts(marker, codes, made) else {
-        unreachable!();
-    };
-    head
-}
-
-// The MSM that is converted.
-fn msm_to_convert(
-    surveys: &[CaptureSurvey],
-    links: &[Vec<usize>],
-    wanted: Option<MsmKind>,
-    station: u16,
-) -> MsmKind
-    ensures { result ≡ msm_chosen wanted surveys.now (places_of links.now) station }
-{
-    match wanted {
-        Some(msm) => msm,
-        None => msm_of_links(surveys, links, station),
-    }
-}
-
-// What the conversion of a station near this moment is told.
-fn setup_near(
-    alloc: Global,
-    surveys: &[CaptureSurvey],
-    links: &[Vec<usize>],
-    wanted: &Wanted,
-    made: CreationTime,
-    station: u16,
-    near: GpsMs,
-) -> Result<Setup, PlanFault>
-    requires bound { station < 4096 }
-    requires chosen { IsChosenStation surveys.now wanted.now.station station }
-    requires near { IsNearOf wanted.now.near (captures_of surveys.now station) near }
-    ensures setup { IfOk result (IsSetupFor surveys.now (places_of links.now) wanted.now made) }
-    ensures station { IfOk result (λ setup. (setup.station ≡ station) × (setup.near ≡ near)) }
-    ensures refused { IfErr result (IfRefused (IsSetupCause surveys.now (places_of links.now) wanted.now station near)) }
-{
-    let msm = msm_to_convert(surveys, links, wanted.msm, station);
-    let codes = codes_to_convert(alloc, surveys, station, msm, &wanted.codes)?;
-    let head = head_of(station, &wanted.marker, codes.as_slice(), made);
-    let Ok(station) = Station::new(station) else {
-        unreachable!();
-    };
-    let Ok(near) = Reference::new(near) else {
-        return refused(Refusal::OutsideDates, Vec::new(alloc));
-    };
-    Ok(Setup::from_parts(station, near, head, wanted.window).with_msm(msm))
-}
-
 // The links of the captures, however many.
 fn links_of_captures(
     alloc: Global,
@@ -285,6 +193,8 @@ fn plan_of_station(
     ensures none_skipped { IfOk result (λ plan. skip_empty ≡ false → plan.skipped.items ≡ []) }
     ensures strays { IfOk result (λ plan. AreStrays wanted.now.near captured.now.captures.now plan.strays.items) }
     ensures span { IfOk result (λ plan. IsSpanOf wanted.now.near captured.now.captures.now captured.now.station plan.span) }
+    ensures leap_seconds { IfOk result (λ plan. AreSecondsCompared wanted.now.near captured.now.captures.now plan.setup.leap_seconds plan.leap_seconds) }
+    ensures has_near_1012 { IfOk result (λ plan. HasNear1012 captured.now.all.surveys.now wanted.now.near captured.now.station plan.setup.leap_seconds plan.has_near_1012) }
     ensures refused { IfErr result (IfRefused (IsCaptureCause captured.now.all.surveys.now wanted.now skip_empty as_given
         captured.now.station captured.now.captures.now)) }
 {
@@ -298,14 +208,19 @@ fn plan_of_station(
         dating.placed.as_slice(),
         as_given,
     )?;
+    let (station, near, span) = (captured.station, dating.near, &dating.span);
+    let seconds = seconds_of_setup(alloc, surveys, station, wanted, near, span)?;
+    let other = near_of_1012(captured, wanted.near, &dating, &seconds);
     let setup = setup_near(
         alloc,
         surveys,
         links.as_slice(),
         wanted,
         made,
-        captured.station,
-        dating.near,
+        station,
+        near,
+        &seconds,
+        &other,
     )?;
     limit_links(alloc, captured, links.as_slice())?;
     agree_unless(alloc, captured, as_given)?;
@@ -315,6 +230,8 @@ fn plan_of_station(
         links,
         skipped,
         strays: dating.strays,
+        leap_seconds: seconds_chosen(&seconds, near),
+        has_near_1012: other.is_some(),
     })
 }
 
@@ -331,6 +248,10 @@ pub fn plan_of(
     // What a plan has.
     ensures setup { IfOk result (λ plan. IsSetupFor captures.now.surveys.now (places_of plan.links.items) wanted.now made plan.setup) }
     ensures captures { IfOk result (λ plan. plan.captures.items ≡ captures_of captures.now.surveys.now plan.setup.station) }
+    ensures asked { IfOk result (λ plan. plan.asked ≡ systems_asked wanted.now.codes wanted.now.systems plan.setup.head.listed) }
+    ensures own_channels { IfOk result (λ plan. AreOwnChannels captures.now.surveys.now plan.setup.station (taken_messages plan.setup) plan.own_channels) }
+    ensures leap_seconds { IfOk result (λ plan. AreSecondsCompared wanted.now.near plan.captures.items plan.setup.leap_seconds plan.leap_seconds) }
+    ensures has_near_1012 { IfOk result (λ plan. HasNear1012 captures.now.surveys.now wanted.now.near plan.setup.station plan.setup.leap_seconds plan.has_near_1012) }
     ensures in_reach { IfOk result (λ plan. IsInReach wanted.now.near plan.captures.items plan.setup.near) }
     ensures links { IfOk result (λ plan. AreLinksOf as_given wanted.now.near plan.captures.items (places_of plan.links.items)) }
     ensures few_links { IfOk result (λ plan. length plan.links.items ≤ 16) }
@@ -354,6 +275,8 @@ pub fn plan_of(
         captures: of_station.as_slice(),
     };
     let plan = plan_of_station(alloc, &captured, wanted, made, skip_empty, as_given)?;
+    let asked = systems_asked(wanted, &plan.setup);
+    let own_channels = own_channels_in(captures.surveys, &plan.setup);
     Ok(Plan {
         setup: plan.setup,
         span: plan.span,
@@ -361,5 +284,9 @@ pub fn plan_of(
         skipped: plan.skipped,
         strays: plan.strays,
         captures: of_station,
+        asked,
+        leap_seconds: plan.leap_seconds,
+        own_channels,
+        has_near_1012: plan.has_near_1012,
     })
 }

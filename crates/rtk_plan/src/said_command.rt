@@ -3,45 +3,15 @@
 //! If memory is refused, a first part of what is put may stand there.
 
 ghost use Rattle.std.specs.Prelude.{◌≡◌, ◌≤◌, ◌++◌, OnOk};
-ghost use Rattle.rtk_obs.specs.declared.time.TheConstants.{LAST_MS};
-ghost use Rattle.rtk_obs.specs.Reading.{reading_of};
-ghost use Rattle.rtk_survey.specs.SummaryText.{msm_option};
 ghost use Rattle.rtk_plan.specs.SaidCommand as spec;
 
-use rtk_message::{MsmKind, put_named, put_sh_quoted};
-use rtk_obs::{AnyCode, Civil, GpsMs, civil, put_clock, put_date};
+use rtk_captures::put_time;
+use rtk_message::{put_named, put_sh_quoted};
+use rtk_obs::AnyCode;
 use rtk_rinex::MixedHead;
 use rtk_setup::Setup;
+use rtk_systems::{is_gps_system, put_glonass_words, put_kinds_words};
 use std::alloc::AllocError;
-
-/// The reading of a moment.
-pub(crate) fn reading(moment: GpsMs) -> Civil
-    ensures { result ≡ reading_of moment }
-{
-    civil(moment)
-}
-
-/// Appends a moment as an option writes it.
-#[tactic(auto, unfolding(crate::specs::SaidCommand::time_text))]
-pub(crate) fn put_time(line: &mut Vec<u8>, moment: GpsMs) -> Result<(), AllocError>
-    ensures { OnOk result (line.new.items ≡ line.old.items ++ spec.time_text moment) }
-{
-    let reading = reading(moment);
-    put_date(line, reading)?;
-    line.push(b'T')?;
-    put_clock(line, reading)
-}
-
-/// Appends a moment of so many ms as an option writes it.
-pub(crate) fn put_time_at(line: &mut Vec<u8>, ms: u64) -> Result<(), AllocError>
-    requires { ms ≤ LAST_MS }
-    ensures { OnOk result (line.new.items ≡ line.old.items ++ spec.time_text ms) }
-{
-    let Some(moment) = GpsMs::new(ms) else {
-        unreachable!();
-    };
-    put_time(line, moment)
-}
 
 /// Appends a word that is no name of a file.
 pub(crate) fn put_word(line: &mut Vec<u8>, word: &[u8]) -> Result<(), AllocError>
@@ -55,6 +25,17 @@ pub(crate) fn put_word(line: &mut Vec<u8>, word: &[u8]) -> Result<(), AllocError
     put_sh_quoted(line, &word[at..])
 }
 
+// Appends a code as an option lists it.
+fn put_code(line: &mut Vec<u8>, code: AnyCode) -> Result<(), AllocError>
+    ensures { OnOk result (line.new.items ≡ line.old.items ++ spec.said_code code) }
+{
+    if is_gps_system(code.system()) {
+        line.extend_from_slice(&code.name())
+    } else {
+        line.extend_from_slice(&code.text())
+    }
+}
+
 // Appends codes, the first after this separator.
 fn put_codes(line: &mut Vec<u8>, codes: &[AnyCode]) -> Result<(), AllocError>
     ensures { OnOk result (line.new.items ≡ line.old.items ++ spec.code_names 32 codes.now) }
@@ -62,22 +43,10 @@ fn put_codes(line: &mut Vec<u8>, codes: &[AnyCode]) -> Result<(), AllocError>
     let mut separator = b' ';
     for code in codes {
         line.push(separator)?;
-        line.extend_from_slice(&code.name())?;
+        put_code(line, *code)?;
         separator = b',';
     }
     Ok(())
-}
-
-// The option that names an MSM.
-fn msm_option(msm: MsmKind) -> &'static [u8]
-    ensures { result.now ≡ msm_option msm }
-{
-    match msm {
-        MsmKind::Msm4 => b"",
-        MsmKind::Msm5 => b" --msm 5",
-        MsmKind::Msm6 => b" --msm 6",
-        MsmKind::Msm7 => b" --msm 7",
-    }
 }
 
 // Appends the command with the station and the reference.
@@ -107,15 +76,40 @@ fn put_marker_words(line: &mut Vec<u8>, head: &MixedHead) -> Result<(), AllocErr
     Ok(())
 }
 
-// Appends the codes, the MSM of GPS and the window.
+// Appends the codes, the MSM and the window.
 #[tactic(auto, unfolding(crate::specs::SaidCommand::value_words))]
 fn put_value_words(line: &mut Vec<u8>, setup: &Setup) -> Result<(), AllocError>
     ensures { OnOk result (line.new.items ≡ line.old.items ++ spec.value_words setup.now) }
 {
     line.extend_from_slice(b" --codes")?;
     put_codes(line, setup.head().codes())?;
-    line.extend_from_slice(msm_option(setup.kinds().gps))?;
+    put_kinds_words(line, setup.kinds(), setup.head().codes())?;
     put_named(line, b" --window ", setup.window() as u64)?;
+    Ok(())
+}
+
+fn put_leap_option(line: &mut Vec<u8>, seconds: u8) -> Result<(), AllocError>
+    ensures { OnOk result (line.new.items ≡ line.old.items ++ spec.leap_option seconds) }
+{
+    put_named(line, b" --leap-seconds ", u64::from(seconds))?;
+    Ok(())
+}
+
+fn put_leap_words(line: &mut Vec<u8>, leap_seconds: Option<u8>) -> Result<(), AllocError>
+    ensures { OnOk result (line.new.items ≡ line.old.items ++ spec.leap_words leap_seconds) }
+{
+    match leap_seconds {
+        Some(seconds) => put_leap_option(line, seconds),
+        None => Ok(()),
+    }
+}
+
+fn put_words_of_1012(line: &mut Vec<u8>, is_asked: bool) -> Result<(), AllocError>
+    ensures { OnOk result (line.new.items ≡ line.old.items ++ spec.words_of_1012 is_asked) }
+{
+    if is_asked {
+        line.extend_from_slice(b" --with-1012")?;
+    }
     Ok(())
 }
 
@@ -127,6 +121,9 @@ fn put_convert_words(line: &mut Vec<u8>, setup: &Setup) -> Result<(), AllocError
     put_station_words(line, setup)?;
     put_marker_words(line, setup.head())?;
     put_value_words(line, setup)?;
+    put_glonass_words(line, setup.head().glonass())?;
+    put_leap_words(line, setup.leap_seconds())?;
+    put_words_of_1012(line, setup.takes_1012())?;
     Ok(())
 }
 

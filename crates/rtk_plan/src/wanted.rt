@@ -1,19 +1,26 @@
 //! What the words of `auto` say.
 
 ghost use Rattle.std.specs.Option.{ForSome};
-ghost use Rattle.rtk_rinex.specs.Header.{IsCodeList};
+ghost use Rattle.rtk_rinex.specs.MixedHead.{IsMixedList};
 
 use rtk_message::MsmKind;
-use rtk_obs::Code;
+use rtk_obs::{AnyCode, Channels};
 use rtk_rinex::Marker;
-use rtk_setup::{Reference, Station, Window};
+use rtk_setup::{LeapSeconds, Reference, Station, Window};
+use rtk_systems::SystemFlags;
 
 /// What the words say of the values of a conversion. `None` is to be found in the captures.
 #[derive(Drop)]
 pub struct Wanted {
     pub station: Option<Station>,
     pub msm: Option<MsmKind>,
-    pub codes: Option<Vec<Code>>,
+    pub codes: Option<Vec<AnyCode>>,
+    /// The systems that are converted, if no codes are named.
+    pub systems: SystemFlags,
+    /// The channels of the slots of GLONASS.
+    pub channels: Option<Channels>,
+    /// The leap seconds by which clocks of GLONASS are dated. `None` are those of the table.
+    pub leap_seconds: Option<LeapSeconds>,
     /// The reference near which times of week are dated.
     pub near: Option<Reference>,
     /// The marker; if there is none, the station's number stands for it.
@@ -21,7 +28,7 @@ pub struct Wanted {
     /// How many epochs are kept open.
     pub window: Window,
 
-    ghost codes_fit: { ForSome codes (λ codes. IsCodeList codes.items) },
+    ghost codes_fit: { ForSome codes (λ codes. IsMixedList codes.items) },
 }
 
 /// What the words say of the captures, of the file and of the report.

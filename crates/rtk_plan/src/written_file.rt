@@ -1,14 +1,17 @@
 //! What a file has that is written, by its text as it passes: its epochs and satellites, and whether its header
 //! has a position.
 
-ghost use Rattle.std.specs.Prelude.{◌≡◌, ◌<◌, ◌++◌, count_by, flat_map, OnOk};
+ghost use Rattle.std.specs.Prelude.{◌≡◌, ◌<◌, ◌++◌, flat_map, OnOk};
 ghost use Rattle.rtk_survey.specs.Counting.{count_of};
+ghost use Rattle.rtk_message.specs.declared.system.System.TheVariants.{Gps};
+ghost use Rattle.rtk_plan.specs.SatelliteMarks.{marked_count};
 ghost use Rattle.rtk_plan.specs.WrittenFile as spec;
 
-use crate::said_command::put_time;
+use crate::satellite_marks::SatelliteMarks;
 use arrayvec::ArrayVec;
 use memchr::memchr;
-use rtk_message::put_named;
+use rtk_captures::put_time;
+use rtk_message::{System, put_named};
 use rtk_obs::{Civil, GpsMs, of_civil};
 use std::alloc::{AllocError, Global};
 use std::collections::BTreeMap;
@@ -56,7 +59,7 @@ pub struct WrittenFile {
     line: ArrayVec<u8, HEADER_COLUMNS>,
     is_body: bool,
     has_position: bool,
-    satellites: [bool; 100],
+    satellites: SatelliteMarks,
     first: Option<GpsMs>,
     last: Option<GpsMs>,
     // How often each step came, in ms.
@@ -116,7 +119,7 @@ impl WrittenFile {
             line: ArrayVec::new(),
             is_body: false,
             has_position: false,
-            satellites: [false; 100],
+            satellites: SatelliteMarks::new(),
             first: None,
             last: None,
             steps: BTreeMap::new(alloc),
@@ -159,9 +162,9 @@ impl WrittenFile {
             };
             return self.take_epoch(epoch);
         }
-        if first == Some(b'G') {
+        if let Some(letter) = first {
             let satellite = two_digits(self.line.as_slice(), 1);
-            self.satellites[usize::from(satellite)] = true;
+            self.satellites.mark(letter, satellite);
         }
         Ok(())
     }
@@ -206,11 +209,18 @@ impl WrittenFile {
         })
     }
 
+    /// How many satellites of a system it has.
+    pub fn satellites_of(&self, system: System) -> usize
+        ensures { result ≡ marked_count self.now.satellites system }
+    {
+        self.satellites.count(system)
+    }
+
     /// How many satellites of GPS it has.
     pub fn satellites(&self) -> usize
-        ensures { result ≡ count_by spec.is_satellite_mark self.now.satellites }
+        ensures { result ≡ marked_count self.now.satellites Gps }
     {
-        count_marks(&self.satellites)
+        self.satellites_of(System::Gps)
     }
 
     // The most frequent step in ms, the lesser of two alike; 0 without one.
@@ -255,13 +265,6 @@ impl WrittenFile {
         let listed = listed_gaps(longest, greatest);
         put_more_gaps(lines, self.gap_count(greatest).saturating_sub(listed))
     }
-}
-
-// How many of these are marked.
-fn count_marks(marks: &[bool]) -> usize
-    ensures { result ≡ count_by spec.is_satellite_mark marks.now }
-{
-    marks.iter().filter(|mark| **mark).count()
 }
 
 fn count_if_longer(greatest: u64, step: u64, count: u64) -> u64

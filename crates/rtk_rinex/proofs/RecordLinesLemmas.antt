@@ -1,17 +1,20 @@
 -- The text of a record that is written satellite by satellite.
-use Rattle.std.proofs.Common.{◌≡◌, ℕ, zero, suc, ◌+◌, ◌-◌, ◌*◌, ◌<◌, ◌≤◌, [], ◌∷◌, ◌++◌, List, length, replicate, take, drop, set, get_or, ap, arith, refl, sym, ◌∙◌, length-append, append_assoc, true, false, Bool, ◌||◌, flat_map}
+use Rattle.std.proofs.Common.{◌≡◌, ℕ, zero, suc, ◌+◌, ◌-◌, ◌*◌, ◌<◌, ◌≤◌, [], ◌∷◌, ◌++◌, List, length, replicate, take, drop, set, get_or, ap, arith, refl, sym, ◌∙◌, length-append, append_assoc, true, false, Bool, ◌||◌, flat_map, subst}
 use Rattle.std.specs.Prelude.{max}
 use Rattle.std.specs.List.{filter, list_any}
 use Rattle.std.proofs.lemmas.Grind.{take_at_read, flat_map-append}
 use Rattle.std.proofs.lemmas.List.{append-nil, drop_at, drop-drop, drop-replicate, drop-take, length-take, length-drop, length-set, length-replicate, replicate-append-replicate, take-append-drop, take-append-le}
 use Rattle.std.proofs.lemmas.List.Elements.{filter-append}
 use Rattle.std.proofs.lemmas.List.Sums.{length-filter, count_by-le-length}
-use Rattle.std.proofs.Math.Seq.{take-append-add, drop-append-add, get_or-append_seam, set-append_seam}
+use Rattle.std.proofs.Math.Seq.{take-append-add, drop-append-add, drop-append_seam, get_or-append_seam, set-append_seam}
 use Rattle.rtk_obs.specs.declared.time.Civil.{Civil}
+use Rattle.rtk_obs.specs.CivilText.{last_digits}
+use Rattle.rtk_obs.specs.Reading.{reading_of}
 use Rattle.rtk_rinex.specs.declared.epoch_table.Observed.{Observed}
 use Rattle.rtk_rinex.specs.declared.epoch_table.SatelliteRow.{SatelliteRow}
-use Rattle.rtk_rinex.specs.Record.{has_line, has_observation, observations, satellite_line, epoch_line, lines_of, no_observation}
+use Rattle.rtk_rinex.specs.Record.{has_line, has_observation, observations, satellite_line, epoch_line, lines_of, no_observation, record_text}
 use Rattle.rtk_rinex.specs.RecordLines.{RecordLinesView, HasOpenLine, HoldsLines, IsFreeIn, KeepsLines}
+use Rattle.rtk_rinex.specs.Steps.WrittenLines.{named_line, AddsLine, PutsEpochLine}
 use Rattle.rtk_rinex.proofs.RecordLemmas.{lines_of-none, lines_of-some}
 use Rattle.rtk_rinex.proofs.WrittenLemmas.{lines_of_rows, over-front, code-put, code-blank, code-none, any-put, codes-blank, none-written, columns-length}
 
@@ -172,6 +175,42 @@ none-added l rows r h none =
     let same = filter-none rows r none in
     record { lines = h.lines ∙ ap (λ (rs : List SatelliteRow). flat_map satellite_line rs) (sym same); count = h.count ∙ ap length (sym same) }
 
+-- ---- the line of a satellite of any name
+
+not-both : {P : Type 0} (b : Bool) → b ≡ true → b ≡ false → P
+not-both true t e = absurd cc
+not-both false t e = absurd cc
+
+pub line-there : (name : List ℕ) (os : List Observed) (old new : RecordLinesView) → list_any has_observation os ≡ true → drop 36 new.text ≡ drop 36 old.text ++ named_line name os
+    → new.count ≡ old.count + 1 → AddsLine name os old new
+line-there name os old new has is more = record {
+  line = λ e. is;
+  one = λ e. more;
+  none = λ e. not-both (list_any has_observation os) has e;
+}
+
+pub line-absent : (name : List ℕ) (os : List Observed) (l : RecordLinesView) → list_any has_observation os ≡ false → AddsLine name os l l
+line-absent name os l none = record {
+  line = λ e. not-both (list_any has_observation os) e none;
+  one = λ e. not-both (list_any has_observation os) e none;
+  none = λ e. record { text = refl; count = refl };
+}
+
+row-by : (old new : RecordLinesView) (rows : List SatelliteRow) (s : ℕ) (os : List Observed) (b : Bool) → list_any has_observation os ≡ b → HoldsLines old rows
+    → AddsLine (71 ∷ last_digits 2 s) os old new → HoldsLines new (rows ++ record { satellite = s; observed = record { items = os } } ∷ [])
+row-by old new rows s os true e h a =
+    let row : SatelliteRow = record { satellite = s; observed = record { items = os } } in
+    line-added old new rows row h e (a.line e) (a.one e)
+row-by old new rows s os false e h a =
+    let row : SatelliteRow = record { satellite = s; observed = record { items = os } } in
+    kept-lines old new (rows ++ row ∷ []) (a.none e) (none-added old rows row h e)
+
+-- the line of a satellite of GPS
+pub gps-row-added : (old new : RecordLinesView) (rows : List SatelliteRow) (s : ℕ) (name : List ℕ) (os : List Observed) → name ≡ 71 ∷ last_digits 2 s → HoldsLines old rows
+    → AddsLine name os old new → HoldsLines new (rows ++ record { satellite = s; observed = record { items = os } } ∷ [])
+gps-row-added old new rows s name os is h a =
+    row-by old new rows s os (list_any has_observation os) refl h (subst (λ (n : List ℕ). AddsLine n os old new) is a)
+
 -- ---- the epoch line
 
 -- the epoch line over the first columns
@@ -194,13 +233,47 @@ drop-line text line now end l later is =
     let place36 : 36 + j ≡ end = omega arith in
     ap (drop end) is ∙ ap (λ (n : ℕ). drop n (line ++ drop 36 text)) (sym place) ∙ drop-append-add line (drop 36 text) j ∙ drop-drop j 36 text ∙ ap (λ (n : ℕ). drop n text) place36
 
-pub record-some : (time : Civil) (lines : List ℕ) (count : ℕ) (rows : List SatelliteRow) → lines ≡ lines_of_rows rows → count ≡ length (filter has_line rows) → 0 < count
+record-some : (time : Civil) (lines : List ℕ) (count : ℕ) (rows : List SatelliteRow) → lines ≡ lines_of_rows rows → count ≡ length (filter has_line rows) → 0 < count
     → epoch_line time count ++ lines ≡ lines_of time (filter has_line rows)
 record-some time lines count rows e n some =
     rw (e, n) (sym (lines_of-some time (filter has_line rows) (λ z. omega arith)))
 
-pub record-none : (time : Civil) (text : List ℕ) (count : ℕ) (rows : List SatelliteRow) → text ≡ [] → count ≡ length (filter has_line rows) → count ≡ 0 → text ≡ lines_of time (filter has_line rows)
+record-none : (time : Civil) (text : List ℕ) (count : ℕ) (rows : List SatelliteRow) → text ≡ [] → count ≡ length (filter has_line rows) → count ≡ 0 → text ≡ lines_of time (filter has_line rows)
 record-none time text count rows e n none = e ∙ sym (lines_of-none time (filter has_line rows) (sym n ∙ none))
+
+-- the epoch line over the first columns leaves the lines
+lines-after : (line text : List ℕ) → length line ≡ 36 → drop 36 (line ++ drop 36 text) ≡ drop 36 text
+lines-after line text l = ap (λ (n : ℕ). drop n (line ++ drop 36 text)) (sym l) ∙ drop-append_seam line (drop 36 text)
+
+pub epoch-line-put : (time : ℕ) (c : Civil) (old new : RecordLinesView) → c ≡ reading_of time → length (epoch_line c old.count) ≡ 36 → 0 < old.count
+    → new.text ≡ epoch_line c old.count ++ drop 36 old.text → new.count ≡ old.count → PutsEpochLine time old new
+epoch-line-put time c old new is long some put same = record {
+  count = same;
+  lines = ap (drop 36) put ∙ lines-after (epoch_line c old.count) old.text long;
+  some = λ lt. put ∙ ap (λ (x : Civil). epoch_line x old.count ++ drop 36 old.text) is;
+  none = λ z. absurd (omega (arith, some, z));
+}
+
+-- without a line there is no epoch line
+pub no-epoch-line : (time : ℕ) (l : RecordLinesView) → l.count ≡ 0 → l.text ≡ [] → PutsEpochLine time l l
+no-epoch-line time l none empty = record {
+  count = refl;
+  lines = refl;
+  some = λ lt. absurd (omega (arith, none, lt));
+  none = λ z. empty;
+}
+
+record-by : (time : ℕ) (old new : RecordLinesView) (rows : List SatelliteRow) (n : ℕ) → old.count ≡ n → HoldsLines old rows → PutsEpochLine time old new
+    → new.text ≡ lines_of (reading_of time) (filter has_line rows)
+record-by time old new rows zero e h p = record-none (reading_of time) new.text old.count rows (p.none e) h.count e
+record-by time old new rows (suc n) e h p =
+    let some : 0 < old.count = omega (arith, e) in
+    p.some some ∙ record-some (reading_of time) (drop 36 old.text) old.count rows h.lines h.count some
+
+pub record-of : (time : ℕ) (old new : RecordLinesView) (rows : List SatelliteRow) → HoldsLines old rows → PutsEpochLine time old new
+    → new.text ≡ record_text (record { time = time; rows = rows })
+unfolding record_text
+record-of time old new rows h p = record-by time old new rows old.count refl h p
 
 -- ---- the rows of a table
 

@@ -9,6 +9,7 @@ use Rattle.rtk_rinex.specs.declared.epoch_table.SatelliteRow.{SatelliteRow}
 use Rattle.rtk_obs.specs.CivilText.{last_digits}
 use Rattle.rtk_rinex.specs.Record.{is_written, is_present, observation, observations, lli_digit, strength_digit, strength_value, has_observation, has_line, trim_end, satellite_line, no_observation}
 use Rattle.rtk_rinex.specs.RecordLines.{ended}
+use Rattle.rtk_rinex.specs.Steps.WrittenLines.{named_line}
 use Rattle.rtk_rinex.proofs.RecordLemmas.{trim_end-blank}
 use Rattle.rtk_rinex.proofs.RowLemmas.{IsTrimmed, trimmed}
 use Rattle.rtk_rinex.proofs.ValuesLemmas.{length-fixed}
@@ -155,31 +156,40 @@ line-text line end r m blank short inside cut =
       size,
     )
 
--- the name of a satellite over the first three columns
-pub named-line : (line field : List ℕ) (s : ℕ) → 3 ≤ length line → field ≡ set (set (set line 0 71) 2 (48 + s % 100 % 10)) 1 (48 + s % 100 / 10) → field ≡ 71 ∷ last_digits 2 s ++ drop 3 line
-named-line [] field s long named = absurd (omega arith)
-named-line (a ∷ []) field s long named = absurd (omega arith)
-named-line (a ∷ b ∷ []) field s long named = absurd (omega arith)
-named-line (a ∷ b ∷ c ∷ line) field s long named =
+-- the name of a satellite of GPS
+pub gps-named : (field : List ℕ) (s : ℕ) → field ≡ set (set (71 ∷ 71 ∷ 71 ∷ []) 2 (48 + s % 100 % 10)) 1 (48 + s % 100 / 10) → field ≡ 71 ∷ last_digits 2 s
+gps-named field s named =
     let tens : s % 100 / 10 ≡ s / 10 % 10 = omega arith in
     let units : s % 100 % 10 ≡ s % 10 = omega arith in
     named ∙ (rw (tens, units) refl)
 
+-- the name of a satellite over the first three columns
+pub named-line : (line name field : List ℕ) → 3 ≤ length line → length name ≡ 3 → field ≡ set (set (set line 0 (get_or name 0 0)) 1 (get_or name 1 0)) 2 (get_or name 2 0)
+    → field ≡ name ++ drop 3 line
+named-line [] name field long three named = absurd (omega arith)
+named-line (a ∷ []) name field long three named = absurd (omega arith)
+named-line (a ∷ b ∷ []) name field long three named = absurd (omega arith)
+named-line (a ∷ b ∷ c ∷ line) [] field long three named = absurd (omega (arith, three))
+named-line (a ∷ b ∷ c ∷ line) (x ∷ []) field long three named = absurd (omega (arith, three))
+named-line (a ∷ b ∷ c ∷ line) (x ∷ y ∷ []) field long three named = absurd (omega (arith, three))
+named-line (a ∷ b ∷ c ∷ line) (x ∷ y ∷ z ∷ []) field long three named = named
+named-line (a ∷ b ∷ c ∷ line) (x ∷ y ∷ z ∷ w ∷ name) field long three named = absurd (omega (arith, three))
+
 -- what is after them stays
-pub named-rest : (line field : List ℕ) (s end : ℕ) → 3 ≤ end → field ≡ 71 ∷ last_digits 2 s ++ drop 3 line → drop end field ≡ drop end line
-named-rest line field s end long is =
+pub named-rest : (line name field : List ℕ) (end : ℕ) → length name ≡ 3 → 3 ≤ end → field ≡ name ++ drop 3 line → drop end field ≡ drop end line
+named-rest line name field end three long is =
     let j = end - 3 in
-    let e : end ≡ suc (suc (suc j)) = omega arith in
+    let e : end ≡ length name + j = omega (arith, three) in
     let back : 3 + j ≡ end = omega arith in
-    ap (drop end) is ∙ ap (λ (n : ℕ). drop n (71 ∷ last_digits 2 s ++ drop 3 line)) e ∙ drop-drop j 3 line ∙ ap (λ (n : ℕ). drop n line) back
+    ap (drop end) is ∙ ap (λ (n : ℕ). drop n (name ++ drop 3 line)) e ∙ drop-append-add name (drop 3 line) j ∙ drop-drop j 3 line ∙ ap (λ (n : ℕ). drop n line) back
 
 -- the line of a satellite, from its columns and blanks after them
-pub ended-line : (columns : List ℕ) (os : List Observed) (s j : ℕ) → columns ≡ replicate 3 32 ++ (flat_map observations os ++ replicate j 32)
-    → ended s columns ≡ satellite_line (record { satellite = s; observed = record { items = os } })
-ended-line columns os s j e =
-    let parts : 71 ∷ last_digits 2 s ++ (flat_map observations os ++ replicate j 32) ≡ (71 ∷ last_digits 2 s ++ flat_map observations os) ++ replicate j 32 = refl in
-    ap (λ (xs : List ℕ). trim_end (71 ∷ last_digits 2 s ++ drop 3 xs) ++ 10 ∷ []) e
-    ∙ ap (λ (xs : List ℕ). xs ++ 10 ∷ []) (ap trim_end parts ∙ trim_end-blanks (71 ∷ last_digits 2 s ++ flat_map observations os) j)
+pub ended-line : (columns name : List ℕ) (os : List Observed) (j : ℕ) → columns ≡ replicate 3 32 ++ (flat_map observations os ++ replicate j 32)
+    → ended name columns ≡ named_line name os
+ended-line columns name os j e =
+    let parts : name ++ (flat_map observations os ++ replicate j 32) ≡ (name ++ flat_map observations os) ++ replicate j 32 = sym (append_assoc name (flat_map observations os) (replicate j 32)) in
+    ap (λ (xs : List ℕ). trim_end (name ++ drop 3 xs) ++ 10 ∷ []) e
+    ∙ ap (λ (xs : List ℕ). xs ++ 10 ∷ []) (ap trim_end parts ∙ trim_end-blanks (name ++ flat_map observations os) j)
 
 -- ---- the lines of the satellites
 

@@ -1,12 +1,13 @@
 -- The record of an epoch in a file of any systems (RINEX 3.05, Table A3). A row has the index of its
 -- satellite among those of all systems.
 -- Source: RINEX 3.05, Table A3
-use Rattle.std.specs.Prelude.{◌≡◌, ◌<◌, ◌≤◌, ℕ, List, [], ◌∷◌, ◌++◌, length, drop}
+use Rattle.std.specs.Prelude.{◌≡◌, ℕ, List, [], ◌∷◌, ◌++◌, length, drop}
 use Rattle.std.specs.List.{flat_map, filter}
 use Rattle.rtk_obs.specs.declared.time.Civil.{Civil}
 use Rattle.rtk_obs.specs.SatelliteIndex.{index_name}
 use Rattle.rtk_obs.specs.Reading.{reading_of}
 use Rattle.rtk_rinex.specs.Record.{EpochTableView, IsEpochTableView, observations, trim_end, epoch_line, has_line, record_text}
+use Rattle.rtk_rinex.specs.RecordLines.{RecordLinesView}
 use Rattle.rtk_rinex.specs.declared.epoch_table.SatelliteRow.{SatelliteRow}
 
 -- formula
@@ -30,19 +31,7 @@ GpsRecordsStay = (e : EpochTableView) → IsEpochTableView e → mixed_record_te
 
 -- ---- the text of a record that is written satellite by satellite
 
-pub record MixedLinesView : Type 0 where
-  -- the 36 columns of the epoch line and the lines of the satellites, or nothing without a satellite
-  pub text : List ℕ
-  -- how many satellites have a line
-  pub count : ℕ
-
--- there are no more lines than satellites
-pub record IsMixedLinesView (l : MixedLinesView) : Type 0 where
-  pub few : l.count ≤ 221
-  pub none : l.count ≡ 0 → l.text ≡ []
-  pub some : 0 < l.count → 36 ≤ length l.text
-
 -- after the epoch line the text has the lines of the satellites of these rows that have one
-pub record HoldsMixedLines (l : MixedLinesView) (rows : List SatelliteRow) : Type 0 where
+pub record HoldsMixedLines (l : RecordLinesView) (rows : List SatelliteRow) : Type 0 where
   pub lines : drop 36 l.text ≡ flat_map mixed_satellite_line (filter has_line rows)
   pub count : l.count ≡ length (filter has_line rows)

@@ -1,7 +1,6 @@
 -- The text of a record that is written satellite by satellite.
 use Rattle.std.specs.Prelude.{◌≡◌, ◌<◌, ◌≤◌, ◌+◌, ◌-◌, ◌*◌, ℕ, Bool, false, List, [], ◌∷◌, ◌++◌, length, drop, max, replicate, slice_index_or}
 use Rattle.std.specs.List.{flat_map, filter, list_any}
-use Rattle.rtk_obs.specs.CivilText.{last_digits}
 use Rattle.rtk_rinex.specs.declared.epoch_table.Observed.{Observed}
 use Rattle.rtk_rinex.specs.declared.epoch_table.SatelliteRow.{SatelliteRow}
 use Rattle.rtk_rinex.specs.Record.{has_line, has_observation, observations, satellite_line, trim_end}
@@ -49,15 +48,15 @@ pub record HasFreeCode (l : RecordLinesView) (place : ℕ) : Type 0 where
   pub open_line : HasOpenLine l observed
   pub free : IsFreeIn observed place
 
--- the line of a satellite with these columns, of which the first three have its name
-abbrev pub ended : ℕ → List ℕ → List ℕ
-ended satellite columns = trim_end (71 ∷ last_digits 2 satellite ++ drop 3 columns) ++ 10 ∷ []
+-- the line of a satellite of this name with these columns, of which the first three are those of the name
+abbrev pub ended : List ℕ → List ℕ → List ℕ
+ended name columns = trim_end (name ++ drop 3 columns) ++ 10 ∷ []
 
 -- ---- the text that is kept
 
 -- a text of these lines, and what is written of the next line up to its end; blanks follow it
 pub record IsKeptText (text : List ℕ) (len end count : ℕ) : Type 0 where
-  pub few : count ≤ 32
+  pub few : count ≤ 221
   pub within : end ≤ length text
   pub from : len ≤ end
   pub short : len ≤ 36 + 772 * count
@@ -67,4 +66,4 @@ pub record IsKeptText (text : List ℕ) (len end count : ℕ) : Type 0 where
   pub begun : len < end → max len 36 + 3 ≤ end
   pub fits : len < end → end < length text
   pub bound : end ≤ max len 36 + 771
-  pub most : length text ≤ 24_740
+  pub most : length text ≤ 194_580

@@ -1,94 +1,42 @@
 //! The text of a record of any systems, written satellite by satellite.
 //!
-//! Rows of an epoch may be many, so none is kept. `push_row` writes the line of a satellite, and `finish`
-//! writes the epoch line before the lines.
+//! `push_row` writes the line of a satellite where it stays. So do `open_line`, `put_code` and
+//! `close_line`, code by code in any order. `finish` writes the epoch line before the lines, and `text`
+//! gives the record. Rows of an epoch may be many, so none is kept.
 
-ghost use Rattle.std.specs.Prelude.{◌≡◌, ◌+◌, ◌*◌, ◌<◌, ◌≤◌, List, [], ◌∷◌, ◌++◌, length, replicate, flat_map, OnOk, OnErr, if◌then◌else◌, ◌==◌};
-ghost use Rattle.rtk_obs.specs.SatelliteIndex.{index_name};
+ghost use Rattle.std.specs.Prelude.{◌≡◌, ◌<◌, ◌≤◌, List, [], ◌∷◌, ◌++◌, length, replicate, slice_set, OnOk, OnErr};
+ghost use Rattle.rtk_rinex.specs.declared.epoch_table.Observed.{Observed};
 ghost use Rattle.rtk_rinex.specs.declared.epoch_table.SatelliteRow.{SatelliteRow};
-ghost use Rattle.rtk_rinex.specs.Record.{observations};
-ghost use Rattle.rtk_rinex.specs.MixedRecord.{HoldsMixedLines, mixed_satellite_line, mixed_record_text};
+ghost use Rattle.rtk_rinex.specs.Record.{no_observation};
+ghost use Rattle.rtk_rinex.specs.RecordLines.{HasOpenLine, HasFreeCode, IsFreeIn, KeepsLines};
+ghost use Rattle.rtk_rinex.specs.MixedRecord.{HoldsMixedLines, mixed_record_text};
 
-use crate::columns::{CODE_COLUMNS, EPOCH_LINE, append};
 use crate::epoch_table::Observed;
-use crate::record_text::{put_columns, put_epoch_line, shows_observation, trimmed_len};
-use arrayvec::ArrayVec;
-use rtk_obs::{GpsMs, SatelliteIndex, civil, satellite_name};
+use crate::record_lines::RecordLines;
+use rtk_obs::{GpsMs, SatelliteIndex, satellite_name};
 use std::alloc::{AllocError, Global};
 use std::marker::Model;
 
-// The bytes of the longest line of a satellite: its name, 16 codes and LF.
-const LONGEST_LINE: usize = 772;
-
 /// The text of a record of any systems that is written satellite by satellite, and kept from record to
-/// record; a contract sees its `MixedLinesView`.
+/// record; a contract sees its `RecordLinesView`.
+///
+/// The first line takes the memory for 32 satellites of its number of codes: 36 bytes, and at most 772 for
+/// each. A line that has no room takes it for 32 satellites more.
 #[derive(Drop)]
 pub struct MixedRecordLines {
-    text: Vec<u8>,
-    count: usize,
+    lines: RecordLines,
 }
 
-// Clauses see the text and the count. The last part of the invariant names every field.
+// Clauses see the lines. The invariant names every field.
 impl Model for MixedRecordLines {
     ghost use Rattle.std.specs.Prelude.{◌≡◌};
-    ghost use Rattle.rtk_rinex.specs.MixedRecord.{IsMixedLinesView, MixedLinesView};
+    ghost use Rattle.rtk_rinex.specs.RecordLines.{RecordLinesView};
 
-    ghost Value = { MixedLinesView };
+    ghost Value = { RecordLinesView };
 
-    ghost view = { λ r. record { text = r.text.items; count = r.count } };
+    ghost view = { λ r. r.lines };
 
-    ghost invariant = { λ r. IsMixedLinesView (record { text = r.text.items; count = r.count })
-        × (r ≡ record { text = r.text; count = r.count }) };
-}
-
-// Returns the columns of what a code shows.
-fn columns_of(observed: &Observed) -> [u8; CODE_COLUMNS]
-    ensures { result ≡ observations observed.now }
-{
-    let mut columns = [b' '; CODE_COLUMNS];
-    put_columns(&mut columns, observed);
-    columns
-}
-
-// Returns the name of a satellite and the columns of what its codes show.
-fn satellite_columns(satellite: SatelliteIndex, observed: &[Observed]) -> ArrayVec<u8, LONGEST_LINE>
-    requires { length observed.now ≤ 16 }
-    ensures items { result.items ≡ index_name satellite ++ flat_map observations observed.now }
-    ensures len { length result.items ≡ 3 + 48 * length observed.now }
-{
-    let mut line = ArrayVec::new();
-    append(&mut line, &satellite_name(satellite));
-    for shown in observed {
-        append(&mut line, &columns_of(shown));
-    }
-    line
-}
-
-// Returns the line of a satellite whose codes show this.
-fn satellite_line(satellite: SatelliteIndex, observed: &[Observed]) -> ArrayVec<u8, LONGEST_LINE>
-    requires { length observed.now ≤ 16 }
-    ensures { result.items ≡ mixed_satellite_line (record { satellite = satellite; observed = record { items = observed.now } }) }
-{
-    let mut line = satellite_columns(satellite, observed);
-    let end = trimmed_len(line.as_slice());
-    line.truncate(end);
-    append(&mut line, b"\n");
-    line
-}
-
-// Adds a line to the text of a record. The columns of the epoch line go before the first one.
-fn push_line(text: &mut Vec<u8>, line: &[u8]) -> Result<(), AllocError>
-    requires { length line.now ≤ 772 }
-    ensures ok { OnOk result (text.new.items ≡ (if length text.old.items == 0 then replicate 36 32 else text.old.items) ++ line.now) }
-    ensures err { OnErr result (text.new.items ≡ text.old.items) }
-{
-    if text.len() > 0 {
-        return text.extend_from_slice(line);
-    }
-    let mut first: ArrayVec<u8, 808> = ArrayVec::new();
-    append(&mut first, &[b' '; EPOCH_LINE]);
-    append(&mut first, line);
-    text.extend_from_slice(first.as_slice())
+    ghost invariant = { λ r. r ≡ record { lines = r.lines } };
 }
 
 impl MixedRecordLines {
@@ -97,8 +45,7 @@ impl MixedRecordLines {
         ensures { HoldsMixedLines result [] }
     {
         MixedRecordLines {
-            text: Vec::new(alloc),
-            count: 0,
+            lines: RecordLines::new(alloc),
         }
     }
 
@@ -106,15 +53,59 @@ impl MixedRecordLines {
     pub fn restart(&mut self)
         ensures { HoldsMixedLines self.new [] }
     {
-        self.text.clear();
-        self.count = 0;
+        self.lines.restart();
+    }
+
+    /// Begins the line of a satellite with this number of codes, which show nothing yet. What was
+    /// written of a line that was begun and not ended is blanked.
+    ///
+    /// Memory is taken only if the text has no room for a line with each value.
+    pub fn open_line(&mut self, codes: usize) -> Result<(), AllocError>
+        requires few { codes ≤ 16 }
+        requires room { self.old.count < 221 }
+        ensures open { OnOk result (HasOpenLine self.new (replicate codes no_observation)) }
+        ensures lines { KeepsLines self.old self.new }
+        ensures err { OnErr result (self.new ≡ self.old) }
+    {
+        self.lines.open_line(codes)
+    }
+
+    /// Writes what a code shows at its place in the open line, in which it shows nothing yet.
+    #[inline(always)]
+    pub fn put_code(&mut self, place: usize, observed: &Observed)
+        requires { HasFreeCode self.old place }
+        ensures open { (row : List Observed) → HasOpenLine self.old row → IsFreeIn row place
+            → HasOpenLine self.new (slice_set row place observed.now) }
+        ensures lines { KeepsLines self.old self.new }
+    {
+        self.lines.put_code(place, observed);
+    }
+
+    /// Ends the open line as that of this satellite. A line without a written observation is left
+    /// out. In a record of RINEX the satellites rise, and each line has the codes that the header lists of
+    /// its system. The caller has to see to that.
+    pub fn close_line(&mut self, satellite: SatelliteIndex)
+        requires { self.old.count < 221 }
+        ensures { (rows : List SatelliteRow) (observed : List Observed) → HoldsMixedLines self.old rows → HasOpenLine self.old observed
+            → HoldsMixedLines self.new (rows ++ record { satellite = satellite; observed = record { items = observed } } ∷ []) }
+    {
+        self.lines.close_named(satellite_name(satellite));
+    }
+
+    // Writes what the codes show in the open line, in which they show nothing yet.
+    fn put_codes(&mut self, observed: &[Observed])
+        requires { HasOpenLine self.old (replicate (length observed.now) no_observation) }
+        ensures open { HasOpenLine self.new observed.now }
+        ensures lines { KeepsLines self.old self.new }
+    {
+        self.lines.put_codes(observed);
     }
 
     /// Adds the line of a satellite if an observation of it is written. In a record of RINEX the
     /// satellites rise, and each line has the codes that the header lists of its system. The caller has to
     /// see to that.
     ///
-    /// Memory is taken only if the text has no room for the line.
+    /// Memory is taken only if the text has no room for a line with each value.
     pub fn push_row(
         &mut self,
         satellite: SatelliteIndex,
@@ -126,12 +117,9 @@ impl MixedRecordLines {
             → HoldsMixedLines self.new (rows ++ record { satellite = satellite; observed = record { items = observed.now } } ∷ [])) }
         ensures err { OnErr result (self.new ≡ self.old) }
     {
-        if !shows_observation(observed) {
-            return Ok(());
-        }
-        let line = satellite_line(satellite, observed);
-        push_line(&mut self.text, line.as_slice())?;
-        self.count += 1;
+        self.open_line(observed.len())?;
+        self.put_codes(observed);
+        self.close_line(satellite);
         Ok(())
     }
 
@@ -141,9 +129,7 @@ impl MixedRecordLines {
             → self.new.text ≡ mixed_record_text (record { time = time; rows = rows }) }
         ensures lines { (rows : List SatelliteRow) → HoldsMixedLines self.old rows → HoldsMixedLines self.new rows }
     {
-        if self.count > 0 {
-            put_epoch_line(&mut self.text, civil(time), self.count);
-        }
+        self.lines.put_time(time);
     }
 
     /// Returns the text. After `finish` it is the text of the record, or no bytes if no observation is
@@ -151,13 +137,13 @@ impl MixedRecordLines {
     pub fn text(&self) -> &[u8]
         ensures { result.now ≡ self.now.text }
     {
-        self.text.as_slice()
+        self.lines.text()
     }
 
     /// Returns the text, with its memory.
     pub fn into_text(self) -> Vec<u8>
         ensures { result.items ≡ self.text }
     {
-        self.text
+        self.lines.into_text()
     }
 }

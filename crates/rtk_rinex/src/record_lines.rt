@@ -3,18 +3,21 @@
 //! `push_row` writes the line of a satellite where it stays. So do `open_line`, `put_code` and
 //! `close_line`, code by code in any order. `finish` writes the epoch line before the lines, and `text`
 //! gives the record. The text is kept from record to record; memory is taken at the first line, for 32
-//! satellites.
+//! satellites. mixed_record_lines.rt writes the records of any systems by the same steps.
 
 ghost use Rattle.std.specs.Prelude.{◌≡◌, ◌+◌, ◌*◌, ◌-◌, ◌<◌, ◌≤◌, List, [], ◌∷◌, ◌++◌, length, take, drop, replicate, slice_set, OnOk, OnErr, IfOk};
 ghost use Rattle.rtk_rinex.specs.declared.epoch_table.Observed.{Observed};
 ghost use Rattle.rtk_rinex.specs.declared.epoch_table.SatelliteRow.{SatelliteRow};
 ghost use Rattle.rtk_rinex.specs.Record.{HasWidth, observations, record_text, no_observation};
 ghost use Rattle.rtk_rinex.specs.RecordLines.{HasOpenLine, HasFreeCode, HoldsLines, IsFreeIn, KeepsLines, ended};
+ghost use Rattle.rtk_rinex.specs.Steps.WrittenLines.{AddsLine, PutsEpochLine};
 
 use crate::columns::{CODE_COLUMNS, EPOCH_LINE, GPS_SATELLITES};
 use crate::epoch_table::{EpochTable, Observed};
 use crate::head::Head;
-use crate::record_text::{end_line, has_line, has_observation, put_columns, put_epoch_line};
+use crate::record_text::{
+    end_line, gps_name, has_line, has_observation, put_columns, put_epoch_line,
+};
 use rtk_obs::{GpsMs, civil};
 use std::alloc::{AllocError, Global};
 use std::marker::Model;
@@ -23,7 +26,8 @@ use std::marker::Model;
 /// contract sees its `RecordLinesView`.
 ///
 /// Blanks follow the text, over which the next line is written. The first line takes the memory for
-/// 32 satellites of its number of codes: 36 bytes, and at most 772 for each.
+/// 32 satellites of its number of codes: 36 bytes, and at most 772 for each. A line that has no room takes
+/// it for 32 satellites more.
 #[derive(Drop)]
 pub struct RecordLines {
     text: Vec<u8>,
@@ -68,10 +72,10 @@ fn lengthen(text: &mut Vec<u8>, len: usize) -> Result<(), AllocError>
 // Lengthens a text by blanks if it has no room for a line at this place, and then for 32 lines of this
 // length.
 fn make_room(text: &mut Vec<u8>, at: usize, room: usize) -> Result<(), AllocError>
-    requires place { at ≤ 36 + 772 * 31 }
+    requires place { at ≤ 36 + 772 * 220 }
     requires short { room ≤ 772 }
-    requires bound { length text.old.items ≤ 24_740 }
-    ensures bound { length text.new.items ≤ 24_740 }
+    requires bound { length text.old.items ≤ 194_580 }
+    ensures bound { length text.new.items ≤ 194_580 }
     ensures ok { OnOk result (text.new.items ≡ text.old.items ++ replicate (length text.new.items - length text.old.items) 32) }
     ensures room { OnOk result (at + room ≤ length text.new.items) }
     ensures err { OnErr result (text.new.items ≡ text.old.items) }
@@ -79,15 +83,23 @@ fn make_room(text: &mut Vec<u8>, at: usize, room: usize) -> Result<(), AllocErro
     if text.len() >= at + room {
         return Ok(());
     }
-    let all = EPOCH_LINE + GPS_SATELLITES * room;
-    lengthen(text, all.max(at + room))
+    lengthen(text, at + GPS_SATELLITES * room)
 }
+
+// How many bytes are blanked at once. The C library stores so few by vectors, and from 2 KB on one byte after
+// another.
+const PIECE: usize = 2000;
 
 // Blanks a part of a text.
 fn clear(part: &mut [u8])
     ensures { part.new ≡ replicate (length part.old) 32 }
 {
-    part.fill(b' ');
+    let mut at = 0;
+    while at + PIECE < part.len() {
+        part[at..at + PIECE].fill(b' ');
+        at += PIECE;
+    }
+    part[at..].fill(b' ');
 }
 
 // Blanks a text from a place on. From `end` on it is blank already.
@@ -111,17 +123,19 @@ fn put_code_at(text: &mut [u8], at: usize, observed: &Observed)
     put_columns(&mut text[at..at + CODE_COLUMNS], observed);
 }
 
-// Ends the line of a satellite that begins at this place of a text, and returns where the text ends.
-// It only hands on, and is here for its clauses.
-fn end_line_at(text: &mut [u8], at: usize, satellite: u8, end: usize) -> usize
+// Ends the line of a satellite of this name that begins at this place of a text, and returns where the
+// text ends. It only hands on, and is here for its clauses.
+#[inline(always)]
+fn end_line_at(text: &mut [u8], at: usize, name: [u8; 3], end: usize) -> usize
+    requires name { length name ≡ 3 }
     requires columns { at + 3 ≤ end }
     requires room { end < length text.old }
     requires blank { drop end text.old ≡ replicate (length text.old - end) 32 }
-    ensures text { text.new ≡ (take at text.old ++ ended satellite (drop at text.old)) ++ replicate (length text.old - result) 32 }
-    ensures len { result ≡ at + length (ended satellite (drop at text.old)) }
+    ensures text { text.new ≡ (take at text.old ++ ended name (drop at text.old)) ++ replicate (length text.old - result) 32 }
+    ensures len { result ≡ at + length (ended name (drop at text.old)) }
     ensures within { result ≤ end + 1 }
 {
-    at + end_line(&mut text[at..], satellite, end - at)
+    at + end_line(&mut text[at..], name, end - at)
 }
 
 impl RecordLines {
@@ -153,7 +167,7 @@ impl RecordLines {
     /// Memory is taken only if the text has no room for a line with each value.
     pub fn open_line(&mut self, codes: usize) -> Result<(), AllocError>
         requires few { codes ≤ 16 }
-        requires room { self.old.count < 32 }
+        requires room { self.old.count < 221 }
         ensures open { OnOk result (HasOpenLine self.new (replicate codes no_observation)) }
         ensures lines { KeepsLines self.old self.new }
         ensures err { OnErr result (self.new ≡ self.old) }
@@ -186,20 +200,31 @@ impl RecordLines {
     /// out. In a record of RINEX the satellites rise, and each line has the same codes. The caller
     /// has to see to that.
     pub fn close_line(&mut self, satellite: u8)
-        requires { self.old.count < 32 }
+        requires { self.old.count < 221 }
         ensures { (rows : List SatelliteRow) (observed : List Observed) → HoldsLines self.old rows → HasOpenLine self.old observed
             → HoldsLines self.new (rows ++ record { satellite = satellite; observed = record { items = observed } } ∷ []) }
     {
+        self.close_named(gps_name(satellite));
+    }
+
+    /// Ends the open line as that of a satellite of this name. A line without a written observation is
+    /// left out.
+    #[inline(always)]
+    pub(crate) fn close_named(&mut self, name: [u8; 3])
+        requires name { length name ≡ 3 }
+        requires room { self.old.count < 221 }
+        ensures { (observed : List Observed) → HasOpenLine self.old observed → AddsLine name observed self.old self.new }
+    {
         if self.end > self.len {
             let at = self.len.max(EPOCH_LINE);
-            self.len = end_line_at(&mut self.text, at, satellite, self.end);
+            self.len = end_line_at(&mut self.text, at, name, self.end);
             self.end = self.len;
             self.count += 1;
         }
     }
 
-    // Writes what the codes show in the open line, in which they show nothing yet.
-    fn put_codes(&mut self, observed: &[Observed])
+    /// Writes what the codes show in the open line, in which they show nothing yet.
+    pub(crate) fn put_codes(&mut self, observed: &[Observed])
         requires { HasOpenLine self.old (replicate (length observed.now) no_observation) }
         ensures open { HasOpenLine self.new observed.now }
         ensures lines { KeepsLines self.old self.new }
@@ -215,7 +240,7 @@ impl RecordLines {
     /// Memory is taken only if the text has no room for a line with each value.
     pub fn push_row(&mut self, satellite: u8, observed: &[Observed]) -> Result<(), AllocError>
         requires few { length observed.now ≤ 16 }
-        requires room { self.old.count < 32 }
+        requires room { self.old.count < 221 }
         ensures ok { OnOk result ((rows : List SatelliteRow) → HoldsLines self.old rows
             → HoldsLines self.new (rows ++ record { satellite = satellite; observed = record { items = observed.now } } ∷ [])) }
         ensures err { OnErr result (self.new ≡ self.old) }
@@ -231,6 +256,13 @@ impl RecordLines {
         ensures text { (rows : List SatelliteRow) → HoldsLines self.old rows
             → self.new.text ≡ record_text (record { time = time; rows = rows }) }
         ensures lines { (rows : List SatelliteRow) → HoldsLines self.old rows → HoldsLines self.new rows }
+    {
+        self.put_time(time);
+    }
+
+    /// Writes the epoch line before the lines if there are any.
+    pub(crate) fn put_time(&mut self, time: GpsMs)
+        ensures { PutsEpochLine time self.old self.new }
     {
         if self.count > 0 {
             put_epoch_line(&mut self.text, civil(time), self.count);
@@ -257,8 +289,8 @@ impl RecordLines {
         Ok(())
     }
 
-    // Returns the text, with its memory.
-    fn into_text(self) -> Vec<u8>
+    /// Returns the text, with its memory.
+    pub(crate) fn into_text(self) -> Vec<u8>
         ensures { result.items ≡ self.text }
     {
         let mut text = self.text;

@@ -2,6 +2,7 @@
 
 ghost use Rattle.std.specs.Prelude.{◌≡◌, ◌+◌, ◌<◌, ◌≤◌, ◌-◌, [], ◌∷◌, ◌++◌, length, take, drop, replicate, codes, decimal, false, IsTrue};
 ghost use Rattle.std.specs.List.{list_any};
+ghost use Rattle.rtk_obs.specs.CivilText.{last_digits};
 ghost use Rattle.rtk_rinex.specs.Record.{is_written, is_present, observation, observations, strength_digit, strength_value, lli_digit, has_observation, has_line, trim_end, epoch_date_text, epoch_line};
 ghost use Rattle.rtk_rinex.specs.Columns.{right, decimals, seconds_of};
 ghost use Rattle.rtk_rinex.specs.RecordLines.{ended};
@@ -194,17 +195,30 @@ pub(crate) fn has_line(row: &SatelliteRow) -> bool
     shows_observation(row.observed.as_slice())
 }
 
-/// Ends the line of a satellite, whose columns end here, and returns how long it is.
-pub(crate) fn end_line(line: &mut [u8], satellite: u8, end: usize) -> usize
+/// Returns the name of a satellite of GPS.
+#[inline(always)]
+pub(crate) fn gps_name(satellite: u8) -> [u8; 3]
+    ensures { result ≡ 71 ∷ last_digits 2 satellite }
+{
+    let mut name = [b'G'; 3];
+    put_pair(&mut name, 1, u64::from(satellite) % 100);
+    name
+}
+
+/// Ends the line of a satellite of this name, whose columns end here, and returns how long it is.
+#[inline(always)]
+pub(crate) fn end_line(line: &mut [u8], name: [u8; 3], end: usize) -> usize
+    requires name { length name ≡ 3 }
     requires columns { 3 ≤ end }
     requires room { end < length line.old }
     requires blank { drop end line.old ≡ replicate (length line.old - end) 32 }
-    ensures text { line.new ≡ ended satellite line.old ++ replicate (length line.old - result) 32 }
-    ensures len { result ≡ length (ended satellite line.old) }
+    ensures text { line.new ≡ ended name line.old ++ replicate (length line.old - result) 32 }
+    ensures len { result ≡ length (ended name line.old) }
     ensures within { result ≤ end + 1 }
 {
-    line[0] = b'G';
-    put_pair(line, 1, u64::from(satellite) % 100);
+    line[0] = name[0];
+    line[1] = name[1];
+    line[2] = name[2];
     let len = trimmed_len(&line[..end]);
     line[len] = b'\n';
     len + 1

@@ -1,11 +1,14 @@
 -- What a setup keeps beside what it is told.
 use Rattle.std.proofs.Common.{◌≡◌, ◌≢◌, ◌∙◌, ◌+◌, ◌-◌, ◌*◌, ◌<◌, ◌==◌, ℕ, ℤ, Bool, true, List, [], ◌∷◌, map, length, Option, None, false, refl, sym, ap, arith, get_or}
 use Rattle.std.specs.Prelude.{if◌then◌else◌, nat_le}
+use Rattle.std.specs.List.{flat_map}
 use Rattle.std.proofs.Math.Path.{fun_ext}
 use Rattle.std.proofs.lemmas.List.{get_or-map, length-map}
 use Rattle.rtk_message.specs.declared.any_message.AnyMessage.{AnyMessage as Message}
 use Rattle.rtk_message.specs.declared.any_message.AnyMessage.TheVariants as any
+use Rattle.rtk_message.specs.declared.message.Message.TheVariants.{Obs1004, Arp1005, Arp1006, Msm1074}
 use Rattle.rtk_message.specs.declared.msm.Msm.{Msm}
+use Rattle.rtk_message.specs.declared.obs1012.GlonassSatellite.{GlonassSatellite}
 use Rattle.rtk_message.specs.declared.msm_kind.MsmKind.{MsmKind}
 use Rattle.rtk_message.specs.declared.msm_kind.MsmKind.TheVariants.{Msm4, Msm5, Msm6, Msm7}
 use Rattle.rtk_message.specs.Accepted.{no_kind, only_kind, takes_kind}
@@ -16,9 +19,11 @@ use Rattle.rtk_obs.specs.declared.code.Code.TheVariants as gps
 use Rattle.rtk_obs.specs.declared.signal_cells.SignalEntry.{SignalEntry}
 use Rattle.rtk_obs.specs.AnyCode.{code_of_gps, system_of, codes_before, number_of}
 use Rattle.rtk_obs.specs.Code.{place_of}
+use Rattle.rtk_obs.specs.GlonassCells.{unless_other_in_1012, glonass_entries, slot_entries, first_of_slots}
 use Rattle.rtk_obs.specs.Mask.{join_from}
 use Rattle.rtk_obs.specs.MsmCells.{Slot, slots_of}
 use Rattle.rtk_obs.specs.SatelliteIndex.{index_in, letter_of}
+use Rattle.rtk_obs.specs.SbasCells.{entries_with_sbas}
 use Rattle.rtk_obs.specs.SignalCells.{unless_other, channel_in, bit_of_row, field_of_row, entry_if, signal_entry, entries_of}
 use Rattle.rtk_obs.specs.Signals.{code_in}
 use Rattle.rtk_obs.proofs.PublicLaws.{number-of-gps, same_signal}
@@ -58,13 +63,27 @@ entry-same channels others m h = fun_ext (λ k. fun_ext (λ (s : Slot).
     ap (λ (o : Option ℤ). entry_if m k s.row o (index_in m.system (bit_of_row m s.row)) (code_in m.system s.signal))
     (channel-same m.system channels others (bit_of_row m s.row) (field_of_row m s.row) h)))
 
+slot-same : (channels others : List (Option ℤ)) → AreSameChannels channels others → slot_entries channels ≡ slot_entries others
+slot-same channels others h = fun_ext (λ (s : GlonassSatellite). ap (λ (o : Option ℤ). glonass_entries s (unless_other_in_1012 s.channel o) (index_in Glonass s.slot)) (h s.slot))
+
 cells-same : (channels others : List (Option ℤ)) (m : Message) → AreSameChannels channels others → entries_of channels m ≡ entries_of others m
 cells-same channels others (any.Message m) h = refl
 cells-same channels others (any.Msm m) h = ap (λ (f : ℕ → Slot → List SignalEntry). join_from f 0 (slots_of m.header m.cell_mask)) (entry-same channels others m h)
+cells-same channels others (any.Obs1012 m) h = ap (λ (f : GlonassSatellite → List SignalEntry). flat_map f (first_of_slots m.satellites)) (slot-same channels others h)
 
--- by the same channels all cells are the same
-pub all-cells-same : (channels others : List (Option ℤ)) → AreSameChannels channels others → entries_of channels ≡ entries_of others
-all-cells-same channels others h = fun_ext (λ m. cells-same channels others m h)
+signals-same : (channels others : List (Option ℤ)) (m : Message) → AreSameChannels channels others → entries_with_sbas channels m ≡ entries_with_sbas others m
+signals-same channels others (any.Message (Obs1004 m)) h = refl
+signals-same channels others (any.Message (Arp1005 m)) h = refl
+signals-same channels others (any.Message (Arp1006 m)) h = refl
+signals-same channels others (any.Message (Msm1074 m)) h = refl
+signals-same channels others (any.Msm m) h = cells-same channels others (any.Msm m) h
+signals-same channels others (any.Obs1012 m) h = cells-same channels others (any.Obs1012 m) h
+
+-- by the same channels all cells are the same, with those of SBAS in a 1004 or without them
+pub all-cells-same : (sbas : Bool) (channels others : List (Option ℤ)) → AreSameChannels channels others
+    → (if sbas then entries_with_sbas channels else entries_of channels) ≡ (if sbas then entries_with_sbas others else entries_of others)
+all-cells-same true channels others h = fun_ext (λ m. signals-same channels others m h)
+all-cells-same false channels others h = fun_ext (λ m. cells-same channels others m h)
 
 -- ---- a head of GPS as one of any systems
 

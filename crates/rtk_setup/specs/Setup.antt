@@ -1,5 +1,5 @@
 -- What a conversion is set up with, and which messages it takes.
-use Rattle.std.specs.Prelude.{◌≡◌, ℕ, ◌+◌, ◌≤◌, ◌==◌, ℤ, Bool, List, [], map, Option, None, Some, IfSome, if◌then◌else◌}
+use Rattle.std.specs.Prelude.{◌≡◌, ℕ, ◌+◌, ◌≤◌, ◌==◌, ℤ, Bool, false, ◌&&◌, ◌||◌, List, [], map, Option, None, Some, IfSome, if◌then◌else◌}
 use Rattle.std.specs.Int.{IsInRange}
 use Rattle.std.specs.List.{list_any, list_all}
 use Rattle.rtk_message.specs.declared.accepted.Accepted.{Accepted}
@@ -16,6 +16,7 @@ use Rattle.rtk_obs.specs.AnyCode.{code_of_gps}
 use Rattle.rtk_obs.specs.Carriers.{channel_at}
 use Rattle.rtk_obs.specs.Dating.{IsReference}
 use Rattle.rtk_obs.specs.SatelliteIndex.{letter_of, satellites_of_system, satellites_before}
+use Rattle.rtk_obs.specs.SbasCells.{entries_with_sbas}
 use Rattle.rtk_obs.specs.SignalCells.{entries_of}
 use Rattle.rtk_rinex.specs.Header.{HeadView}
 use Rattle.rtk_rinex.specs.MixedHead.{GlonassView, MixedHeadView, IsMixedHead, letter}
@@ -34,6 +35,8 @@ pub record SetupView : Type 0 where
   pub kinds : SystemKinds
   -- the leap seconds by which clocks of GLONASS are dated and which the file tells, if they are not those of the table
   pub leap_seconds : Option ℕ
+  -- whether 1012 is asked for, which tells no day
+  pub takes_1012 : Bool
 
 -- ---- the kinds
 
@@ -69,10 +72,10 @@ with_kind ks Navic k = record ks { navic = k }
 abbrev pub mixed_head_of : HeadView → MixedHeadView
 mixed_head_of h = record { marker = h.marker; listed = map code_of_gps h.listed; glonass = None; made = h.made }
 
--- the setup of these parts; its MSM of each system is MSM4
+-- the setup of these parts; its MSM of each system is MSM4, and 1012 is not asked for
 abbrev pub mixed_setup_of : ℕ → ℕ → MixedHeadView → ℕ → SetupView
 mixed_setup_of station near head window =
-    record { station = station; near = near; head = head; window = window; kinds = all_of Msm4; leap_seconds = None }
+    record { station = station; near = near; head = head; window = window; kinds = all_of Msm4; leap_seconds = None; takes_1012 = false }
 
 -- the setup of these parts for a file of GPS; its MSM is 1074
 abbrev pub setup_of : ℕ → ℕ → HeadView → ℕ → SetupView
@@ -110,7 +113,13 @@ lists_system listed system = list_any (λ c. letter c == letter_of system) liste
 abbrev pub kinds_taken : SetupView → System → MsmKinds
 kinds_taken s system = if lists_system s.head.listed system then only_kind (kind_of s.kinds system) else no_kind
 
--- the MSM that are converted, of all systems
+-- formula
+-- whether 1012 is converted, and MSM of GLONASS that tell no day (DF416 7): if 1012 is asked for, and some code of
+-- GLONASS is listed (this project's rule)
+abbrev pub obs1012_taken : SetupView → Bool
+obs1012_taken s = s.takes_1012 && lists_system s.head.listed Glonass
+
+-- the MSM that are converted, of all systems, and whether 1012 is
 abbrev pub taken_by : SetupView → Accepted
 taken_by s =
     record {
@@ -121,13 +130,20 @@ taken_by s =
       qzss = kinds_taken s Qzss;
       sbas = kinds_taken s Sbas;
       navic = kinds_taken s Navic;
+      obs1012 = obs1012_taken s;
     }
 
 -- formula
--- whether a message of this number is converted: a 1005, a 1006, an MSM of a listed system and of its kind,
--- or, if a code of GPS is listed, a 1004 (this project's rule)
+-- whether 1004 is converted, which has satellites of GPS and of SBAS: if some code of GPS or of SBAS is listed (this
+-- project's rule)
+abbrev pub takes_1004 : SetupView → Bool
+takes_1004 s = lists_system s.head.listed Gps || lists_system s.head.listed Sbas
+
+-- formula
+-- whether a message of this number is converted: a 1005, a 1006, an MSM of a listed system and of its kind, a
+-- 1004, or a 1012, if these are (this project's rule)
 abbrev pub takes : SetupView → ℕ → Bool
-takes s number = if number == 1004 then lists_system s.head.listed Gps else accepts (taken_by s) number
+takes s number = if number == 1004 then takes_1004 s else accepts (taken_by s) number
 
 -- all listed codes are of GPS
 abbrev pub is_of_gps : SetupView → Bool
@@ -146,9 +162,11 @@ AreSameChannels channels others = (slot : ℕ) → channel_at channels slot ≡ 
 
 -- formula
 -- the cells of a message, each with its satellite and code; those of GLONASS have phases by the channels of
--- the setup
+-- the setup, and those of SBAS in a 1004 are among them if some code of SBAS is listed
 abbrev pub cells_by : SetupView → Message → List SignalEntry
-cells_by s = entries_of (channels_of s.head.glonass)
+cells_by s =
+    if lists_system s.head.listed Sbas then entries_with_sbas (channels_of s.head.glonass)
+    else entries_of (channels_of s.head.glonass)
 
 -- the last satellite of a system, if some code of it is listed, or else this one
 abbrev pub last_or : SetupView → System → ℕ → ℕ

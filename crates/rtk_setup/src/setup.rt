@@ -1,13 +1,14 @@
 //! What a conversion is set up with.
 
-ghost use Rattle.std.specs.Prelude.{◌≡◌, ◌≤◌, Some, IfSome, IfOk, IfErr, length, map, if◌then◌else◌};
-ghost use Rattle.rtk_message.specs.declared.system.System.TheVariants.{Gps};
+ghost use Rattle.std.specs.Prelude.{◌≡◌, ◌≤◌, ◌&&◌, true, Some, IfSome, IfOk, IfErr, length, map, if◌then◌else◌};
+ghost use Rattle.rtk_message.specs.declared.system.System.TheVariants.{Gps, Glonass, Sbas};
 ghost use Rattle.rtk_message.specs.Accepted.{only_kind, no_kind};
 ghost use Rattle.rtk_obs.specs.Dating.{IsReference};
 ghost use Rattle.rtk_obs.specs.AnyCode.{code_of_gps};
+ghost use Rattle.rtk_obs.specs.SbasCells.{entries_with_sbas};
 ghost use Rattle.rtk_obs.specs.SignalCells.{entries_of};
 ghost use Rattle.rtk_rinex.specs.MixedHead.{IsMixedHead};
-ghost use Rattle.rtk_setup.specs.Setup.{SetupView, IsSetupView, AreSameChannels, cells_by, is_of_gps, IsStation, IsWindow, IsLeapSeconds, all_of, with_kind, taken_by, channels_of, lists_system, mixed_head_of, mixed_setup_of, setup_of};
+ghost use Rattle.rtk_setup.specs.Setup.{SetupView, IsSetupView, AreSameChannels, cells_by, is_of_gps, IsStation, IsWindow, IsLeapSeconds, all_of, with_kind, taken_by, takes_1004, channels_of, lists_system, mixed_head_of, mixed_setup_of, setup_of};
 
 use crate::leap_seconds::LeapSeconds;
 use crate::reference::Reference;
@@ -22,11 +23,11 @@ use rtk_rinex::{CreationTime, Head, Marker, MixedHead};
 use std::marker::Model;
 
 /// The station whose messages are converted, the reference near which their clocks are dated, what is known
-/// of the file before its observations, how many epochs are kept open, and which MSM are converted.
+/// of the file before its observations, how many epochs are kept open, and which messages are converted.
 ///
 /// A system is converted if the head lists a code of it. The messages that are converted are 1005, 1006, of
-/// each of these systems the MSM of one kind, and 1004 with GPS. Every other one is counted as `other`, the
-/// MSM of another kind too.
+/// each of these systems the MSM of one kind, 1004 with GPS or SBAS, and 1012 with GLONASS, if it is asked for.
+/// Every other one is counted as `other`, the MSM of another kind too.
 #[derive(Drop)]
 pub struct Setup {
     station: Station,
@@ -35,7 +36,8 @@ pub struct Setup {
     window: Window,
     kinds: SystemKinds,
     leap_seconds: Option<u8>,
-    // The MSM that the head and the kinds come to.
+    takes_1012: bool,
+    // The messages that the head, the kinds and `takes_1012` come to.
     accepted: Accepted,
     // The channels that the head tells.
     channels: Channels,
@@ -48,10 +50,10 @@ impl Model for Setup {
 
     ghost Value = { SetupView };
 
-    ghost view = { λ s. record { station = s.station; near = s.near; head = s.head; window = s.window; kinds = s.kinds; leap_seconds = s.leap_seconds } };
+    ghost view = { λ s. record { station = s.station; near = s.near; head = s.head; window = s.window; kinds = s.kinds; leap_seconds = s.leap_seconds; takes_1012 = s.takes_1012 } };
 
-    ghost invariant = { λ s. IsSetupView (record { station = s.station; near = s.near; head = s.head; window = s.window; kinds = s.kinds; leap_seconds = s.leap_seconds })
-        × (s.accepted ≡ taken_by (record { station = s.station; near = s.near; head = s.head; window = s.window; kinds = s.kinds; leap_seconds = s.leap_seconds }))
+    ghost invariant = { λ s. IsSetupView (record { station = s.station; near = s.near; head = s.head; window = s.window; kinds = s.kinds; leap_seconds = s.leap_seconds; takes_1012 = s.takes_1012 })
+        × (s.accepted ≡ taken_by (record { station = s.station; near = s.near; head = s.head; window = s.window; kinds = s.kinds; leap_seconds = s.leap_seconds; takes_1012 = s.takes_1012 }))
         × AreSameChannels s.channels (channels_of s.head.glonass) };
 }
 
@@ -78,9 +80,16 @@ fn kinds_taken(listed: &[AnyCode], system: System, kind: MsmKind) -> MsmKinds
     }
 }
 
-// Returns the MSM that are read for these codes.
-fn accepted_by(listed: &[AnyCode], kinds: SystemKinds) -> Accepted
-    ensures { (s : SetupView) → s.head.listed ≡ listed.now → s.kinds ≡ kinds → result ≡ taken_by s }
+// Returns whether 1012 is read, which is of GLONASS, if it is asked for.
+fn reads_1012(listed: &[AnyCode], is_asked: bool) -> bool
+    ensures { result ≡ (is_asked && lists_system listed.now Glonass) }
+{
+    is_asked && lists_system(listed, System::Glonass)
+}
+
+// Returns the messages that are read for these codes.
+fn accepted_by(listed: &[AnyCode], kinds: SystemKinds, is_asked: bool) -> Accepted
+    ensures { (s : SetupView) → s.head.listed ≡ listed.now → s.kinds ≡ kinds → s.takes_1012 ≡ is_asked → result ≡ taken_by s }
 {
     Accepted {
         gps: kinds_taken(listed, System::Gps, kinds.gps),
@@ -90,6 +99,7 @@ fn accepted_by(listed: &[AnyCode], kinds: SystemKinds) -> Accepted
         qzss: kinds_taken(listed, System::Qzss, kinds.qzss),
         sbas: kinds_taken(listed, System::Sbas, kinds.sbas),
         navic: kinds_taken(listed, System::Navic, kinds.navic),
+        obs1012: reads_1012(listed, is_asked),
     }
 }
 
@@ -153,7 +163,8 @@ impl Setup {
         Setup::mixed(station, near, mixed_head(&head), window)
     }
 
-    /// Returns the setup of these parts, for a file of any systems. Its MSM of each system is MSM4.
+    /// Returns the setup of these parts, for a file of any systems. Its MSM of each system is MSM4, and 1012 is not
+    /// asked for.
     ///
     /// The file does not tell the leap seconds of the head, but those at its first record.
     pub fn mixed(station: Station, near: Reference, head: MixedHead, window: Window) -> Setup
@@ -161,7 +172,7 @@ impl Setup {
         ensures good { IsSetupView result }
     {
         let kinds = SystemKinds::all(MsmKind::Msm4);
-        let accepted = accepted_by(head.codes(), kinds);
+        let accepted = accepted_by(head.codes(), kinds, false);
         let channels = channels_of(&head);
         Setup {
             station,
@@ -170,6 +181,7 @@ impl Setup {
             window,
             kinds,
             leap_seconds: None,
+            takes_1012: false,
             accepted,
             channels,
         }
@@ -179,7 +191,7 @@ impl Setup {
     fn with_kinds(self, kinds: SystemKinds) -> Setup
         ensures { result ≡ record self { kinds = kinds } }
     {
-        let accepted = accepted_by(self.head.codes(), kinds);
+        let accepted = accepted_by(self.head.codes(), kinds, self.takes_1012);
         Setup {
             kinds,
             accepted,
@@ -209,6 +221,21 @@ impl Setup {
     {
         Setup {
             leap_seconds: Some(leap_seconds.number()),
+            ..self
+        }
+    }
+
+    /// Returns this setup with 1012 asked for. It is converted if a code of GLONASS is listed.
+    ///
+    /// A 1012 tells a time of day, and so does an MSM of GLONASS with DF416 7, which is refused without this call.
+    /// Both are dated within half a day of the reference.
+    pub fn with_1012(self) -> Setup
+        ensures { result ≡ record self { takes_1012 = true } }
+    {
+        let accepted = accepted_by(self.head.codes(), self.kinds, true);
+        Setup {
+            takes_1012: true,
+            accepted,
             ..self
         }
     }
@@ -260,6 +287,13 @@ impl Setup {
         self.leap_seconds
     }
 
+    /// Returns whether 1012 is asked for.
+    pub fn takes_1012(&self) -> bool
+        ensures { result ≡ self.now.takes_1012 }
+    {
+        self.takes_1012
+    }
+
     /// Returns whether some listed code is of a system.
     pub fn lists(&self, system: System) -> bool
         ensures { result ≡ lists_system self.now.head.listed system }
@@ -279,7 +313,7 @@ impl Setup {
         true
     }
 
-    /// Returns the MSM that are converted.
+    /// Returns the messages that are read: those that are converted, and 1004.
     pub fn accepted(&self) -> Accepted
         ensures { result ≡ taken_by self.now }
     {
@@ -294,9 +328,24 @@ impl Setup {
         self.accepted.gps.takes(self.kinds.gps)
     }
 
+    /// Returns whether satellites of SBAS are converted, those of a 1004 too.
+    pub fn takes_sbas(&self) -> bool
+        ensures { result ≡ lists_system self.now.head.listed Sbas }
+    {
+        self.accepted.sbas.takes(self.kinds.sbas)
+    }
+
+    /// Returns whether 1004 is converted. Most setups list a code of GPS, which is asked first.
+    #[inline(always)]
+    pub fn takes_1004(&self) -> bool
+        ensures { result ≡ takes_1004 self.now }
+    {
+        self.takes_gps() || self.takes_sbas()
+    }
+
     /// Returns the channels by which phases of GLONASS are made.
     pub fn channels(&self) -> &Channels
-        ensures cells { entries_of result.now ≡ cells_by self.now }
+        ensures cells { (if lists_system self.now.head.listed Sbas then entries_with_sbas result.now else entries_of result.now) ≡ cells_by self.now }
         ensures slots { AreSameChannels result.now (channels_of self.now.head.glonass) }
     {
         &self.channels

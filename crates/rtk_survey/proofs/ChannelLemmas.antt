@@ -1,12 +1,11 @@
 -- The channels that messages tell, one message after another.
-use Rattle.std.proofs.Common.{◌≡◌, ◌≢◌, ◌<◌, ◌∙◌, ◌&&◌, ℕ, Bool, true, false, List, [], ◌∷◌, Option, None, Some, length, get_or, refl, sym, ap, subst, inl, inr, arith}
+use Rattle.std.proofs.Common.{◌≡◌, ◌≢◌, ◌<◌, ◌∙◌, ℕ, Bool, true, false, cond, List, [], ◌∷◌, Option, None, Some, length, get_or, refl, sym, ap, subst, inl, inr, arith}
 use Rattle.std.proofs.lemmas.Bool.{cases_Bool}
 use Rattle.std.proofs.lemmas.List.{get_or-replicate}
 use Rattle.rtk_message.specs.declared.any_message.AnyMessage.{AnyMessage}
-use Rattle.rtk_message.specs.declared.any_message.AnyMessage.TheVariants.{Message, Msm}
-use Rattle.rtk_message.specs.declared.message.Message as four
+use Rattle.rtk_message.specs.declared.any_message.AnyMessage.TheVariants.{Message, Msm, Obs1012}
 use Rattle.rtk_message.specs.declared.msm.Msm as msm
-use Rattle.rtk_survey.specs.Channels.{tells_field_of, is_glonass, tells_field, place_of_field, IsChannelTold, CountsFields, CountsTold, CountsChannels, tells_slot_channel, slot_channel_in, tells_slot_if, tells_slot_of_1020, CountsSlots}
+use Rattle.rtk_survey.specs.Channels.{slot_field, is_field, is_glonass, is_of_glonass, tells_field, place_of_field, IsChannelTold, CountsFields, CountsTold, CountsChannels, tells_slot_channel, slot_channel_in, tells_slot_if, tells_slot_of_1020, CountsSlots}
 use Rattle.rtk_survey.specs.Steps.Fields.{TakesFields, IsTableMade}
 use Rattle.rtk_survey.specs.Counting.{count_of}
 use Rattle.rtk_survey.specs.declared.system_message.SlotChannel.{SlotChannel}
@@ -82,22 +81,20 @@ none-told {X} tells (y ∷ ys) x xs none counts = record {
 
 -- ---- a message more
 
-pub glonass-more : (old new : List ℕ) (m : msm.Msm) (ms : List AnyMessage) → is_glonass m.system ≡ true → TakesFields (tells_field_of m) old new → CountsFields tells_field old ms → CountsChannels new (Msm m ∷ ms)
-glonass-more old new m ms glonass takes had =
-    let same : (slot field : ℕ) → tells_field slot field (Msm m) ≡ tells_field_of m slot field = λ slot field. ap (λ (b : Bool). b && tells_field_of m slot field) glonass in
-    fields-more tells_field old new (Msm m) ms
-    (record {
-      size = takes.size;
-      told = λ slot field is holds. takes.told slot field is (sym (same slot field) ∙ holds);
-      others = λ slot field is fails. takes.others slot field is (sym (same slot field) ∙ fails);
-    })
-    had
+none-told-if : (m : msm.Msm) (slot field : ℕ) (b : Bool) → b ≡ false → is_field (cond b (slot_field m slot) None) field ≡ false
+none-told-if m slot field true other = cc
+none-told-if m slot field false other = refl
 
-pub beside-glonass : (table : List ℕ) (m : msm.Msm) (ms : List AnyMessage) → is_glonass m.system ≡ false → CountsChannels table ms → CountsChannels table (Msm m ∷ ms)
-beside-glonass table m ms other counts = none-told tells_field table (Msm m) ms (λ slot field is. ap (λ (b : Bool). b && tells_field_of m slot field) other) counts
+tells-none : (m : AnyMessage) (slot field : ℕ) → is_of_glonass m ≡ false → tells_field slot field m ≡ false
+tells-none (Message m) slot field other = refl
+tells-none (Msm m) slot field other = none-told-if m slot field (is_glonass m.system) other
+tells-none (Obs1012 m) slot field other = cc
 
-pub no-msm : (table : List ℕ) (m : four.Message) (ms : List AnyMessage) → CountsChannels table ms → CountsChannels table (Message m ∷ ms)
-no-msm table m ms counts = none-told tells_field table (Message m) ms (λ slot field is. refl) counts
+pub glonass-more : (old new : List ℕ) (m : AnyMessage) (ms : List AnyMessage) → TakesFields (λ slot field. tells_field slot field m) old new → CountsFields tells_field old ms → CountsChannels new (m ∷ ms)
+glonass-more old new m ms takes had = fields-more tells_field old new m ms takes had
+
+pub beside-glonass : (table : List ℕ) (m : AnyMessage) (ms : List AnyMessage) → is_of_glonass m ≡ false → CountsChannels table ms → CountsChannels table (m ∷ ms)
+beside-glonass table m ms other counts = none-told tells_field table m ms (λ slot field is. tells-none m slot field other) counts
 
 -- ---- a 1020 more
 

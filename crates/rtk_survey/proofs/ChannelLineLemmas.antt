@@ -47,7 +47,7 @@ filters-agree f g a (suc n) agree =
     ap (λ (b : Bool). cond b (a ∷ filter f (range_with_len (a + 1) n)) (filter f (range_with_len (a + 1) n))) (agree a low here)
     ∙ ap (λ (xs : List ℕ). cond (g a) (a ∷ xs) xs) rest
 
-counted-as : (table : List ℕ) (ms : List AnyMessage) (slot field : ℕ) → IsChannelTold slot field → CountsChannels table ms
+pub counted-as : (table : List ℕ) (ms : List AnyMessage) (slot field : ℕ) → IsChannelTold slot field → CountsChannels table ms
     → get_or table (place_of_field slot field) 0 ≡ count_of (tells_field slot field) ms
 counted-as [] ms slot field is counts = sym (counts slot field is)
 counted-as (x ∷ xs) ms slot field is counts = counts.counts slot field is

@@ -20,7 +20,7 @@ use Rattle.rtk_message.specs.Systems.{number_of_type}
 use Rattle.rtk_survey.specs.BesideGps.{cells_beside, has_index, has_any_code}
 use Rattle.rtk_survey.specs.Chains.{clocks_of}
 use Rattle.rtk_survey.specs.Channels.{place_is_told}
-use Rattle.rtk_survey.specs.ClockLines.{clock_lines}
+use Rattle.rtk_survey.specs.UncheckedClocks.{systems_sent, all_clock_lines}
 use Rattle.rtk_survey.specs.Counting.{count_of}
 use Rattle.rtk_survey.specs.CountingLaws.{IsReadMessage, EachFrameIsCounted, EachMessageIsCounted, StandsIn, PartsStand, StationsStand, ProposalsStand, UntakenStand}
 use Rattle.rtk_survey.specs.EquipmentHistory.{equipment_of}
@@ -30,8 +30,9 @@ use Rattle.rtk_survey.specs.FrameEquipment.{equipment_among, is_mentioned, told_
 use Rattle.rtk_survey.specs.NumberLaws.{IsHeld}
 use Rattle.rtk_survey.specs.Proposal.{epochs_in, times_with_value, epochs_with_value, entries_with}
 use Rattle.rtk_survey.specs.ReadFrames.{messages_read, ReadFrame, ReadsFrames, read_frame, with_message, with_fault, bytes_in, messages_in, faults_in, messages_from}
-use Rattle.rtk_survey.specs.Summary.{all_numbers, size_lines, epochs_beside, station_lines, lines_if_any, stations_text, weeks_text, system_weeks_text, unread_lines, summary_text}
-use Rattle.rtk_survey.specs.SummaryText.{number_line, counted_line, numbered_line, message_numbers, message_lines, system_epoch_lines, channel_line, time_lines, look_line, near_text, signal_lines, proposal_lines, all_codes_text, nothing_line, untaken_numbers}
+use Rattle.rtk_survey.specs.NextCommand.{station_proposal}
+use Rattle.rtk_survey.specs.Summary.{all_numbers, size_lines, epochs_beside, taken_beside, glonass_beside, station_lines, lines_if_any, stations_text, weeks_text, system_weeks_text, unread_lines, summary_text}
+use Rattle.rtk_survey.specs.SummaryText.{number_line, counted_line, numbered_line, message_numbers, message_lines, system_epoch_lines, channel_line, time_lines, look_line, near_text, signal_lines, all_codes_text, nothing_line, untaken_numbers}
 use Rattle.rtk_survey.specs.SystemTellings.{system_messages_in}
 use Rattle.rtk_survey.specs.declared.station_dates.StationDates.{StationDates}
 use Rattle.rtk_survey.specs.Tracing.{is_numbered, is_other, is_short, is_outside_week, is_no_number, is_too_many_cells, times_of_week, entries_in, has_satellite, has_code}
@@ -124,6 +125,7 @@ hit (any.Message (Arp1005 m)) = refl
 hit (any.Message (Arp1006 m)) = refl
 hit (any.Message (Msm1074 m)) = refl
 hit (any.Msm m) = hit-type m.system m.kind
+hit (any.Obs1012 m) = refl
 
 -- the sum of two counts of each number
 sum-both : (f g : ℕ → ℕ) (ns : List ℕ) → sum_by (λ n. f n + g n) ns ≡ sum_by f ns + sum_by g ns
@@ -205,7 +207,7 @@ epochs-are ms held = fun_ext (λ kind. let few = held kind in omega (arith, few)
 pub proposals-stand : ProposalsStand
 unfolding station_lines
 proposals-stand name station ms d e held =
-    let proposal : (MsmKind → ℕ) → List ℕ = λ epochs. proposal_lines name (near_text (proposed_date d)) station epochs (λ kind. has_code (entries_with kind ms)) in
+    let proposal : (MsmKind → ℕ) → List ℕ = λ epochs. station_proposal name (near_text (proposed_date d)) station epochs (λ kind. has_code (entries_with kind ms)) (epochs_beside ms) (taken_beside (proposed_date d) ms) (glonass_beside (proposed_date d) ms) in
     let lines : List ℕ =
     number_line (codes "station ") station
     ++ message_lines (λ n. count_of (is_numbered n) ms)
@@ -214,7 +216,7 @@ proposals-stand name station ms d e held =
     ++ signal_lines (has_satellite (entries_in ms)) (has_code (entries_in ms)) (has_index (cells_beside ms)) (has_any_code (cells_beside ms))
     ++ system_epoch_lines (epochs_beside ms)
     ++ channel_line (place_is_told ms)
-    ++ clock_lines (clocks_of ms).offsets in
+    ++ all_clock_lines (proposed_date d) (systems_sent (has_code (entries_in ms)) (has_any_code (cells_beside ms))) (clocks_of ms).offsets in
     let whole = append-nil (station_lines name station ms d e) in
     subst (λ (epochs : MsmKind → ℕ). StandsIn (proposal epochs) (station_lines name station ms d e)) (epochs-are ms held) (lines, [], sym whole)
 

@@ -11,15 +11,18 @@ pub mod FrameLemmas
 pub mod FramePlaceLemmas
 pub mod FreshLemmas
 pub mod HeadLemmas
+pub mod LeapLemmas
 pub mod LineLemmas
 pub mod LineTellingLemmas
 pub mod ListLemmas
 pub mod MapLemmas
 pub mod MsmLemmas
 pub mod NamedLemmas
+pub mod NextLemmas
 pub mod PhaseLemmas
 pub mod PlacedLemmas
 pub mod PublicLaws
+pub mod PutLemmas
 pub mod ReadLemmas
 pub mod ResultLemmas
 pub mod SignalLemmas
@@ -29,3 +32,4 @@ pub mod SystemLemmas
 pub mod SystemTellingLemmas
 pub mod TallyLemmas
 pub mod TargetLemmas
+pub mod VariantLemmas

@@ -1,5 +1,5 @@
 -- The lines of what a summary holds.
-use Rattle.std.proofs.Common.{None, Some, take, ◌≡◌, ◌<◌, ◌+◌, ◌/◌, ◌%◌, ◌==◌, ℕ, suc, Bool, true, false, cond, List, [], ◌∷◌, ◌++◌, length, get_or, drop, decimal, refl, sym, ap, ◌∙◌, append_assoc, drop-cons, arith}
+use Rattle.std.proofs.Common.{Option, None, Some, take, ◌≡◌, ◌<◌, ◌+◌, ◌/◌, ◌%◌, ◌==◌, ℕ, suc, Bool, true, false, cond, List, [], ◌∷◌, ◌++◌, length, get_or, drop, decimal, refl, sym, ap, ◌∙◌, append_assoc, drop-cons, arith}
 use Rattle.std.specs.Prelude.{flat_map, filter, codes}
 use Rattle.std.specs.List.{AllByRecursion}
 use Rattle.rtk_obs.specs.declared.any_code.AnyCode.{AnyCode}
@@ -11,8 +11,7 @@ use Rattle.rtk_message.specs.declared.msm_kind.MsmKind.{MsmKind}
 use Rattle.rtk_message.specs.declared.any_message.AnyMessage.{AnyMessage}
 use Rattle.rtk_survey.specs.BesideGps.{cells_beside, has_index, has_any_code}
 use Rattle.rtk_survey.specs.Chains.{clocks_of, clocks_at}
-use Rattle.rtk_survey.specs.Channels.{place_is_told}
-use Rattle.rtk_survey.specs.ClockLines.{clock_lines}
+use Rattle.rtk_survey.specs.Channels.{CountsChannels, place_is_told}
 use Rattle.rtk_survey.specs.Counting.{count_of}
 use Rattle.rtk_survey.specs.Look.{look_of, look_name}
 use Rattle.rtk_survey.specs.Surveys.{look_if_empty}
@@ -21,21 +20,26 @@ use Rattle.rtk_survey.specs.declared.equipment.Equipment.{Equipment}
 use Rattle.rtk_survey.specs.FrameDates.{proposed_date}
 use Rattle.rtk_survey.specs.FrameEquipment.{told_lines}
 use Rattle.rtk_survey.specs.Proposal.{epochs_with_value, entries_with}
-use Rattle.rtk_survey.specs.Summary.{all_numbers, epochs_beside, station_lines}
-use Rattle.rtk_survey.specs.SummaryText.{look_line, number_line, numbered_line, message_numbers, message_lines, system_epoch_lines, channel_line, list_line, time_lines, near_text, untaken_numbers, listed_satellite, satellites_text, listed_index, indices_text, joined_names, joined_texts, all_codes_text, words_text, auto_line, next_lines, signal_lines, proposal_lines}
+use Rattle.rtk_survey.specs.NextCommand.{station_proposal}
+use Rattle.rtk_survey.specs.Steps.OtherSystems.{glonass_held, taken_held}
+use Rattle.rtk_survey.specs.Summary.{all_numbers, epochs_beside, taken_beside, glonass_beside, station_lines}
+use Rattle.rtk_survey.specs.SummaryText.{look_line, number_line, numbered_line, message_numbers, message_lines, system_epoch_lines, channel_line, list_line, time_lines, near_text, untaken_numbers, listed_satellite, satellites_text, listed_index, indices_text, joined_names, joined_texts, all_codes_text, words_text, auto_line, next_lines, signal_lines}
 use Rattle.std.specs.BTreeMap.{BTreeMap}
-use Rattle.rtk_survey.specs.Contents.{count_at, HasCodes, HasSignals, HasSystemSignals, IsStationOf, HasMsms, equipment_at, epochs_held, codes_held}
+use Rattle.rtk_survey.specs.Contents.{count_at, HasCodes, HasSignals, HasSystemSignals, HasSystems, IsStationOf, HasMsms, equipment_at, epochs_held, codes_held, times_of}
 use Rattle.rtk_survey.specs.Steps.Tables.{counts_text, untaken_text, look_lines, messages_held, system_epochs_held, place_is_counted}
 use Rattle.rtk_survey.specs.Tracing.{is_numbered, entries_in, has_satellite, has_code, times_of_week}
+use Rattle.rtk_survey.specs.UncheckedClocks.{systems_sent, all_clock_lines}
 use Rattle.rtk_survey.specs.declared.station_dates.StationDates.{StationDates}
-use Rattle.rtk_survey.specs.declared.msm_parts.MsmParts.{MsmParts}
+use Rattle.rtk_survey.specs.declared.date_message.UtcDate.{UtcDate}
 use Rattle.rtk_survey.specs.declared.signals.Codes.{Codes}
 use Rattle.rtk_survey.specs.declared.signals.Signals.{Signals}
 use Rattle.rtk_survey.specs.declared.clock_chains.ClockSurvey.{ClockSurvey}
 use Rattle.rtk_survey.specs.declared.station.StationSurvey.{StationSurvey}
 use Rattle.rtk_survey.specs.declared.system_signals.SystemSignals.{SystemSignals}
+use Rattle.rtk_survey.specs.declared.systems_sent.SystemsSent.{SystemsSent}
 use Rattle.rtk_survey.proofs.ChannelLineLemmas.{channel-line-is}
 use Rattle.rtk_survey.proofs.ListLemmas.{lines-agree}
+use Rattle.rtk_survey.proofs.NextLemmas.{taken-is, glonass-is}
 use Rattle.rtk_survey.proofs.MsmLemmas.{codes-marked, epochs-are, codes-held-are}
 use Rattle.rtk_survey.proofs.SystemLemmas.{any_codes_held, any-codes-marked, epochs-beside-are, counts-held}
 
@@ -117,10 +121,10 @@ code-left marked codes i d whole within marks so_far =
     let first : filter marked (drop i all_codes) ≡ rest = ap (λ cs. filter marked cs) (code-first i d within) ∙ ap (λ b. cond b (c ∷ rest) rest) marks in
     ap (λ cs. codes ++ cs) (sym first) ∙ so_far
 
-pub next-lines-are : (name near : List ℕ) (station : ℕ) (named : MsmKind) (names : List ℕ) → (length names ≡ 0 → ⊥)
-    → next_lines name near station named names ≡ codes " next rtcm2rinex convert --station " ++ decimal station ++ codes " --near " ++ near ++ words_text name station named names ++ auto_line name station
-next-lines-are name near station named [] some = absurd (some refl)
-next-lines-are name near station named (x ∷ xs) some = refl
+pub next-lines-are : (name near : List ℕ) (station : ℕ) (options names : List ℕ) → (length names ≡ 0 → ⊥)
+    → next_lines name near station options names ≡ codes " next rtcm2rinex convert --station " ++ decimal station ++ codes " --near " ++ near ++ words_text name station options names ++ auto_line name station
+next-lines-are name near station options [] some = absurd (some refl)
+next-lines-are name near station options (x ∷ xs) some = refl
 
 -- a code of another system than GPS that has a value is the next name
 any-code-first : (i : ℕ) (d : AnyCode) → i < 69 → drop i all_any_codes ≡ get_or all_any_codes i d ∷ drop (i + 1) all_any_codes
@@ -179,13 +183,29 @@ signals-are s o ms stands others =
     ∙ ap (λ (t : List ℕ). lines (satellites_text (has_satellite es) ++ t) coded) b
     ∙ ap (λ (t : List ℕ). lines (satellites_text (has_satellite es) ++ indices_text (has_index cs)) t) (all-codes-are s.codes o ms stands.codes others)
 
+sent-are : (c : Codes) (s : SystemSignals) (ms : List AnyMessage) → HasCodes c (entries_in ms) → HasSystemSignals s (cells_beside ms)
+    → systems_sent (λ code. get_or c.marks (place_of code) false) (λ code. get_or s.codes (number_of code) false) ≡ systems_sent (has_code (entries_in ms)) (has_any_code (cells_beside ms))
+sent-are c s ms has others =
+    ap (λ (t : Code → Bool). systems_sent t (any_codes_held s)) (codes-marked c (entries_in ms) has)
+    ∙ ap (λ (t : AnyCode → Bool). systems_sent (has_code (entries_in ms)) t) (any-codes-marked s (cells_beside ms) others)
+
 -- ---- a station
 
-pub proposal-is : (name near : List ℕ) (number : ℕ) (p : MsmParts) (ms : List AnyMessage) → HasMsms p ms
-    → proposal_lines name near number (epochs_held p) (codes_held p) ≡ proposal_lines name near number (λ kind. epochs_with_value kind ms) (λ kind. has_code (entries_with kind ms))
-proposal-is name near number p ms stand =
-    ap (λ (e : MsmKind → ℕ). proposal_lines name near number e (codes_held p)) (epochs-are p ms stand)
-    ∙ ap (λ (t : MsmKind → Code → Bool). proposal_lines name near number (λ kind. epochs_with_value kind ms) t) (codes-held-are p ms stand)
+-- the command by what is held is that by the messages
+pub proposal-is : (name near : List ℕ) (number : ℕ) (date : Option UtcDate) (s : StationSurvey) (ms : List AnyMessage) → HasMsms s.msm ms → HasSystems s.system_msm ms
+    → CountsChannels s.channels.items ms → clocks_at s.clocks ≡ clocks_of ms → s.times ≡ times_of (times_of_week ms)
+    → station_proposal name near number (epochs_held s.msm) (codes_held s.msm) (system_epochs_held s) (taken_held date s) (glonass_held date s)
+    ≡ station_proposal name near number (λ kind. epochs_with_value kind ms) (λ kind. has_code (entries_with kind ms)) (epochs_beside ms) (taken_beside date ms) (glonass_beside date ms)
+proposal-is name near number date s ms own beside channels clocks times =
+    let epochs : MsmKind → ℕ = λ kind. epochs_with_value kind ms in
+    let code : MsmKind → Code → Bool = λ kind. has_code (entries_with kind ms) in
+    let taken : AnyCode → Bool = taken_held date s in
+    let items : List ℕ = glonass_held date s in
+    ap (λ (e : MsmKind → ℕ). station_proposal name near number e (codes_held s.msm) (system_epochs_held s) taken items) (epochs-are s.msm ms own)
+    ∙ ap (λ (t : MsmKind → Code → Bool). station_proposal name near number epochs t (system_epochs_held s) taken items) (codes-held-are s.msm ms own)
+    ∙ ap (λ (e : ℕ → ℕ). station_proposal name near number epochs code e taken items) (epochs-beside-are s ms beside)
+    ∙ ap (λ (t : AnyCode → Bool). station_proposal name near number epochs code (epochs_beside ms) t items) (taken-is date s ms beside clocks times)
+    ∙ ap (λ (t : List ℕ). station_proposal name near number epochs code (epochs_beside ms) (taken_beside date ms) t) (glonass-is date s ms beside channels times)
 
 -- a survey has its own dates, antenna and receiver
 pub own-survey : (ms : List AnyMessage) (d : StationDates) (e : Equipment) (s : StationSurvey) → IsStationOf ms d e s → IsStationOf ms s.dates (equipment_at s.equipment) s
@@ -214,8 +234,8 @@ lines_held name number s d e times =
     ++ signal_lines (λ n. get_or s.signals.satellites n false) (λ c. get_or s.signals.codes.marks (place_of c) false) (λ n. get_or s.system_signals.satellites n false) (λ c. get_or s.system_signals.codes (number_of c) false)
     ++ system_epoch_lines (system_epochs_held s)
     ++ channel_line (place_is_counted s.channels.items)
-    ++ clock_lines (clocks_at s.clocks).offsets
-    ++ proposal_lines name (near_text (proposed_date d)) number (epochs_held s.msm) (codes_held s.msm)
+    ++ all_clock_lines (proposed_date d) (systems_sent (λ c. get_or s.signals.codes.marks (place_of c) false) (λ c. get_or s.system_signals.codes (number_of c) false)) (clocks_at s.clocks).offsets
+    ++ station_proposal name (near_text (proposed_date d)) number (epochs_held s.msm) (codes_held s.msm) (system_epochs_held s) (taken_held (proposed_date d) s) (glonass_held (proposed_date d) s)
 
 -- the lines of the counts of messages
 messages-agree : (s : StationSurvey) (ms : List AnyMessage) (d : StationDates) (e : Equipment) → IsStationOf ms d e s → message_lines (messages_held s) ≡ message_lines (λ n. count_of (is_numbered n) ms)
@@ -235,19 +255,23 @@ station-lines-are name number s d e ms stands =
     let dates : List ℕ = told_lines d e in
     let near : List ℕ = near_text (proposed_date d) in
     let signals : List ℕ = signal_lines (has_satellite (entries_in ms)) (has_code (entries_in ms)) (has_index (cells_beside ms)) (has_any_code (cells_beside ms)) in
-    let proposal : List ℕ = proposal_lines name near number (λ kind. epochs_with_value kind ms) (λ kind. has_code (entries_with kind ms)) in
+    let proposal : List ℕ = station_proposal name near number (λ kind. epochs_with_value kind ms) (λ kind. has_code (entries_with kind ms)) (epochs_beside ms) (taken_beside (proposed_date d) ms) (glonass_beside (proposed_date d) ms) in
     let messages' : List ℕ = message_lines (messages_held s) in
     let signals' : List ℕ = signal_lines (λ n. get_or s.signals.satellites n false) (λ c. get_or s.signals.codes.marks (place_of c) false) (λ n. get_or s.system_signals.satellites n false) (λ c. get_or s.system_signals.codes (number_of c) false) in
     let channels : List ℕ = channel_line (place_is_told ms) in
-    let clocks : List ℕ = clock_lines (clocks_of ms).offsets in
+    let date = proposed_date d in
+    let sent : SystemsSent = systems_sent (has_code (entries_in ms)) (has_any_code (cells_beside ms)) in
+    let sent' : SystemsSent = systems_sent (λ c. get_or s.signals.codes.marks (place_of c) false) (λ c. get_or s.system_signals.codes (number_of c) false) in
+    let clocks : List ℕ = all_clock_lines date sent (clocks_of ms).offsets in
     let channels' : List ℕ = channel_line (place_is_counted s.channels.items) in
     let epochs' : List ℕ = system_epoch_lines (system_epochs_held s) in
     ap (λ (t : List ℕ). head ++ t ++ times ++ dates ++ signals ++ system_epoch_lines (epochs_beside ms) ++ channels ++ clocks ++ proposal) (sym (messages-agree s ms d e stands))
     ∙ ap (λ (t : List ℕ). head ++ messages' ++ times ++ dates ++ t ++ system_epoch_lines (epochs_beside ms) ++ channels ++ clocks ++ proposal) (sym (signals-are s.signals s.system_signals ms stands.signals stands.system_signals))
     ∙ ap (λ (t : ℕ → ℕ). head ++ messages' ++ times ++ dates ++ signals' ++ system_epoch_lines t ++ channels ++ clocks ++ proposal) (sym (epochs-beside-are s ms stands.system_msm))
     ∙ ap (λ (t : List ℕ). head ++ messages' ++ times ++ dates ++ signals' ++ epochs' ++ t ++ clocks ++ proposal) (sym (channel-line-is s.channels.items ms stands.channels))
-    ∙ ap (λ (x : ClockSurvey). head ++ messages' ++ times ++ dates ++ signals' ++ epochs' ++ channels' ++ clock_lines x.offsets ++ proposal) (sym stands.clocks)
-    ∙ ap (λ (t : List ℕ). head ++ messages' ++ times ++ dates ++ signals' ++ epochs' ++ channels' ++ clock_lines (clocks_at s.clocks).offsets ++ t) (sym (proposal-is name near number s.msm ms stands.msm))
+    ∙ ap (λ (x : ClockSurvey). head ++ messages' ++ times ++ dates ++ signals' ++ epochs' ++ channels' ++ all_clock_lines date sent x.offsets ++ proposal) (sym stands.clocks)
+    ∙ ap (λ (x : SystemsSent). head ++ messages' ++ times ++ dates ++ signals' ++ epochs' ++ channels' ++ all_clock_lines date x (clocks_at s.clocks).offsets ++ proposal) (sym (sent-are s.signals.codes s.system_signals ms stands.signals.codes stands.system_signals))
+    ∙ ap (λ (t : List ℕ). head ++ messages' ++ times ++ dates ++ signals' ++ epochs' ++ channels' ++ all_clock_lines date sent' (clocks_at s.clocks).offsets ++ t) (sym (proposal-is name near number (proposed_date d) s ms stands.msm stands.system_msm stands.channels stands.clocks stands.times))
 
 -- ---- a file without a frame
 

@@ -16,7 +16,7 @@ use Rattle.rtk_obs.specs.declared.code.Code.TheVariants.{G2P, G2W}
 use Rattle.rtk_survey.specs.Counting.{shown_count}
 use Rattle.rtk_survey.specs.NumberLaws.{IsHeld, NumberLineTells, CountedLineTells, NumberedLineTells, TimesAreAlike, TimeLinesTell, ProposalLinesTell, EpochsAreCounted}
 use Rattle.rtk_survey.specs.Proposal.{proposed}
-use Rattle.rtk_survey.specs.SummaryText.{number_line, counted_line, numbered_line, time_line, time_lines, second_frequency_line, other_msm_lines, words_text, auto_line, next_lines, proposal_lines, codes_text}
+use Rattle.rtk_survey.specs.SummaryText.{number_line, counted_line, numbered_line, time_line, time_lines, second_frequency_line, other_msm_lines, words_text, auto_line, next_lines, proposal_lines, all_codes_text}
 use Rattle.rtk_survey.specs.Tracing.{oldest_time, newest_time, change_from, changes_in}
 use Rattle.rtk_message.proofs.PublicLaws.{number-then}
 use Rattle.rtk_survey.proofs.HeadLemmas.{AreApart, apart, IsNotHeaded, not-headed-table, line-then, some-then, lines_by_number, words_of, NumbersRise, table-then, opened}
@@ -204,25 +204,25 @@ each-kind epochs others Msm7 Msm5 all other = all.1.0
 each-kind epochs others Msm7 Msm6 all other = all.1.1.0
 each-kind epochs others Msm7 Msm7 all other = absurd (other refl)
 
-not-headed-next : (w name near : List ℕ) (station : ℕ) (named : MsmKind) (names : List ℕ) → AreApart w (codes " next ") → IsNotHeaded w [] → IsNotHeaded w (next_lines name near station named names)
-not-headed-next w name near station named [] other end = end
-not-headed-next w name near station named (x ∷ xs) other end = λ rest is. other rest _ (sym is)
+not-headed-next : (w name near : List ℕ) (station : ℕ) (options names : List ℕ) → AreApart w (codes " next ") → IsNotHeaded w [] → IsNotHeaded w (next_lines name near station options names)
+not-headed-next w name near station options [] other end = end
+not-headed-next w name near station options (x ∷ xs) other end = λ rest is. other rest _ (sym is)
 
 next-regrouped : (a d b n w o : List ℕ) → a ++ d ++ b ++ n ++ w ++ o ≡ a ++ (d ++ (b ++ (n ++ (w ++ o))))
 next-regrouped a d b n w o = simp append_assoc
 
-next-opened : (name near : List ℕ) (station : ℕ) (named : MsmKind) (x : ℕ) (xs : List ℕ) → next_lines name near station named (x ∷ xs)
-    ≡ codes " next rtcm2rinex convert --station " ++ (decimal station ++ (codes " --near " ++ (near ++ (words_text name station named (x ∷ xs) ++ auto_line name station))))
-next-opened name near station named x xs =
-    next-regrouped (codes " next rtcm2rinex convert --station ") (decimal station) (codes " --near ") near (words_text name station named (x ∷ xs)) (auto_line name station)
+next-opened : (name near : List ℕ) (station : ℕ) (options : List ℕ) (x : ℕ) (xs : List ℕ) → next_lines name near station options (x ∷ xs)
+    ≡ codes " next rtcm2rinex convert --station " ++ (decimal station ++ (codes " --near " ++ (near ++ (words_text name station options (x ∷ xs) ++ auto_line name station))))
+next-opened name near station options x xs =
+    next-regrouped (codes " next rtcm2rinex convert --station ") (decimal station) (codes " --near ") near (words_text name station options (x ∷ xs)) (auto_line name station)
 
-next-tells : (name near other_name other_near : List ℕ) (station other : ℕ) (named : MsmKind) (names others : List ℕ) → IsHeld station → IsHeld other
-    → next_lines name near station named names ≡ next_lines other_name other_near other named others → names ≢ [] → station ≡ other
-next-tells name near other_name other_near station other named [] others held fits same some = absurd (some refl)
-next-tells name near other_name other_near station other named (x ∷ xs) [] held fits same some = cc
-next-tells name near other_name other_near station other named (x ∷ xs) (y ∷ ys) held fits same some =
+next-tells : (name near other_name other_near : List ℕ) (station other : ℕ) (options choices names others : List ℕ) → IsHeld station → IsHeld other
+    → next_lines name near station options names ≡ next_lines other_name other_near other choices others → names ≢ [] → station ≡ other
+next-tells name near other_name other_near station other options choices [] others held fits same some = absurd (some refl)
+next-tells name near other_name other_near station other options choices (x ∷ xs) [] held fits same some = cc
+next-tells name near other_name other_near station other options choices (x ∷ xs) (y ∷ ys) held fits same some =
     (number-then station other 32 _ _ held fits (λ digit. omega (arith, digit))
-    (append_cancel_left (codes " next rtcm2rinex convert --station ") _ _ (sym (next-opened name near station named x xs) ∙ same ∙ next-opened other_name other_near other named y ys))).0
+    (append_cancel_left (codes " next rtcm2rinex convert --station ") _ _ (sym (next-opened name near station options x xs) ∙ same ∙ next-opened other_name other_near other choices y ys))).0
 
 -- a line that may be left out
 line-or-none : (b c : Bool) (words s t : List ℕ) → IsNotHeaded words s → IsNotHeaded words t → cond b words [] ++ s ≡ cond c words [] ++ t → s ≡ t
@@ -233,34 +233,34 @@ line-or-none false false words s t here there same = same
 
 pub proposal-tells : ProposalLinesTell
 unfolding proposal_lines
-proposal-tells name names_there near far station other epochs others code test held fits few less named same =
+proposal-tells name names_there near far station other epochs others code test beside tested options choices held fits few less named same =
     let kind : MsmKind = proposed epochs in
-    let names : List ℕ = codes_text (code kind) in
-    let named_there : List ℕ = codes_text (test kind) in
+    let names : List ℕ = all_codes_text (code kind) beside in
+    let named_there : List ℕ = all_codes_text (test kind) tested in
     let f : ℕ → ℕ = λ n. epochs (kind_at n) in
     let g : ℕ → ℕ = λ n. others (kind_at n) in
-    let left : List ℕ = next_lines name near station kind names in
-    let right : List ℕ = next_lines names_there far other kind named_there in
+    let left : List ℕ = next_lines name near station (options kind) names in
+    let right : List ℕ = next_lines names_there far other (choices kind) named_there in
     let lines : List ℕ = lines_by_number (codes " other-msm ") f (numbers_but kind) in
     let more : List ℕ = lines_by_number (codes " other-msm ") g (numbers_but kind) in
-    let here : proposal_lines name near station epochs code ≡ second_frequency_line (code kind) ++ (lines ++ left) =
+    let here : proposal_lines name near station epochs code beside options ≡ second_frequency_line (code kind) ++ (lines ++ left) =
     ap (λ (t : List ℕ). second_frequency_line (code kind) ++ t ++ left) (others-are epochs kind) ∙ append_assoc (second_frequency_line (code kind)) lines left in
-    let there : proposal_lines names_there far other others test ≡ second_frequency_line (test kind) ++ (more ++ right) =
-    ap (λ (k : MsmKind). second_frequency_line (test k) ++ other_msm_lines others k ++ next_lines names_there far other k (codes_text (test k))) (sym named)
+    let there : proposal_lines names_there far other others test tested choices ≡ second_frequency_line (test kind) ++ (more ++ right) =
+    ap (λ (k : MsmKind). second_frequency_line (test k) ++ other_msm_lines others k ++ next_lines names_there far other (choices k) (all_codes_text (test k) tested)) (sym named)
     ∙ ap (λ (t : List ℕ). second_frequency_line (test kind) ++ t ++ right) (others-are others kind) ∙ append_assoc (second_frequency_line (test kind)) more right in
     let second : List ℕ = codes " second-frequency 2P\n" in
     let second-next = apart second (codes " next ") refl in
     let second-msm = apart second (codes " other-msm ") refl in
     let behind = line-or-none (code kind G2P && not (code kind G2W)) (test kind G2P && not (test kind G2W)) second (lines ++ left) (more ++ right)
-    (not-headed-table second (codes " other-msm ") f (numbers_but kind) left second-msm (not-headed-next second name near station kind names second-next (λ rest is. cc)))
-    (not-headed-table second (codes " other-msm ") g (numbers_but kind) right second-msm (not-headed-next second names_there far other kind named_there second-next (λ rest is. cc)))
+    (not-headed-table second (codes " other-msm ") f (numbers_but kind) left second-msm (not-headed-next second name near station (options kind) names second-next (λ rest is. cc)))
+    (not-headed-table second (codes " other-msm ") g (numbers_but kind) right second-msm (not-headed-next second names_there far other (choices kind) named_there second-next (λ rest is. cc)))
     (sym here ∙ same ∙ there) in
     let msm-next = apart (codes " other-msm ") (codes " next ") refl in
     let told = table-then (codes " other-msm ") f g (numbers_but kind) left right (numbers-rise kind) (λ n. few (kind_at n)) (λ n. less (kind_at n))
-    (not-headed-next (codes " other-msm ") name near station kind names msm-next (λ rest is. cc)) (not-headed-next (codes " other-msm ") names_there far other kind named_there msm-next (λ rest is. cc)) behind in
+    (not-headed-next (codes " other-msm ") name near station (options kind) names msm-next (λ rest is. cc)) (not-headed-next (codes " other-msm ") names_there far other (choices kind) named_there msm-next (λ rest is. cc)) behind in
     record {
       epochs_are = λ k different. each-kind epochs others kind k told.0 different;
-      station_is = λ some. next-tells name near names_there far station other kind names named_there held fits told.1 some;
+      station_is = λ some. next-tells name near names_there far station other (options kind) (choices kind) names named_there held fits told.1 some;
     }
 
 pub epochs-counted : EpochsAreCounted

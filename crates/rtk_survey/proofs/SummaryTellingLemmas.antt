@@ -9,7 +9,7 @@ use Rattle.rtk_message.specs.declared.any_fault.AnyFault.{AnyFault}
 use Rattle.rtk_survey.specs.BesideGps.{cells_beside, has_index, has_any_code}
 use Rattle.rtk_survey.specs.Chains.{clocks_of}
 use Rattle.rtk_survey.specs.Channels.{place_is_told}
-use Rattle.rtk_survey.specs.ClockLines.{clock_lines}
+use Rattle.rtk_survey.specs.UncheckedClocks.{systems_sent, all_clock_lines}
 use Rattle.rtk_survey.specs.Counting.{shown_count, count_of}
 use Rattle.rtk_survey.specs.NumberLaws.{SummaryTellsFrames, StationLinesTell, UnreadLinesTell}
 use Rattle.rtk_survey.specs.Proposal.{epochs_with_value, entries_with}
@@ -17,10 +17,11 @@ use Rattle.rtk_survey.specs.ReadFrames.{ReadFrame, bytes_in, messages_in, faults
 use Rattle.rtk_survey.specs.declared.equipment.Equipment.{Equipment}
 use Rattle.rtk_survey.specs.FrameDates.{dates_in, proposed_date}
 use Rattle.rtk_survey.specs.FrameEquipment.{equipment_among, told_lines}
-use Rattle.rtk_survey.specs.Summary.{all_numbers, epochs_beside, station_lines, stations_text, weeks_text, system_weeks_text, unread_lines, summary_text}
+use Rattle.rtk_survey.specs.NextCommand.{station_proposal}
+use Rattle.rtk_survey.specs.Summary.{all_numbers, epochs_beside, taken_beside, glonass_beside, station_lines, stations_text, weeks_text, system_weeks_text, unread_lines, summary_text}
 use Rattle.rtk_survey.specs.SystemTellings.{system_messages_in}
 use Rattle.rtk_survey.specs.declared.station_dates.StationDates.{StationDates}
-use Rattle.rtk_survey.specs.SummaryText.{number_line, counted_line, message_numbers, message_lines, system_epoch_lines, channel_line, time_lines, look_line, near_text, signal_lines, proposal_lines, all_codes_text, nothing_line, untaken_numbers}
+use Rattle.rtk_survey.specs.SummaryText.{number_line, counted_line, message_numbers, message_lines, system_epoch_lines, channel_line, time_lines, look_line, near_text, signal_lines, all_codes_text, nothing_line, untaken_numbers}
 use Rattle.rtk_survey.specs.Tracing.{is_numbered, is_other, is_short, is_outside_week, is_no_number, is_too_many_cells, gps_time_of, times_of_week, entries_in, has_satellite, has_code}
 use Rattle.rtk_survey.proofs.HeadLemmas.{differ, apart, IsNotHeaded, not-headed-line, not-headed-table, line-then, counted-then, lines_by_number, NumbersRise, FirstIsAbove, table-then}
 use Rattle.rtk_survey.proofs.LineTellingLemmas.{times-then, not-headed-times}
@@ -56,7 +57,7 @@ grouped n m t w s e c k p = simp append_assoc
 
 messages-rise : NumbersRise message_numbers
 messages-rise =
-    (omega arith, omega arith, (omega arith, omega arith, (omega arith, omega arith, (omega arith, omega arith, (omega arith, omega arith, (omega arith, omega arith, (omega arith, omega arith, (omega arith, omega arith, (omega arith, omega arith, (omega arith, omega arith, (omega arith, omega arith, (omega arith, omega arith, (omega arith, omega arith, (omega arith, omega arith, (omega arith, omega arith, (omega arith, omega arith, (omega arith, omega arith, (omega arith, omega arith, (omega arith, omega arith, (omega arith, omega arith, (omega arith, omega arith, (omega arith, omega arith, (omega arith, omega arith, (omega arith, omega arith, (omega arith, omega arith, (omega arith, omega arith, (omega arith, omega arith, (omega arith, omega arith, (omega arith, omega arith, (omega arith, omega arith, (omega arith, tt, tt)))))))))))))))))))))))))))))))
+    (omega arith, omega arith, (omega arith, omega arith, (omega arith, omega arith, (omega arith, omega arith, (omega arith, omega arith, (omega arith, omega arith, (omega arith, omega arith, (omega arith, omega arith, (omega arith, omega arith, (omega arith, omega arith, (omega arith, omega arith, (omega arith, omega arith, (omega arith, omega arith, (omega arith, omega arith, (omega arith, omega arith, (omega arith, omega arith, (omega arith, omega arith, (omega arith, omega arith, (omega arith, omega arith, (omega arith, omega arith, (omega arith, omega arith, (omega arith, omega arith, (omega arith, omega arith, (omega arith, omega arith, (omega arith, omega arith, (omega arith, omega arith, (omega arith, omega arith, (omega arith, omega arith, (omega arith, omega arith, (omega arith, omega arith, (omega arith, omega arith, (omega arith, tt, tt))))))))))))))))))))))))))))))))
 
 -- what stands behind the times
 behind_times : List ℕ → ℕ → List AnyMessage → StationDates → Equipment → List ℕ
@@ -64,8 +65,8 @@ behind_times name station ms d e =
     told_lines d e ++ signal_lines (has_satellite (entries_in ms)) (has_code (entries_in ms)) (has_index (cells_beside ms)) (has_any_code (cells_beside ms))
     ++ system_epoch_lines (epochs_beside ms)
     ++ channel_line (place_is_told ms)
-    ++ clock_lines (clocks_of ms).offsets
-    ++ proposal_lines name (near_text (proposed_date d)) station (λ kind. epochs_with_value kind ms) (λ kind. has_code (entries_with kind ms))
+    ++ all_clock_lines (proposed_date d) (systems_sent (has_code (entries_in ms)) (has_any_code (cells_beside ms))) (clocks_of ms).offsets
+    ++ station_proposal name (near_text (proposed_date d)) station (λ kind. epochs_with_value kind ms) (λ kind. has_code (entries_with kind ms)) (epochs_beside ms) (taken_beside (proposed_date d) ms) (glonass_beside (proposed_date d) ms)
 
 station-is : (name : List ℕ) (station : ℕ) (ms : List AnyMessage) (d : StationDates) (e : Equipment) → station_lines name station ms d e
     ≡ number_line (codes "station ") station
@@ -75,8 +76,8 @@ unfolding station_lines message_lines behind_times
 station-is name station ms d e =
     grouped (number_line (codes "station ") station) (lines_by_number (codes " message ") (λ n. count_of (is_numbered n) ms) message_numbers)
     (time_lines (times_of_week ms)) (told_lines d e) (signal_lines (has_satellite (entries_in ms)) (has_code (entries_in ms)) (has_index (cells_beside ms)) (has_any_code (cells_beside ms)))
-    (system_epoch_lines (epochs_beside ms)) (channel_line (place_is_told ms)) (clock_lines (clocks_of ms).offsets)
-    (proposal_lines name (near_text (proposed_date d)) station (λ kind. epochs_with_value kind ms) (λ kind. has_code (entries_with kind ms)))
+    (system_epoch_lines (epochs_beside ms)) (channel_line (place_is_told ms)) (all_clock_lines (proposed_date d) (systems_sent (has_code (entries_in ms)) (has_any_code (cells_beside ms))) (clocks_of ms).offsets)
+    (station_proposal name (near_text (proposed_date d)) station (λ kind. epochs_with_value kind ms) (λ kind. has_code (entries_with kind ms)) (epochs_beside ms) (taken_beside (proposed_date d) ms) (glonass_beside (proposed_date d) ms))
 
 pub station-tells : StationLinesTell
 station-tells name names station other ms ns d dates e equipment held fits few less times alike same =

@@ -2,7 +2,7 @@
 use Rattle.std.proofs.Common.{◌≡◌, ◌≢◌, ◌<◌, ◌+◌, ◌-◌, ◌==◌, ◌&&◌, ◌∙◌, ◌++◌, ℕ, ℤ, zero, suc, Bool, true, false, not, cond, List, [], ◌∷◌, Option, None, Some, length, take, get_or, replicate, refl, sym, ap, subst, inl, inr, ne_eqb, arith}
 use Rattle.std.specs.Prelude.{filter, nat_le}
 use Rattle.std.specs.BTreeMap.{BTreeMap, get, is_at, Updates}
-use Rattle.std.specs.List.{AllByRecursion, filter_map}
+use Rattle.std.specs.List.{AllByRecursion, filter_map, flat_map}
 use Rattle.std.specs.Map.{lookup}
 use Rattle.std.specs.Option.{unwrap_or}
 use Rattle.std.specs.Ordering.{nat_cmp}
@@ -12,11 +12,13 @@ use Rattle.std.proofs.lemmas.List.Sums.{length-filter}
 use Rattle.rtk_message.specs.declared.any_message.AnyMessage.{AnyMessage}
 use Rattle.rtk_message.specs.AnyDecoded.{number_of}
 use Rattle.rtk_message.specs.declared.msm.Msm.{Msm}
+use Rattle.rtk_message.specs.declared.obs1012.GlonassSatellite.{GlonassSatellite}
 use Rattle.rtk_message.specs.declared.system.System.{System}
 use Rattle.rtk_message.specs.declared.system.System.TheVariants.{Gps, Glonass, Galileo, Beidou, Qzss, Sbas, Navic}
 use Rattle.rtk_obs.specs.declared.any_code.AnyCode.{AnyCode}
 use Rattle.rtk_obs.specs.declared.signal_cells.SignalEntry.{SignalEntry}
 use Rattle.rtk_obs.specs.AnyCode as any_code
+use Rattle.rtk_obs.specs.GlonassCells.{unless_other_in_1012, glonass_entries, first_of_slots, entries_of_1012}
 use Rattle.rtk_obs.specs.Carriers.{channel_at}
 use Rattle.rtk_obs.specs.Mask.{join_from}
 use Rattle.rtk_obs.specs.MsmCells.{Slot, slots_of}
@@ -67,6 +69,11 @@ pub cells-without : (channels : List (Option ℤ)) (m : Msm) → ((slot : ℕ) �
 cells-without channels m none =
     ap (λ (f : ℕ → Slot → List SignalEntry). join_from f 0 (slots_of m.header m.cell_mask))
     (fun_ext (λ k. fun_ext (λ s. entry-same channels no_channels m (λ slot. none slot ∙ sym (none-of-none 27 (slot - 1))) k s)))
+
+pub cells-of-1012-without : (channels : List (Option ℤ)) (ss : List GlonassSatellite) → ((slot : ℕ) → channel_at channels slot ≡ None) → entries_of_1012 channels ss ≡ entries_of_1012 no_channels ss
+cells-of-1012-without channels ss none =
+    ap (λ (f : GlonassSatellite → List SignalEntry). flat_map f (first_of_slots ss))
+    (fun_ext (λ s. ap (λ (o : Option ℤ). glonass_entries s (unless_other_in_1012 s.channel o) (index_in Glonass s.slot)) (none s.slot ∙ sym (none-of-none 27 (s.slot - 1)))))
 
 -- ---- satellites and codes
 
@@ -190,7 +197,7 @@ pub counts-held : (s : StationSurvey) (ms : List AnyMessage) → CountsMessages 
     → AllByRecursion (λ n. messages_held s n ≡ count_of (is_numbered n) ms) message_numbers
 counts-held s ms k m has =
     let beside : (n : ℕ) → is_gps_number n ≡ false → messages_of_msm (get nat_cmp s.system_msm n) ≡ count_of (is_numbered n) ms = λ n out. counted-beside n s.system_msm ms out has in
-    (k.obs_1004, (k.arp_1005, (k.arp_1006, (m.msm4.messages, (m.msm5.messages, (m.msm6.messages, (m.msm7.messages, (beside 1084 refl, (beside 1085 refl, (beside 1086 refl, (beside 1087 refl, (beside 1094 refl, (beside 1095 refl, (beside 1096 refl, (beside 1097 refl, (beside 1104 refl, (beside 1105 refl, (beside 1106 refl, (beside 1107 refl, (beside 1114 refl, (beside 1115 refl, (beside 1116 refl, (beside 1117 refl, (beside 1124 refl, (beside 1125 refl, (beside 1126 refl, (beside 1127 refl, (beside 1134 refl, (beside 1135 refl, (beside 1136 refl, (beside 1137 refl, tt)))))))))))))))))))))))))))))))
+    (k.obs_1004, (k.arp_1005, (k.arp_1006, (beside 1012 refl, (m.msm4.messages, (m.msm5.messages, (m.msm6.messages, (m.msm7.messages, (beside 1084 refl, (beside 1085 refl, (beside 1086 refl, (beside 1087 refl, (beside 1094 refl, (beside 1095 refl, (beside 1096 refl, (beside 1097 refl, (beside 1104 refl, (beside 1105 refl, (beside 1106 refl, (beside 1107 refl, (beside 1114 refl, (beside 1115 refl, (beside 1116 refl, (beside 1117 refl, (beside 1124 refl, (beside 1125 refl, (beside 1126 refl, (beside 1127 refl, (beside 1134 refl, (beside 1135 refl, (beside 1136 refl, (beside 1137 refl, tt))))))))))))))))))))))))))))))))
 
 -- a message of another system more, by its number
 pub beside-counted : (old new : BTreeMap ℕ ℕ) (k : ℕ) (m : AnyMessage) (ms : List AnyMessage) → k ≡ number_of m → is_beside_gps m ≡ true

@@ -1,21 +1,23 @@
 -- Messages of other systems than GPS: their times, and the satellites and codes of their cells.
 -- Lists of messages and entries are newest first.
--- Source: RTCM 10403.3, messages 1081 to 1137
+-- Source: RTCM 10403.3, messages 1012, and 1081 to 1137
 use Rattle.std.specs.Prelude.{ℕ, ◌/◌, ◌%◌, ◌^◌, ◌==◌, ℤ, Bool, true, false, ◌&&◌, List, [], flat_map, filter, replicate, Option, None, Some, if◌then◌else◌}
 use Rattle.std.specs.List.{list_any, filter_map}
 use Rattle.rtk_message.specs.declared.any_message.AnyMessage.{AnyMessage}
 use Rattle.rtk_message.specs.declared.any_message.AnyMessage.TheVariants as any
+use Rattle.rtk_message.specs.Obs1012 as obs1012
 use Rattle.rtk_message.specs.declared.system.System.{System}
 use Rattle.rtk_message.specs.declared.system.System.TheVariants.{Gps, Glonass, Galileo, Beidou, Qzss, Sbas, Navic}
 use Rattle.rtk_obs.specs.declared.any_code.AnyCode.{AnyCode}
 use Rattle.rtk_obs.specs.declared.signal_cells.SignalEntry.{SignalEntry}
 use Rattle.rtk_obs.specs.AnyCode as any_code
 use Rattle.rtk_obs.specs.Clocks.{beidou_tow}
+use Rattle.rtk_obs.specs.GlonassCells.{entries_of_1012}
 use Rattle.rtk_obs.specs.GlonassTime.{glonass_tow}
 use Rattle.rtk_obs.specs.SignalCells.{signal_entries}
 use Rattle.rtk_survey.specs.Tracing.{is_numbered, is_gps_number, is_beside_gps, has_value}
 
--- an MSM of another system than GPS, of this number
+-- a message of another system than GPS, of this number
 abbrev pub is_beside_numbered : ℕ → AnyMessage → Bool
 is_beside_numbered n m = is_beside_gps m && is_numbered n m
 
@@ -44,6 +46,7 @@ is_other_system Navic = true
 abbrev pub cells_beside_gps : AnyMessage → List SignalEntry
 cells_beside_gps (any.Message m) = []
 cells_beside_gps (any.Msm m) = if is_other_system m.system then signal_entries no_channels m else []
+cells_beside_gps (any.Obs1012 m) = entries_of_1012 no_channels m.satellites
 
 -- the cells of messages
 abbrev pub cells_beside : List AnyMessage → List SignalEntry
@@ -70,7 +73,7 @@ has_any_code es c = list_any (gives_number (any_code.number_of c)) es
 
 -- table
 -- the time of week that a clock tells, in ms: that of GPS, but for GLONASS that of UTC, since a capture need not tell the
--- leap seconds between the two
+-- leap seconds between the two. The unknown day of a clock of GLONASS (DF416 7) is Sunday in Moscow
 abbrev pub told_time : System → ℕ → ℕ
 told_time Gps c = c
 told_time Glonass c = glonass_tow (c / 2 ^ 27) (c % 2 ^ 27) 0
@@ -83,6 +86,7 @@ told_time Navic c = c
 abbrev pub told_time_of : AnyMessage → Option ℕ
 told_time_of (any.Message m) = None
 told_time_of (any.Msm m) = Some (told_time m.system m.header.tow)
+told_time_of (any.Obs1012 m) = Some (told_time Glonass (obs1012.clock_of m))
 
 -- a message of another system than GPS that has a cell with a range, a phase or a strength
 abbrev pub gives_value_beside : AnyMessage → Bool

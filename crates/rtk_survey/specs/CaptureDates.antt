@@ -130,9 +130,18 @@ counting t = or_else t.own.items (or_else t.weeks.items t.others.items)
 
 -- ---- a capture without an epoch
 
-abbrev pub first_telling : List Told → Option Told
-first_telling [] = None
-first_telling (x ∷ xs) = Some x
+-- the earlier of two moments, of two alike the one that was named first
+abbrev pub earlier_told : Option Told → Told → Option Told
+earlier_told None x = Some x
+earlier_told (Some known) x = if nat_lt x.first known.first then Some x else Some known
+
+abbrev pub earliest_after : Option Told → List Told → Option Told
+earliest_after known [] = known
+earliest_after known (x ∷ xs) = earliest_after (earlier_told known x) xs
+
+-- the earliest of these moments
+abbrev pub earliest_telling : List Told → Option Told
+earliest_telling ts = earliest_after None ts
 
 abbrev pub reference_if_any : Option ℕ → Option ℕ
 reference_if_any None = None
@@ -149,9 +158,9 @@ abbrev pub with_own_moments : ℕ → ℕ → List DateMessage → Tellings → 
 with_own_moments now station [] t = t
 with_own_moments now station (d ∷ ds) t = with_own_moments now station ds (with_own_moment now station d t)
 
--- the moment that counts of those that these messages name, chosen as among first epochs
+-- the earliest moment of those that these messages name and that count, chosen as among first epochs
 abbrev pub own_moment_after : ℕ → ℕ → Option Span → List DateMessage → Option Told
-own_moment_after now station None ds = first_telling (counting (with_own_moments now station ds no_tellings))
+own_moment_after now station None ds = earliest_telling (counting (with_own_moments now station ds no_tellings))
 own_moment_after now station (Some s) ds = None
 
 abbrev pub own_moment_of : ℕ → ℕ → CaptureDates → Option Told

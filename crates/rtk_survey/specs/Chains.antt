@@ -1,19 +1,21 @@
 -- How far the clocks of systems are apart within chains of messages. A chain ends with an observation message whose
 -- multiple-message bit (DF393, DF005) is 0, and the next one begins behind it. Lists of messages are newest first, and
 -- lists of clocks and offsets are in the order of the capture.
--- Source: RTCM 10403.3, DF005 and DF393; which clocks are compared is this project's rule
-use Rattle.std.specs.Prelude.{ℕ, suc, ◌+◌, ◌-◌, ◌%◌, ◌==◌, Bool, true, false, nat_lt, List, [], ◌∷◌, ◌++◌, length, set, get_or, Option, None, Some, if◌then◌else◌}
+-- Source: RTCM 10403.3, DF005, DF034, DF393 and DF416; which clocks are compared is this project's rule
+use Rattle.std.specs.Prelude.{ℕ, suc, ◌+◌, ◌-◌, ◌/◌, ◌%◌, ◌^◌, ◌==◌, Bool, true, false, not, nat_le, nat_lt, List, [], ◌∷◌, ◌++◌, length, set, get_or, Option, None, Some, if◌then◌else◌}
 use Rattle.std.specs.declared.vec.Vec.{Vec}
 use Rattle.arrayvec.specs.ArrayVec.{ArrayVec}
 use Rattle.rtk_message.specs.Fields.{week_ms}
 use Rattle.rtk_message.specs.declared.any_message.AnyMessage.{AnyMessage}
 use Rattle.rtk_message.specs.declared.any_message.AnyMessage.TheVariants as any
+use Rattle.rtk_message.specs.Obs1012 as obs1012
 use Rattle.rtk_message.specs.declared.message.Message.{Message}
 use Rattle.rtk_message.specs.declared.message.Message.TheVariants.{Obs1004, Arp1005, Arp1006, Msm1074}
 use Rattle.rtk_message.specs.declared.system.System.{System}
 use Rattle.rtk_message.specs.declared.system.System.TheVariants.{Gps, Glonass, Galileo, Beidou, Qzss, Sbas, Navic}
 use Rattle.rtk_survey.specs.BesideGps.{told_time}
 use Rattle.rtk_survey.specs.Counting.{shown_count}
+use Rattle.rtk_survey.specs.Telling.{day_ms}
 use Rattle.rtk_survey.specs.declared.clock_chains.ChainClock.{ChainClock}
 use Rattle.rtk_survey.specs.declared.clock_chains.ClockOffset.{ClockOffset}
 use Rattle.rtk_survey.specs.declared.clock_chains.ClockOffsets.{ClockOffsets}
@@ -22,19 +24,34 @@ use Rattle.rtk_survey.specs.declared.clock_chains.ClockTold.{ClockTold}
 
 -- ---- the clock of a message
 
+abbrev pub gps_clock : ℕ → ClockTold
+gps_clock tow = record { system = Gps; time = tow; has_day = true }
+
+-- table
+-- a clock tells its day: one of GLONASS has the day before 27 bits of the time of day, and 7 is unknown (DF416)
+abbrev pub tells_day : System → ℕ → Bool
+tells_day Gps c = true
+tells_day Glonass c = not (c / 2 ^ 27 == 7)
+tells_day Galileo c = true
+tells_day Beidou c = true
+tells_day Qzss c = true
+tells_day Sbas c = true
+tells_day Navic c = true
+
 abbrev pub told_clock : System → ℕ → ClockTold
-told_clock s t = record { system = s; time = t }
+told_clock s c = record { system = s; time = told_time s c; has_day = tells_day s c }
 
 abbrev pub clock_of_four : Message → Option ClockTold
-clock_of_four (Obs1004 m) = Some (told_clock Gps m.tow)
+clock_of_four (Obs1004 m) = Some (gps_clock m.tow)
 clock_of_four (Arp1005 m) = None
 clock_of_four (Arp1006 m) = None
-clock_of_four (Msm1074 m) = Some (told_clock Gps m.header.tow)
+clock_of_four (Msm1074 m) = Some (gps_clock m.header.tow)
 
 -- the system and the time of week of an observation message
 abbrev pub clock_of : AnyMessage → Option ClockTold
 clock_of (any.Message m) = clock_of_four m
-clock_of (any.Msm m) = Some (told_clock m.system (told_time m.system m.header.tow))
+clock_of (any.Msm m) = Some (told_clock m.system m.header.tow)
+clock_of (any.Obs1012 m) = Some (told_clock Glonass (obs1012.clock_of m))
 
 abbrev pub more_follow_four : Message → Bool
 more_follow_four (Obs1004 m) = m.synchronous
@@ -46,6 +63,7 @@ more_follow_four (Msm1074 m) = m.header.multiple_message
 abbrev pub more_follow : AnyMessage → Bool
 more_follow (any.Message m) = more_follow_four m
 more_follow (any.Msm m) = m.header.multiple_message
+more_follow (any.Obs1012 m) = m.synchronous
 
 -- ---- the clock of a chain
 
@@ -79,6 +97,20 @@ chain_clock cs = clock_or (first_ranked 0 cs) (clock_or (first_ranked 1 cs) (clo
 -- by how much a time of week is ahead of another one, less than a week
 abbrev pub ahead_of : ℕ → ℕ → ℕ
 ahead_of base t = (t + week_ms - base) % week_ms
+
+-- constant
+-- less than a day ahead, as within half a day
+abbrev pub from_half_day : ℕ → ℕ
+from_half_day ahead = if nat_le ahead 43_200_000 then ahead else ahead + (week_ms - day_ms)
+
+-- formula
+-- by how much a time of day is ahead of another one, within half a day
+abbrev pub ahead_in_day : ℕ → ℕ → ℕ
+ahead_in_day base t = from_half_day ((t % day_ms + day_ms - base % day_ms) % day_ms)
+
+-- by how much a clock is ahead of a time of week: within half a day if it tells no day
+abbrev pub clock_ahead : ℕ → ClockTold → ℕ
+clock_ahead base c = if c.has_day then ahead_of base c.time else ahead_in_day base c.time
 
 -- the place of an offset, the first of which has this place
 abbrev pub offset_place : ℕ → ℕ → List ClockOffset → Option ℕ
@@ -122,7 +154,7 @@ offsets_of s Sbas = s.sbas.items
 offsets_of s Navic = s.navic.items
 
 abbrev pub with_offset : ℕ → ClockTold → ClockOffsets → ClockOffsets
-with_offset base c s = with_ahead c.system (ahead_of base c.time) s
+with_offset base c s = with_ahead c.system (clock_ahead base c) s
 
 -- the offsets of some clocks more
 abbrev pub with_compared : ℕ → List ClockTold → ClockOffsets → ClockOffsets

@@ -4,6 +4,7 @@ use Rattle.std.specs.Prelude.{◌≡◌, ℕ, ◌+◌, ◌-◌, ◌*◌, ◌/◌
 use Rattle.rtk_message.specs.declared.any_message.AnyMessage.{AnyMessage}
 use Rattle.rtk_message.specs.declared.any_message.AnyMessage.TheVariants as any
 use Rattle.rtk_message.specs.declared.msm.Msm.{Msm}
+use Rattle.rtk_message.specs.declared.obs1012.GlonassSatellite.{GlonassSatellite}
 use Rattle.rtk_message.specs.declared.system.System.{System}
 use Rattle.rtk_message.specs.declared.system.System.TheVariants.{Gps, Glonass, Galileo, Beidou, Qzss, Sbas, Navic}
 use Rattle.rtk_survey.specs.Counting.{count_of}
@@ -40,13 +41,28 @@ is_glonass Qzss = false
 is_glonass Sbas = false
 is_glonass Navic = false
 
-abbrev pub tells_field_of : Msm → ℕ → ℕ → Bool
-tells_field_of m slot field = is_field (slot_field m slot) field
+abbrev pub field_in_msm : Msm → ℕ → Option ℕ
+field_in_msm m slot = if is_glonass m.system then slot_field m slot else None
+
+-- the field of the first satellite of a slot (DF040)
+abbrev pub field_in_1012 : ℕ → List GlonassSatellite → Option ℕ
+field_in_1012 slot [] = None
+field_in_1012 slot (s ∷ ss) = if s.slot == slot then Some s.channel else field_in_1012 slot ss
+
+-- the field of a slot, if the message is of GLONASS and has it
+abbrev pub field_told : AnyMessage → ℕ → Option ℕ
+field_told (any.Message m) slot = None
+field_told (any.Msm m) slot = field_in_msm m slot
+field_told (any.Obs1012 m) slot = field_in_1012 slot m.satellites
 
 -- a message of GLONASS has this field for this slot
 abbrev pub tells_field : ℕ → ℕ → AnyMessage → Bool
-tells_field slot field (any.Message m) = false
-tells_field slot field (any.Msm m) = is_glonass m.system && tells_field_of m slot field
+tells_field slot field m = is_field (field_told m slot) field
+
+abbrev pub is_of_glonass : AnyMessage → Bool
+is_of_glonass (any.Message m) = false
+is_of_glonass (any.Msm m) = is_glonass m.system
+is_of_glonass (any.Obs1012 m) = true
 
 -- formula
 -- the place of a slot, 1 to 27, and of a field that tells a channel, 0 to 13: 7 more than the channel

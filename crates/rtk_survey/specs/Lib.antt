@@ -16,6 +16,7 @@ pub mod FrameDates
 pub mod FrameEquipment
 pub mod FramePlaces
 pub mod Look
+pub mod NextCommand
 pub mod NumberLaws
 pub mod Parting
 pub mod Phases
@@ -34,3 +35,5 @@ pub mod SystemTellings
 pub mod Targets
 pub mod Telling
 pub mod Tracing
+pub mod UncheckedClocks
+pub mod WrongClocks

@@ -7,11 +7,12 @@ use Rattle.rtk_message.specs.declared.any_message.AnyMessage.{AnyMessage}
 use Rattle.rtk_message.specs.declared.any_fault.AnyFault.{AnyFault}
 use Rattle.rtk_message.specs.declared.msm_kind.MsmKind.{MsmKind}
 use Rattle.rtk_message.specs.Systems.{number_of_kind}
+use Rattle.rtk_obs.specs.declared.any_code.AnyCode.{AnyCode}
 use Rattle.rtk_obs.specs.declared.code.Code.{Code}
 use Rattle.rtk_survey.specs.Proposal.{epochs_in, times_with_value, epochs_with_value, proposed}
 use Rattle.rtk_survey.specs.ReadFrames.{ReadFrame, bytes_in}
 use Rattle.rtk_survey.specs.Summary.{station_lines, unread_lines, summary_text}
-use Rattle.rtk_survey.specs.SummaryText.{number_line, counted_line, numbered_line, message_numbers, time_lines, codes_text, proposal_lines}
+use Rattle.rtk_survey.specs.SummaryText.{number_line, counted_line, numbered_line, message_numbers, time_lines, all_codes_text, proposal_lines}
 use Rattle.rtk_survey.specs.Tracing.{is_numbered, is_other, is_short, is_outside_week, is_no_number, is_too_many_cells, times_of_week, oldest_time, newest_time, changes_in}
 use Rattle.rtk_survey.specs.declared.station_dates.StationDates.{StationDates}
 
@@ -52,10 +53,11 @@ pub record ProposalsAreAlike (station : ℕ) (epochs : MsmKind → ℕ) (names :
 
 abbrev pub ProposalLinesTell : Type 0
 ProposalLinesTell =
-    (name names near far : List ℕ) (station other : ℕ) (epochs others : MsmKind → ℕ) (code test : MsmKind → Code → Bool) → IsHeld station → IsHeld other
+    (name names near far : List ℕ) (station other : ℕ) (epochs others : MsmKind → ℕ) (code test : MsmKind → Code → Bool)
+    (beside tested : AnyCode → Bool) (options choices : MsmKind → List ℕ) → IsHeld station → IsHeld other
     → ((kind : MsmKind) → IsHeld (epochs kind)) → ((kind : MsmKind) → IsHeld (others kind)) → proposed epochs ≡ proposed others
-    → proposal_lines name near station epochs code ≡ proposal_lines names far other others test
-    → ProposalsAreAlike station epochs (codes_text (code (proposed epochs))) other others
+    → proposal_lines name near station epochs code beside options ≡ proposal_lines names far other others test tested choices
+    → ProposalsAreAlike station epochs (all_codes_text (code (proposed epochs)) beside) other others
 
 -- a number of epochs is how many there are
 abbrev pub EpochsAreCounted : Type 0

@@ -5,13 +5,13 @@ use Rattle.rtk_bits.specs.Bits.{bits}
 use Rattle.rtk_message.specs.declared.any_message.AnyMessage.{AnyMessage}
 use Rattle.rtk_message.specs.declared.any_fault.AnyFault.{AnyFault}
 use Rattle.rtk_message.specs.declared.accepted.Accepted.{Accepted}
-use Rattle.rtk_message.specs.Accepted.{all}
+use Rattle.rtk_message.specs.Accepted.{all, with_1012}
 use Rattle.rtk_message.specs.AnyDecoded.{DecodesBy, station_of}
 
 -- constant
--- the messages that a summary reads: 1004 to 1006, and MSM4 to MSM7 of all systems (DF002)
+-- the messages that a summary reads: 1004 to 1006, 1012, and MSM4 to MSM7 of all systems (DF002)
 abbrev pub messages_read : Accepted
-messages_read = all
+messages_read = with_1012 all
 
 -- a frame, by its payload, with the message that this is, or the fault
 pub record ReadFrame : Type 0 where

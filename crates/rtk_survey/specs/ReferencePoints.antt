@@ -34,6 +34,7 @@ point_of_four (Msm1074 m) = None
 abbrev pub point_of : AnyMessage → Option ReferencePoint
 point_of (any.Message m) = point_of_four m
 point_of (any.Msm m) = None
+point_of (any.Obs1012 m) = None
 
 -- the first of two, if there is one
 abbrev pub first_point_or : Option ReferencePoint → Option ReferencePoint → Option ReferencePoint

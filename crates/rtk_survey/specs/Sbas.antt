@@ -23,3 +23,4 @@ has_sbas_of_four (Msm1074 m) = false
 abbrev pub has_sbas : AnyMessage → Bool
 has_sbas (any.Message m) = has_sbas_of_four m
 has_sbas (any.Msm m) = false
+has_sbas (any.Obs1012 m) = false

@@ -1,4 +1,5 @@
 -- Definitions that only private clauses use.
 pub mod Fields
 pub mod Looking
+pub mod OtherSystems
 pub mod Tables

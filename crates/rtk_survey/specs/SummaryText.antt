@@ -52,18 +52,18 @@ list_line words list = words ++ or_hyphen list ++ 10 ∷ []
 -- ---- messages
 
 -- table
--- the messages that are read: 1004 to 1006, and MSM4 to MSM7 of all systems
+-- the messages that are read: 1004 to 1006, 1012, and MSM4 to MSM7 of all systems
 -- Source: RTCM 10403.3, DF002
 abbrev pub message_numbers : List ℕ
 message_numbers =
-    1004 ∷ 1005 ∷ 1006 ∷ 1074 ∷ 1075 ∷ 1076 ∷ 1077 ∷ 1084 ∷ 1085 ∷ 1086 ∷ 1087 ∷ 1094 ∷ 1095 ∷ 1096 ∷ 1097 ∷
+    1004 ∷ 1005 ∷ 1006 ∷ 1012 ∷ 1074 ∷ 1075 ∷ 1076 ∷ 1077 ∷ 1084 ∷ 1085 ∷ 1086 ∷ 1087 ∷ 1094 ∷ 1095 ∷ 1096 ∷ 1097 ∷
     1104 ∷ 1105 ∷ 1106 ∷ 1107 ∷ 1114 ∷ 1115 ∷ 1116 ∷ 1117 ∷ 1124 ∷ 1125 ∷ 1126 ∷ 1127 ∷ 1134 ∷ 1135 ∷ 1136 ∷ 1137 ∷ []
 
 -- table
 -- those of other systems than GPS
 abbrev pub beside_numbers : List ℕ
 beside_numbers =
-    1084 ∷ 1085 ∷ 1086 ∷ 1087 ∷ 1094 ∷ 1095 ∷ 1096 ∷ 1097 ∷ 1104 ∷ 1105 ∷ 1106 ∷ 1107 ∷
+    1012 ∷ 1084 ∷ 1085 ∷ 1086 ∷ 1087 ∷ 1094 ∷ 1095 ∷ 1096 ∷ 1097 ∷ 1104 ∷ 1105 ∷ 1106 ∷ 1107 ∷
     1114 ∷ 1115 ∷ 1116 ∷ 1117 ∷ 1124 ∷ 1125 ∷ 1126 ∷ 1127 ∷ 1134 ∷ 1135 ∷ 1136 ∷ 1137 ∷ []
 
 -- formula
@@ -260,10 +260,10 @@ near_text (Some d) = date_time_text d
 
 -- formula
 -- the words of the command behind its moment
-abbrev pub words_text : List ℕ → ℕ → MsmKind → List ℕ → List ℕ
-words_text name station named names =
+abbrev pub words_text : List ℕ → ℕ → List ℕ → List ℕ → List ℕ
+words_text name station options names =
     codes " --made \"$(date -u +%FT%T)\" --marker " ++ last_digits 4 station
-    ++ codes " --codes" ++ names ++ msm_option named ++ codes " " ++ sh_quoted name ++ 10 ∷ []
+    ++ codes " --codes" ++ names ++ options ++ codes " " ++ sh_quoted name ++ 10 ∷ []
 
 -- constant
 -- the name means standard input
@@ -279,19 +279,20 @@ auto_line name station =
     codes " auto rtcm2rinex auto --station " ++ decimal station ++ codes " -o " ++ last_digits 4 station ++ codes ".rnx " ++ sh_quoted name ++ 10 ∷ []
 
 -- formula
--- the command that converts the station in the file of this name with this MSM, near this moment, and
+-- the command that converts the station in the file of this name with these options, near this moment, and
 -- the one that finds its options, if there is one; without codes there is neither
-abbrev pub next_lines : List ℕ → List ℕ → ℕ → MsmKind → List ℕ → List ℕ
-next_lines name near station named [] = []
-next_lines name near station named (x ∷ xs) =
-    codes " next rtcm2rinex convert --station " ++ decimal station ++ codes " --near " ++ near ++ words_text name station named (x ∷ xs) ++ auto_line name station
+abbrev pub next_lines : List ℕ → List ℕ → ℕ → List ℕ → List ℕ → List ℕ
+next_lines name near station options [] = []
+next_lines name near station options (x ∷ xs) =
+    codes " next rtcm2rinex convert --station " ++ decimal station ++ codes " --near " ++ near ++ words_text name station options (x ∷ xs) ++ auto_line name station
 
 -- formula
--- the commands, and before them the second frequency and the MSM that they leave out
-unfoldable pub proposal_lines : List ℕ → List ℕ → ℕ → (MsmKind → ℕ) → (MsmKind → Code → Bool) → List ℕ
-proposal_lines name near station epochs code =
+-- the commands, and before them the second frequency and the MSM of GPS that they leave out; the codes of other systems
+-- that they take, and their options by the MSM of GPS
+unfoldable pub proposal_lines : List ℕ → List ℕ → ℕ → (MsmKind → ℕ) → (MsmKind → Code → Bool) → (AnyCode → Bool) → (MsmKind → List ℕ) → List ℕ
+proposal_lines name near station epochs code other options =
     second_frequency_line (code (proposed epochs)) ++ other_msm_lines epochs (proposed epochs)
-    ++ next_lines name near station (proposed epochs) (codes_text (code (proposed epochs)))
+    ++ next_lines name near station (options (proposed epochs)) (all_codes_text (code (proposed epochs)) other)
 
 -- formula
 -- no station has a code

@@ -1,11 +1,17 @@
 -- What a capture tells of the station of a conversion (this project's rule). Lists of frames and messages
 -- are newest first.
-use Rattle.std.specs.Prelude.{◌≡◌, ℕ, ◌==◌, Bool, List, [], ◌∷◌, length, Option, None, Some, unwrap_or, is_some, Result, Ok, Err, if◌then◌else◌}
+use Rattle.std.specs.Prelude.{◌≡◌, ℕ, ◌==◌, Bool, true, false, ◌&&◌, ◌||◌, List, [], ◌∷◌, length, get_or, Option, None, Some, unwrap_or, is_some, Result, Ok, Err, if◌then◌else◌}
 use Rattle.std.specs.List.{list_any}
 use Rattle.rtk_bits.specs.Bits.{bits}
 use Rattle.rtk_message.specs.declared.any_message.AnyMessage.{AnyMessage}
+use Rattle.rtk_message.specs.declared.any_message.AnyMessage.TheVariants as any
 use Rattle.rtk_message.specs.declared.any_fault.AnyFault.{AnyFault}
+use Rattle.rtk_message.specs.declared.system.System.{System}
+use Rattle.rtk_message.specs.declared.system.System.TheVariants.{Gps, Glonass, Galileo, Beidou, Qzss, Sbas, Navic}
 use Rattle.rtk_message.specs.AnyDecoded.{station_of, tow_of}
+use Rattle.rtk_obs.specs.declared.any_code.AnyCode.{AnyCode}
+use Rattle.rtk_obs.specs.AnyCode.{system_of, number_of, all_any_codes}
+use Rattle.rtk_survey.specs.BesideGps.{gives_value_beside}
 use Rattle.rtk_survey.specs.CaptureDates.{no_dates, with_epoch_time, with_date, with_waiting}
 use Rattle.rtk_survey.specs.Counting.{shown_count}
 use Rattle.rtk_survey.specs.DateMessages.{date_in}
@@ -22,34 +28,80 @@ use Rattle.rtk_survey.specs.declared.capture_dates.CaptureDates.{CaptureDates}
 use Rattle.rtk_survey.specs.declared.date_message.DateMessage.{DateMessage}
 use Rattle.rtk_survey.specs.declared.date_message.DateMessage.TheVariants.{Utc, Ephemeris}
 use Rattle.rtk_survey.specs.declared.date_message.UtcDate.{UtcDate}
+use Rattle.rtk_survey.specs.declared.dating_systems.DatingSystems.{DatingSystems}
 use Rattle.rtk_survey.specs.declared.equipment_message.EquipmentMessage.{EquipmentMessage}
 use Rattle.rtk_survey.specs.declared.parting.Parting.{Parting}
 use Rattle.rtk_survey.specs.declared.phases.Phases.{Phases}
 use Rattle.rtk_survey.specs.declared.span.Span.{Span}
+use Rattle.rtk_survey.specs.declared.station.StationSurvey.{StationSurvey}
 use Rattle.rtk_survey.specs.declared.target.Target.{Target}
 use Rattle.rtk_survey.specs.declared.target.EquipmentTimes.{EquipmentTimes}
 use Rattle.rtk_survey.specs.declared.target.TargetDates.{TargetDates}
 use Rattle.rtk_survey.specs.declared.target.TargetSurvey.{TargetSurvey}
 
--- a message has an observation: one of its cells has a range, a phase or a strength
-abbrev pub observes : AnyMessage → Bool
-observes m = list_any entry_has_value (entries_of_message m)
+-- ---- the systems that date
+
+-- table
+-- those whose clock is the GPS time of week (DF004): that of GLONASS needs the leap seconds, and that of BeiDou is wrong
+-- by 14 s in receivers before 2013
+abbrev pub all_dating : DatingSystems
+all_dating = record { gps = true; galileo = true; qzss = true; sbas = true; navic = true }
+
+-- table
+-- whether a system is among those that date
+abbrev pub has_dating : DatingSystems → System → Bool
+has_dating s Gps = s.gps
+has_dating s Glonass = false
+has_dating s Galileo = s.galileo
+has_dating s Beidou = false
+has_dating s Qzss = s.qzss
+has_dating s Sbas = s.sbas
+has_dating s Navic = s.navic
+
+-- table
+abbrev pub system_of_message : AnyMessage → System
+system_of_message (any.Message m) = Gps
+system_of_message (any.Msm m) = m.system
+system_of_message (any.Obs1012 m) = Glonass
+
+-- a message has an observation of GPS: one of its cells has a range, a phase or a strength
+abbrev pub observes_gps : AnyMessage → Bool
+observes_gps m = list_any entry_has_value (entries_of_message m)
+
+-- a message has an observation of a system that dates
+abbrev pub observes : DatingSystems → AnyMessage → Bool
+observes s m = (observes_gps m || gives_value_beside m) && has_dating s (system_of_message m)
+
+-- a code of a system that dates is marked: it has a value
+abbrev pub marks_dating : DatingSystems → List Bool → AnyCode → Bool
+marks_dating s marks c = has_dating s (system_of c) && get_or marks (number_of c) false
+
+abbrev pub is_set : Bool → Bool
+is_set mark = mark
+
+unfoldable pub has_code_dating : DatingSystems → List Bool → Bool
+has_code_dating s marks = list_any (marks_dating s marks) all_any_codes
+
+-- a station has an observation of a system that dates
+abbrev pub has_dated_observation : DatingSystems → StationSurvey → Bool
+has_dated_observation s t =
+    (s.gps && list_any is_set t.signals.codes.marks) || has_code_dating s t.system_signals.codes
 
 -- ---- the dates
 
--- the station, if one is known, and what the capture tells of its epochs
-abbrev pub dates_with : Option ℕ → CaptureDates → TargetDates
-dates_with station capture = record { station = station; capture = capture }
+-- the systems that date, the station, if one is known, and what the capture tells of its epochs
+abbrev pub dates_with : DatingSystems → Option ℕ → CaptureDates → TargetDates
+dates_with systems station capture = record { systems = systems; station = station; capture = capture }
 
 -- an observation at this time of week, of this station: if no station was known, it is that one
 abbrev pub with_time_of : ℕ → TargetDates → ℕ → Option ℕ → TargetDates
 with_time_of now d station None = d
 with_time_of now d station (Some tow) =
-    if unwrap_or d.station station == station then dates_with (Some station) (with_epoch_time now station d.capture tow) else d
+    if unwrap_or d.station station == station then dates_with d.systems (Some station) (with_epoch_time now station d.capture tow) else d
 
 -- a message more
 abbrev pub with_observation : ℕ → TargetDates → AnyMessage → TargetDates
-with_observation now d m = if observes m then with_time_of now d (station_of m) (tow_of m) else d
+with_observation now d m = if observes d.systems m then with_time_of now d (station_of m) (tow_of m) else d
 
 -- a date; as long as no station is known, no epoch came, and it waits
 abbrev pub with_date_for : ℕ → Option ℕ → CaptureDates → DateMessage → CaptureDates
@@ -58,7 +110,7 @@ with_date_for now (Some station) c m = with_date now station c m
 
 abbrev pub with_date_if_any : ℕ → TargetDates → Option DateMessage → TargetDates
 with_date_if_any now d None = d
-with_date_if_any now d (Some m) = dates_with d.station (with_date_for now d.station d.capture m)
+with_date_if_any now d (Some m) = dates_with d.systems d.station (with_date_for now d.station d.capture m)
 
 abbrev pub with_reading : ℕ → TargetDates → List ℕ → Result AnyMessage AnyFault → TargetDates
 with_reading now d payload (Ok m) = with_observation now d m
@@ -69,9 +121,9 @@ abbrev pub dates_after : ℕ → TargetDates → List ReadFrame → TargetDates
 dates_after now d [] = d
 dates_after now d (f ∷ before) = with_reading now (dates_after now d before) f.payload f.reading
 
--- what the frames of a capture tell, if this station is named, or none
-abbrev pub dates_of : ℕ → Option ℕ → List ReadFrame → TargetDates
-dates_of now named fs = dates_after now (dates_with named no_dates) fs
+-- what the frames of a capture tell, for this station, or for none that is named
+abbrev pub dates_of : Target → List ReadFrame → TargetDates
+dates_of q fs = dates_after q.present (dates_with q.systems q.station no_dates) fs
 
 -- ---- the phases
 
@@ -79,9 +131,9 @@ abbrev pub station_at : Option ℕ → ℕ → Option ℕ → Option ℕ
 station_at known station None = known
 station_at known station (Some tow) = Some (unwrap_or known station)
 
--- the station that is known after a message: the first with an observation, if none was known
-abbrev pub station_after : Option ℕ → AnyMessage → Option ℕ
-station_after known m = if observes m then station_at known (station_of m) (tow_of m) else known
+-- the station that is known after a message: the first with an observation of a system that dates, if none was known
+abbrev pub station_after : DatingSystems → Option ℕ → AnyMessage → Option ℕ
+station_after s known m = if observes s m then station_at known (station_of m) (tow_of m) else known
 
 -- the phases of the station that is known; as long as none is, no station has one
 abbrev pub HasTargetPhases : Phases → Option ℕ → List AnyMessage → Type 0
@@ -118,11 +170,10 @@ abbrev pub times_with_reading : TargetDates → EquipmentTimes → List ℕ → 
 times_with_reading d t payload (Ok m) = t
 times_with_reading d t payload (Err fault) = with_equipment_if_any d t (equipment_in payload)
 
--- what frames tell, by the present, if this station is named, or none
-abbrev pub equipment_times_of : ℕ → Option ℕ → List ReadFrame → EquipmentTimes
-equipment_times_of now named [] = no_times
-equipment_times_of now named (f ∷ before) =
-    times_with_reading (dates_of now named before) (equipment_times_of now named before) f.payload f.reading
+-- what frames tell
+abbrev pub equipment_times_of : Target → List ReadFrame → EquipmentTimes
+equipment_times_of q [] = no_times
+equipment_times_of q (f ∷ before) = times_with_reading (dates_of q before) (equipment_times_of q before) f.payload f.reading
 
 -- ---- where a second date begins
 
@@ -130,11 +181,11 @@ abbrev pub parting_with_reading : ℕ → TargetDates → ℕ → Parting → Re
 parting_with_reading now d frame p (Ok m) payload = with_epochs d.capture.span (with_observation now d m).capture.span frame p
 parting_with_reading now d frame p (Err fault) payload = parting.parting_with_date now d.station d.capture (date_in (bits payload)) frame p
 
--- what frames tell, by the present, if this station is named, or none
-abbrev pub parting_of : ℕ → Option ℕ → List ReadFrame → Parting
-parting_of now named [] = no_parting
-parting_of now named (f ∷ before) =
-    parting_with_reading now (dates_of now named before) (shown_count (length before)) (parting_of now named before) f.reading f.payload
+-- what frames tell
+abbrev pub parting_of : Target → List ReadFrame → Parting
+parting_of q [] = no_parting
+parting_of q (f ∷ before) =
+    parting_with_reading q.present (dates_of q before) (shown_count (length before)) (parting_of q before) f.reading f.payload
 
 -- ---- a date that is to come
 
@@ -157,10 +208,11 @@ to_come_of now (f ∷ before) = to_come_with_reading now (to_come_of now before)
 
 pub record IsTargetOf (q : Target) (fs : List ReadFrame) (t : TargetSurvey) : Type 0 where
   pub present : t.present ≡ q.present
-  pub dates : t.dates ≡ dates_of q.present q.station fs
-  pub phases : HasTargetPhases t.phases t.dates.station (messages_in fs)
-  pub equipment : t.equipment ≡ equipment_times_of q.present q.station fs
-  pub parting : t.parting ≡ parting_of q.present q.station fs
+  pub dates : t.dates ≡ dates_of q fs
+  -- of GPS, if it is among the systems that date
+  pub phases : t.dates.systems.gps ≡ true → HasTargetPhases t.phases t.dates.station (messages_in fs)
+  pub equipment : t.equipment ≡ equipment_times_of q fs
+  pub parting : t.parting ≡ parting_of q fs
   pub to_come : t.to_come ≡ to_come_of q.present fs
 
 -- what a capture with these frames tells of the station of a conversion, if it is asked for

@@ -21,7 +21,7 @@ is_numbered n m = number_of m == n
 abbrev pub is_gps_number : ℕ → Bool
 is_gps_number n = accepts (of_gps all_kinds) n
 
--- an MSM of another system than GPS
+-- a message of another system than GPS
 abbrev pub is_beside_gps : AnyMessage → Bool
 is_beside_gps m = not (is_gps_number (number_of m))
 

@@ -3,15 +3,17 @@
 ghost use Rattle.std.specs.Prelude.{◌≡◌, ◌/◌, ◌%◌, ◌^◌, ◌<◌, [], if◌then◌else◌};
 ghost use Rattle.rtk_message.specs.AnyDecoded.{IsValid};
 ghost use Rattle.rtk_message.specs.MsmForm.{IsValid as IsValidMsm};
+ghost use Rattle.rtk_message.specs.Obs1012.{IsValid as IsValid1012};
 ghost use Rattle.rtk_obs.specs.Clocks.{beidou_tow};
+ghost use Rattle.rtk_obs.specs.GlonassCells.{entries_of_1012};
 ghost use Rattle.rtk_obs.specs.GlonassTime.{glonass_tow};
 ghost use Rattle.rtk_obs.specs.SignalCells.{signal_entries};
 ghost use Rattle.rtk_survey.specs.BesideGps as spec;
 ghost use Rattle.rtk_survey.specs.Tracing.{is_beside_gps};
 
 use arrayvec::ArrayVec;
-use rtk_message::{Accepted, AnyMessage, Msm, System};
-use rtk_obs::{Channels, SignalEntry, WEEK_MS, put_signal_entries};
+use rtk_message::{AnyMessage, Msm, Obs1012, System};
+use rtk_obs::{Channels, SignalEntry, WEEK_MS, put_entries_1012, put_signal_entries};
 
 const DAY_MS: u64 = 86_400_000;
 
@@ -24,11 +26,15 @@ const MOSCOW_MS: u64 = 10_800_000;
 /// The clock of GLONASS has 3 bits of the day (DF416) before 27 bits of the time of day (DF034).
 const TIME_OF_DAY: u32 = 1 << 27;
 
-/// Is it an MSM of another system than GPS?
+/// Is it a message of another system than GPS?
 pub fn is_beside_gps(message: &AnyMessage) -> bool
     ensures { result ≡ is_beside_gps message.now }
 {
-    !Accepted::GPS.accepts(message.number())
+    match message {
+        AnyMessage::Message(_) => false,
+        AnyMessage::Msm(message) => is_other_system(message.system),
+        AnyMessage::Obs1012(_) => true,
+    }
 }
 
 // ---- times
@@ -59,13 +65,15 @@ pub fn told_time(system: System, clock: u32) -> u32
     }
 }
 
-/// The time of week that an MSM tells (`told_time`). A 1074, or a message of another number, has none here.
+/// The time of week that a 1012 or an MSM tells (`told_time`). A 1074, or a message of another number, has none
+/// here.
 pub(crate) fn told_time_of(message: &AnyMessage) -> Option<u32>
     ensures { result ≡ spec.told_time_of message.now }
 {
     match message {
         AnyMessage::Message(_) => None,
         AnyMessage::Msm(message) => Some(told_time(message.system, message.header.tow)),
+        AnyMessage::Obs1012(message) => Some(told_time(System::Glonass, message.clock())),
     }
 }
 
@@ -98,6 +106,15 @@ fn put_cells_of_other(message: &Msm, found: &mut ArrayVec<SignalEntry, 64>)
     }
 }
 
+// Puts the cells of a 1012 over a list.
+fn put_cells_1012(message: &Obs1012, found: &mut ArrayVec<SignalEntry, 64>)
+    requires { IsValid1012 message.now }
+    ensures { found.new.items ≡ entries_of_1012 spec.no_channels message.now.satellites }
+{
+    let channels = Channels::new();
+    put_entries_1012(message, &channels, found);
+}
+
 /// Puts the cells of a message of another system than GPS over a list. Another message has none.
 pub(crate) fn put_cells_beside_gps(message: &AnyMessage, found: &mut ArrayVec<SignalEntry, 64>)
     requires { IsValid message.now }
@@ -106,5 +123,6 @@ pub(crate) fn put_cells_beside_gps(message: &AnyMessage, found: &mut ArrayVec<Si
     match message {
         AnyMessage::Message(_) => found.clear(),
         AnyMessage::Msm(message) => put_cells_of_other(message, found),
+        AnyMessage::Obs1012(message) => put_cells_1012(message, found),
     }
 }

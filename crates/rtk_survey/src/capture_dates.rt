@@ -1,7 +1,7 @@
 //! The epochs of a station in a capture, and what the capture tells of the first of them.
 
 ghost use Rattle.std.specs.Prelude.{◌≡◌};
-ghost use Rattle.rtk_survey.specs.CaptureDates.{no_dates, with_tellings, with_waiting, with_epoch_time, with_date, first_by_own, with_own_moments, first_telling, own_moment_of};
+ghost use Rattle.rtk_survey.specs.CaptureDates.{no_dates, with_tellings, with_waiting, with_epoch_time, with_date, first_by_own, with_own_moments, earlier_told, earliest_telling, own_moment_of};
 
 use crate::date_message::DateMessage;
 use crate::span::Span;
@@ -42,10 +42,23 @@ fn take_own_moments(named: &mut Tellings, now: GpsMs, station: u16, messages: &[
     }
 }
 
-fn first_telling(told: &[Told]) -> Option<Told>
-    ensures { result ≡ first_telling told.now }
+fn earlier_told(known: Option<Told>, told: Told) -> Option<Told>
+    ensures { result ≡ earlier_told known told }
 {
-    told.first().copied()
+    match known {
+        Some(known) if known.first <= told.first => Some(known),
+        _ => Some(told),
+    }
+}
+
+fn earliest_telling(named: &[Told]) -> Option<Told>
+    ensures { result ≡ earliest_telling named.now }
+{
+    let mut earliest = None;
+    for told in named {
+        earliest = earlier_told(earliest, *told);
+    }
+    earliest
 }
 
 impl CaptureDates {
@@ -93,7 +106,7 @@ impl CaptureDates {
         }
     }
 
-    /// The moment that a message names, if no epoch came: the first that counts, as of first epochs.
+    /// The moment that a message names, if no epoch came: the earliest of those that count, as of first epochs.
     pub fn own_moment(&self, now: GpsMs, station: u16) -> Option<Told>
         ensures { result ≡ own_moment_of now station self.now }
     {
@@ -102,7 +115,7 @@ impl CaptureDates {
         }
         let mut named = Tellings::new();
         take_own_moments(&mut named, now, station, self.waiting.as_slice());
-        first_telling(named.counting())
+        earliest_telling(named.counting())
     }
 
     /// The first epoch that a message tells, if it is a 1013 or a 1029 of this station and an epoch came.

@@ -22,8 +22,8 @@ fn put_channel(text: &mut Vec<u8>, field: u8) -> Result<(), AllocError>
     }
 }
 
-// The slot and the channel of a place.
-fn put_told_channel(text: &mut Vec<u8>, place: usize) -> Result<(), AllocError>
+/// The slot and the channel of a place.
+pub(crate) fn put_told_channel(text: &mut Vec<u8>, place: usize) -> Result<(), AllocError>
     requires { place < 392 }
     ensures { OnOk result (text.new.items ≡ text.old.items ++ spec.told_channel_text place) }
 {

@@ -2,20 +2,19 @@
 
 ghost use Rattle.std.specs.Prelude.{◌≡◌, ◌≢◌, ◌<◌, ◌≤◌, ◌+◌, ℕ, true, false, List, [], ◌∷◌, length, get_or, OnOk};
 ghost use Rattle.rtk_message.specs.declared.any_message.AnyMessage.{AnyMessage};
-ghost use Rattle.rtk_message.specs.declared.any_message.AnyMessage.TheVariants as any;
 ghost use Rattle.rtk_survey.specs.Channels as spec;
 ghost use Rattle.rtk_survey.specs.Counting.{shown_count};
 ghost use Rattle.rtk_survey.specs.Steps.Fields.{TakesFields, IsTableMade};
 ghost use Rattle.rtk_survey.specs.declared.system_message.SystemMessage.{SystemMessage};
 
 use crate::system_message::{SlotChannel, SystemMessage};
-use rtk_message::{AnyMessage, Msm, System};
+use rtk_message::{AnyMessage, GlonassSatellite, Msm, System};
 use std::alloc::{AllocError, Global};
 
 /// The slots of GLONASS: 1 to 27.
 const SLOTS: u8 = 28;
 
-/// The fields that tell a channel (DF419): 0 to 13, 7 more than the channel.
+/// The fields that tell a channel (DF419, DF040): 0 to 13, 7 more than the channel.
 pub(crate) const FIELDS: usize = 14;
 
 /// The places of a table.
@@ -82,25 +81,60 @@ fn count_field(table: &mut Vec<u64>, slot: u8, field: u8)
     }
 }
 
+// The field of the first satellite of a slot.
+fn field_in_1012(satellites: &[GlonassSatellite], slot: u8) -> Option<u8>
+    ensures { result ≡ spec.field_in_1012 slot satellites.now }
+{
+    for satellite in satellites {
+        if satellite.slot == slot {
+            return Some(satellite.channel);
+        }
+    }
+    None
+}
+
+fn field_in_msm(message: &Msm, slot: u8) -> Option<u8>
+    requires { (1 ≤ slot) × (slot < 28) }
+    ensures { result ≡ spec.field_in_msm message.now slot }
+{
+    if is_glonass(message.system) {
+        slot_field(message, slot)
+    } else {
+        None
+    }
+}
+
+// The field of a slot, if the message is of GLONASS and has it.
+fn field_told(message: &AnyMessage, slot: u8) -> Option<u8>
+    requires { (1 ≤ slot) × (slot < 28) }
+    ensures { result ≡ spec.field_told message.now slot }
+{
+    match message {
+        AnyMessage::Message(_) => None,
+        AnyMessage::Msm(message) => field_in_msm(message, slot),
+        AnyMessage::Obs1012(message) => field_in_1012(message.satellites.as_slice(), slot),
+    }
+}
+
 // Counts the field of a slot, if the message has it.
-fn take_slot(table: &mut Vec<u64>, message: &Msm, slot: u8)
+fn take_slot(table: &mut Vec<u64>, message: &AnyMessage, slot: u8)
     requires size { length table.old.items ≡ 392 }
     requires slot { (1 ≤ slot) × (slot < 28) }
     ensures size { length table.new.items ≡ 392 }
-    ensures own { (f : ℕ) → f < 14 → spec.tells_field_of message.now slot f ≡ true
+    ensures own { (f : ℕ) → f < 14 → spec.tells_field slot f message.now ≡ true
         → get_or table.new.items (spec.place_of_field slot f) 0 ≡ shown_count (get_or table.old.items (spec.place_of_field slot f) 0 + 1) }
-    ensures others { (s f : ℕ) → f < 14 → (s ≡ slot → spec.tells_field_of message.now s f ≡ false)
+    ensures others { (s f : ℕ) → f < 14 → (s ≡ slot → spec.tells_field s f message.now ≡ false)
         → get_or table.new.items (spec.place_of_field s f) 0 ≡ get_or table.old.items (spec.place_of_field s f) 0 }
 {
-    if let Some(field) = slot_field(message, slot) {
+    if let Some(field) = field_told(message, slot) {
         count_field(table, slot, field);
     }
 }
 
 // Counts the fields of all slots.
-fn take_slots(table: &mut Vec<u64>, message: &Msm)
+fn take_slots(table: &mut Vec<u64>, message: &AnyMessage)
     requires { length table.old.items ≡ 392 }
-    ensures { TakesFields (spec.tells_field_of message.now) table.old.items table.new.items }
+    ensures { TakesFields (λ slot field. spec.tells_field slot field message.now) table.old.items table.new.items }
 {
     for slot in 1u8..SLOTS {
         take_slot(table, message, slot);
@@ -118,23 +152,21 @@ fn make_table(alloc: Global, table: &mut Vec<u64>) -> Result<(), AllocError>
     Ok(())
 }
 
-// Counts the channels that an MSM tells.
-fn take_msm(alloc: Global, table: &mut Vec<u64>, message: &Msm) -> Result<(), AllocError>
-    ensures { OnOk result ((ms : List AnyMessage) → spec.CountsChannels table.old.items ms
-        → spec.CountsChannels table.new.items (any.Msm message.now ∷ ms)) }
-{
-    if is_glonass(message.system) {
-        make_table(alloc, table)?;
-        take_slots(table, message);
-    }
-    Ok(())
-}
-
 /// No message came.
 pub(crate) fn no_channels_told(alloc: Global) -> Vec<u64>
     ensures { spec.CountsChannels result.items [] }
 {
     Vec::new(alloc)
+}
+
+fn is_of_glonass(message: &AnyMessage) -> bool
+    ensures { result ≡ spec.is_of_glonass message.now }
+{
+    match message {
+        AnyMessage::Message(_) => false,
+        AnyMessage::Msm(message) => is_glonass(message.system),
+        AnyMessage::Obs1012(_) => true,
+    }
 }
 
 /// Counts the channels that a message tells. The table is made with the first message of GLONASS.
@@ -146,10 +178,11 @@ pub(crate) fn take_channels(
     ensures { OnOk result ((ms : List AnyMessage) → spec.CountsChannels table.old.items ms
         → spec.CountsChannels table.new.items (message.now ∷ ms)) }
 {
-    match message {
-        AnyMessage::Message(_) => Ok(()),
-        AnyMessage::Msm(message) => take_msm(alloc, table, message),
+    if is_of_glonass(message) {
+        make_table(alloc, table)?;
+        take_slots(table, message);
     }
+    Ok(())
 }
 
 // Counts the channel that a 1020 tells.

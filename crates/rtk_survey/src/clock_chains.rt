@@ -1,12 +1,14 @@
 //! How far the clocks of systems are apart within chains of messages.
 //!
 //! A chain ends with an observation message whose multiple-message bit is 0. Its clock is that of its first
-//! message of GPS; if there is none, of Galileo, QZSS, SBAS or NavIC.
+//! message of GPS; if there is none, of Galileo, QZSS, SBAS or NavIC. A 1012 tells no day, so its clock is compared
+//! within half a day.
 
 ghost use Rattle.std.specs.Prelude.{◌≡◌, ◌<◌, ◌≤◌, length, drop, IfSome, OnOk};
 ghost use Rattle.rtk_survey.specs.Chains as spec;
 
 use crate::beside_gps::told_time;
+use crate::telling::DAY_MS;
 use arrayvec::ArrayVec;
 use rtk_message::{AnyMessage, Message, System};
 use rtk_obs::WEEK_MS;
@@ -18,12 +20,23 @@ const MOST_WAITING: usize = 32;
 /// How many offsets of a system that differ are kept.
 const MOST_OFFSETS: usize = 8;
 
+/// A clock of GLONASS has the day (DF416) before 27 bits of the time of day (DF034).
+const TIME_OF_DAY: u32 = 1 << 27;
+
+/// A day (DF416) that is unknown.
+const UNKNOWN_DAY: u32 = 7;
+
+/// Half a day.
+const HALF_DAY_MS: u64 = 43_200_000;
+
 /// The clock of a message.
 #[derive(Clone, Copy, Debug, PartialEq, Eq)]
 pub struct ClockTold {
     pub system: System,
     /// The time of week, as `told_time` has it.
     pub time: u32,
+    /// Is its day known?
+    pub has_day: bool,
 }
 
 // A list that has room for such clocks is filled with it.
@@ -32,6 +45,7 @@ impl Default for ClockTold {
         ClockTold {
             system: System::Gps,
             time: 0,
+            has_day: true,
         }
     }
 }
@@ -76,19 +90,47 @@ pub struct ClockSurvey {
 
 // ---- the clock of a message
 
-fn told_clock(system: System, time: u32) -> ClockTold
-    ensures { result ≡ spec.told_clock system time }
+fn gps_clock(tow: u32) -> ClockTold
+    ensures { result ≡ spec.gps_clock tow }
 {
-    ClockTold { system, time }
+    ClockTold {
+        system: System::Gps,
+        time: tow,
+        has_day: true,
+    }
+}
+
+fn tells_day(system: System, clock: u32) -> bool
+    ensures { result ≡ spec.tells_day system clock }
+{
+    match system {
+        System::Glonass => clock / TIME_OF_DAY != UNKNOWN_DAY,
+        System::Gps
+        | System::Galileo
+        | System::Beidou
+        | System::Qzss
+        | System::Sbas
+        | System::Navic => true,
+    }
+}
+
+fn told_clock(system: System, clock: u32) -> ClockTold
+    ensures { result ≡ spec.told_clock system clock }
+{
+    ClockTold {
+        system,
+        time: told_time(system, clock),
+        has_day: tells_day(system, clock),
+    }
 }
 
 fn clock_of_four(message: &Message) -> Option<ClockTold>
     ensures { result ≡ spec.clock_of_four message.now }
 {
     match message {
-        Message::Obs1004(message) => Some(told_clock(System::Gps, message.tow)),
+        Message::Obs1004(message) => Some(gps_clock(message.tow)),
         Message::Arp1005(_) | Message::Arp1006(_) => None,
-        Message::Msm1074(message) => Some(told_clock(System::Gps, message.header.tow)),
+        Message::Msm1074(message) => Some(gps_clock(message.header.tow)),
     }
 }
 
@@ -97,10 +139,8 @@ fn clock_of(message: &AnyMessage) -> Option<ClockTold>
 {
     match message {
         AnyMessage::Message(message) => clock_of_four(message),
-        AnyMessage::Msm(message) => {
-            let time = told_time(message.system, message.header.tow);
-            Some(told_clock(message.system, time))
-        }
+        AnyMessage::Msm(message) => Some(told_clock(message.system, message.header.tow)),
+        AnyMessage::Obs1012(message) => Some(told_clock(System::Glonass, message.clock())),
     }
 }
 
@@ -120,6 +160,7 @@ fn more_follow(message: &AnyMessage) -> bool
     match message {
         AnyMessage::Message(message) => more_follow_four(message),
         AnyMessage::Msm(message) => message.header.multiple_message,
+        AnyMessage::Obs1012(message) => message.synchronous,
     }
 }
 
@@ -178,6 +219,36 @@ fn ahead_of(base: u32, time: u32) -> u32
     ((u64::from(time) + WEEK_MS).saturating_sub(u64::from(base)) % WEEK_MS) as u32
 }
 
+// Less than a day ahead as within half a day.
+fn from_half_day(ahead: u64) -> u32
+    requires { ahead < 86_400_000 }
+    ensures { result ≡ spec.from_half_day ahead }
+{
+    if ahead <= HALF_DAY_MS {
+        ahead as u32
+    } else {
+        (ahead + (WEEK_MS - DAY_MS)) as u32
+    }
+}
+
+fn ahead_in_day(base: u32, time: u32) -> u32
+    ensures { result ≡ spec.ahead_in_day base time }
+{
+    let base = u64::from(base) % DAY_MS;
+    let time = u64::from(time) % DAY_MS;
+    from_half_day((time + DAY_MS).saturating_sub(base) % DAY_MS)
+}
+
+fn clock_ahead(base: u32, clock: ClockTold) -> u32
+    ensures { result ≡ spec.clock_ahead base clock }
+{
+    if clock.has_day {
+        ahead_of(base, clock.time)
+    } else {
+        ahead_in_day(base, clock.time)
+    }
+}
+
 fn place_of(ahead: u32, list: &[ClockOffset]) -> Option<usize>
     ensures value { result ≡ spec.offset_place 0 ahead list.now }
     ensures bound { IfSome result (λ at. at < length list.now) }
@@ -208,8 +279,8 @@ fn count_offset(list: &mut ArrayVec<ClockOffset, MOST_OFFSETS>, ahead: u32)
 }
 
 impl ClockOffsets {
-    // No chain ended.
-    fn new() -> ClockOffsets
+    /// No chain ended.
+    pub(crate) fn new() -> ClockOffsets
         ensures { result ≡ spec.no_offsets }
     {
         ClockOffsets {
@@ -256,7 +327,7 @@ impl ClockOffsets {
     fn compare(&mut self, base: u32, clock: ClockTold)
         ensures { self.new ≡ spec.with_offset base clock self.old }
     {
-        self.count(clock.system, ahead_of(base, clock.time));
+        self.count(clock.system, clock_ahead(base, clock));
     }
 
     // Some clocks more.
@@ -333,14 +404,21 @@ impl ClockSurvey {
         let Some(clock) = clock_of(message) else {
             return;
         };
-        self.open_with(clock);
-        if !more_follow(message) {
-            self.end_chain();
+        if more_follow(message) {
+            self.open_with(clock);
+            return;
         }
+        // A chain of one clock compares none.
+        if self.waiting.is_empty() {
+            return;
+        }
+        self.open_with(clock);
+        self.end_chain();
     }
 }
 
-/// A message more; the first one makes the entry.
+/// A message more. The first one that other messages follow makes the entry, since a chain of one message
+/// compares no clock.
 pub(crate) fn take_clock(
     entries: &mut Vec<ClockSurvey>,
     message: &AnyMessage,
@@ -348,6 +426,9 @@ pub(crate) fn take_clock(
     ensures { OnOk result (spec.clocks_at entries.new ≡ spec.with_clock_of message.now (spec.clocks_at entries.old)) }
 {
     if entries.is_empty() {
+        if !more_follow(message) {
+            return Ok(());
+        }
         entries.push(ClockSurvey::new())?;
     }
     entries[0].take(message);

@@ -2,14 +2,16 @@
 //!
 //! If memory is refused, a first part of what is put may stand there.
 
-ghost use Rattle.std.specs.Prelude.{◌≡◌, ◌++◌, get_or, OnOk};
-ghost use Rattle.rtk_survey.specs.Chains.{no_clocks};
+ghost use Rattle.std.specs.Prelude.{◌≡◌, ◌++◌, OnOk};
 ghost use Rattle.rtk_survey.specs.ClockLines as spec;
+ghost use Rattle.rtk_survey.specs.Telling.{moment_of};
 
-use crate::clock_chains::{ClockOffset, ClockSurvey};
+use crate::clock_chains::{ClockOffset, ClockOffsets};
+use crate::date_message::UtcDate;
 use crate::line::put_line;
+use crate::telling::moment_of;
 use rtk_message::{put_named, put_number};
-use rtk_obs::{HALF_WEEK_MS, WEEK_MS, three_digits};
+use rtk_obs::{HALF_WEEK_MS, WEEK_MS, leap_seconds_at, three_digits};
 use std::alloc::AllocError;
 
 // ---- the offset that is told
@@ -85,6 +87,41 @@ pub fn told_offset(offsets: &[ClockOffset]) -> Option<ClockOffset>
     told
 }
 
+// ---- GLONASS, whose clocks tell UTC
+
+pub(crate) fn leap_seconds_by(date: UtcDate) -> u8
+    ensures { result ≡ spec.leap_seconds_by (moment_of date) }
+{
+    leap_seconds_at(moment_of(date))
+}
+
+#[tactic(auto, unfolding(crate::specs::ClockLines::gps_ahead_with))]
+pub(crate) fn gps_ahead_with(leap_seconds: u8, ahead: u32) -> u32
+    ensures { result ≡ spec.gps_ahead_with leap_seconds ahead }
+{
+    ((u64::from(ahead) + 1000 * u64::from(leap_seconds)) % WEEK_MS) as u32
+}
+
+fn gps_offset(leap_seconds: u8, offset: ClockOffset) -> ClockOffset
+    ensures { result ≡ spec.gps_offset leap_seconds offset }
+{
+    ClockOffset {
+        ahead_ms: gps_ahead_with(leap_seconds, offset.ahead_ms),
+        count: offset.count,
+    }
+}
+
+/// The offset that is told of clocks of GLONASS, as of clocks of GPS time.
+pub(crate) fn told_gps(leap_seconds: u8, offsets: &[ClockOffset]) -> Option<ClockOffset>
+    ensures { result ≡ spec.told_gps leap_seconds offsets.now }
+{
+    let mut told = None;
+    for offset in offsets {
+        told = told_with_offset(told, gps_offset(leap_seconds, *offset));
+    }
+    told
+}
+
 /// How many clocks these offsets are of.
 pub fn compared_clocks(offsets: &[ClockOffset]) -> u64
     ensures { result ≡ spec.compared_clocks offsets.now }
@@ -136,7 +173,9 @@ fn put_clock_words(lines: &mut Vec<u8>, letter: u8, ahead: u32) -> Result<(), Al
     put_offset(lines, ahead)
 }
 
-fn put_told(
+/// Appends the line of the clocks of a system, if an offset is told: how many of all that are compared have
+/// it.
+pub fn put_clock_line(
     lines: &mut Vec<u8>,
     letter: u8,
     all: u64,
@@ -155,7 +194,7 @@ fn put_told(
 fn put_clock(lines: &mut Vec<u8>, letter: u8, offsets: &[ClockOffset]) -> Result<(), AllocError>
     ensures { OnOk result (lines.new.items ≡ lines.old.items ++ spec.clock_line letter offsets.now) }
 {
-    put_told(
+    put_clock_line(
         lines,
         letter,
         compared_clocks(offsets),
@@ -163,25 +202,38 @@ fn put_clock(lines: &mut Vec<u8>, letter: u8, offsets: &[ClockOffset]) -> Result
     )
 }
 
-// Appends a line for each system whose clocks differ from those of their chains.
-fn put_offsets(lines: &mut Vec<u8>, clocks: &ClockSurvey) -> Result<(), AllocError>
-    ensures { OnOk result (lines.new.items ≡ lines.old.items ++ spec.clock_lines clocks.now.offsets) }
+// The line of GLONASS, if the station has a date.
+fn put_glonass(
+    lines: &mut Vec<u8>,
+    date: Option<UtcDate>,
+    offsets: &[ClockOffset],
+) -> Result<(), AllocError>
+    ensures { OnOk result (lines.new.items ≡ lines.old.items ++ spec.glonass_line date offsets.now) }
 {
-    let offsets = &clocks.offsets;
+    let Some(date) = date else {
+        return Ok(());
+    };
+    put_clock_line(
+        lines,
+        b'R',
+        compared_clocks(offsets),
+        told_gps(leap_seconds_by(date), offsets),
+    )
+}
+
+/// Appends a line for each system whose clocks differ from those of their chains.
+pub(crate) fn put_offsets(
+    lines: &mut Vec<u8>,
+    date: Option<UtcDate>,
+    offsets: &ClockOffsets,
+) -> Result<(), AllocError>
+    ensures { OnOk result (lines.new.items ≡ lines.old.items ++ spec.clock_lines date offsets.now) }
+{
+    put_glonass(lines, date, offsets.glonass.as_slice())?;
     put_clock(lines, b'E', offsets.galileo.as_slice())?;
     put_clock(lines, b'C', offsets.beidou.as_slice())?;
     put_clock(lines, b'J', offsets.qzss.as_slice())?;
     put_clock(lines, b'S', offsets.sbas.as_slice())?;
     put_clock(lines, b'I', offsets.navic.as_slice())?;
     Ok(())
-}
-
-/// Appends the lines of clocks of a station, of which there is an entry or none.
-pub(crate) fn put_clocks(lines: &mut Vec<u8>, station: &[ClockSurvey]) -> Result<(), AllocError>
-    ensures { OnOk result (lines.new.items ≡ lines.old.items ++ spec.clock_lines (get_or station.now 0 no_clocks).offsets) }
-{
-    if station.len() == 0 {
-        return Ok(());
-    }
-    put_offsets(lines, &station[0])
 }

@@ -50,7 +50,7 @@ pub struct Contents {
     /// What 1042, 1045, 1046, 1020 and 1013 tell.
     pub system_tellings: SystemTellings,
     pub unread: Unread,
-    /// How many MSM of other systems than GPS came, by number (DF002).
+    /// How many messages of other systems than GPS came, by number (DF002).
     pub beside: BTreeMap<u16, u64>,
     /// What they tell of the station of a conversion, if it is asked for.
     pub target: Option<TargetSurvey>,
@@ -182,7 +182,7 @@ impl Contents {
         self.system_signals.mark_entries(signals);
         count_beside(&mut self.beside, message)?;
         take_message(alloc, &mut self.stations, message, entries, &codes, signals)?;
-        take_target_message(alloc, &mut self.target, message, entries, frame)
+        take_target_message(alloc, &mut self.target, message, entries, signals, frame)
     }
 
     /// A frame more, whose payload is no message that is read. It may tell a date, an antenna or a

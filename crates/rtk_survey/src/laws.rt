@@ -3,16 +3,18 @@
 //!
 //! Each function here does nothing. Its contract is the law.
 
-ghost use Rattle.std.specs.Prelude.{◌≡◌, ◌≤◌, ◌<◌, ℕ, List, ◌++◌, IsTrue};
+ghost use Rattle.std.specs.Prelude.{◌≡◌, ◌≤◌, ◌<◌, ℕ, Bool, false, List, [], ◌++◌, IsTrue};
 ghost use Rattle.std.specs.List.{list_all};
 ghost use Rattle.rtk_message.specs.declared.any_message.AnyMessage.{AnyMessage};
 ghost use Rattle.rtk_message.specs.Systems.{number_of_kind};
 ghost use Rattle.rtk_message.specs.declared.msm_kind.MsmKind.{MsmKind};
 ghost use Rattle.rtk_message.specs.declared.msm_kind.MsmKind.TheVariants.{Msm4};
+ghost use Rattle.rtk_obs.specs.declared.any_code.AnyCode.{AnyCode};
 ghost use Rattle.rtk_survey.specs.CountingLaws.{EachFrameIsCounted, EachMessageIsCounted, FramesAreTakenAlike, MessagesAreTakenAlike, ChangesAddUp, OtherTimeIsChange, EpochsAreChanges, PartsStand, StationsStand, ProposalsStand, UntakenStand};
+ghost use Rattle.rtk_survey.specs.NextCommand.{station_proposal};
 ghost use Rattle.rtk_survey.specs.NumberLaws.{NumberLineTells, CountedLineTells, NumberedLineTells, TimeLinesTell, ProposalLinesTell, EpochsAreCounted, SummaryTellsFrames, StationLinesTell, UnreadLinesTell};
 ghost use Rattle.rtk_survey.specs.Proposal.{is_of_four, epochs_with_value, entries_with, proposed};
-ghost use Rattle.rtk_survey.specs.SummaryText.{codes_text, second_frequency_line, next_lines, proposal_lines};
+ghost use Rattle.rtk_survey.specs.SummaryText.{codes_text, second_frequency_line, next_lines};
 ghost use Rattle.rtk_survey.specs.Tracing.{entries_in, has_code};
 
 /// No MSM has more epochs with a value than the one that is named, and none greater has as many. If
@@ -24,13 +26,14 @@ pub fn most_epochs_are_named()
     ensures none { (epochs : MsmKind → ℕ) → epochs (proposed epochs) ≡ 0 → proposed epochs ≡ Msm4 }
 {}
 
-/// For a station whose messages are all of 1004 to 1006 and 1074, the command names no MSM and lists
-/// the codes of all cells. The line of its second frequency goes by these codes, and no line tells of
+/// For a station whose messages are all of 1004 to 1006 and 1074, and of which no code of another system is
+/// taken, the command names no MSM and lists the codes of all cells. The line of its second frequency goes by these codes, and no line tells of
 /// another MSM.
 pub fn four_need_no_option()
-    ensures { (name near : List ℕ) (station : ℕ) (ms : List AnyMessage) → IsTrue (list_all is_of_four ms)
-        → proposal_lines name near station (λ kind. epochs_with_value kind ms) (λ kind. has_code (entries_with kind ms))
-        ≡ second_frequency_line (has_code (entries_in ms)) ++ next_lines name near station Msm4 (codes_text (has_code (entries_in ms))) }
+    ensures { (name near : List ℕ) (station : ℕ) (ms : List AnyMessage) (beside : ℕ → ℕ) (other : AnyCode → Bool) (items : List ℕ)
+        → IsTrue (list_all is_of_four ms) → ((c : AnyCode) → other c ≡ false)
+        → station_proposal name near station (λ kind. epochs_with_value kind ms) (λ kind. has_code (entries_with kind ms)) beside other items
+        ≡ second_frequency_line (has_code (entries_in ms)) ++ next_lines name near station [] (codes_text (has_code (entries_in ms))) }
 {}
 
 /// Equal lines of a summary tell equal numbers: no number stops short of what a u64 holds. The lines of

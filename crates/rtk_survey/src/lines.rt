@@ -20,7 +20,6 @@ ghost use Rattle.rtk_survey.specs.declared.station_dates.StationDates.{StationDa
 ghost use Rattle.rtk_survey.specs.declared.target.Target.{Target};
 
 use crate::channel_lines::put_channels;
-use crate::clock_lines::put_clocks;
 use crate::contents::Contents;
 use crate::date_lines::{put_dates, put_system_weeks, put_weeks};
 use crate::equipment_lines::{is_told, put_equipment};
@@ -31,7 +30,9 @@ use crate::proposal_lines::put_proposal;
 use crate::signal_lines::{all_codes_text, put_signals};
 use crate::station::StationSurvey;
 use crate::survey::CaptureSurvey;
+use crate::systems_sent::SystemsSent;
 use crate::times_of_week::Times;
+use crate::unchecked_clocks::put_clocks;
 use crate::unread::{Unread, count_of_number};
 use rtk_message::put_named;
 use std::alloc::{AllocError, Global};
@@ -155,15 +156,14 @@ fn put_station(
     put_signals(alloc, lines, &station.signals, &station.system_signals)?;
     put_epochs(lines, station)?;
     put_channels(alloc, lines, station.channels.as_slice())?;
-    put_clocks(lines, station.clocks.as_slice())?;
-    put_proposal(
-        alloc,
+    let sent = SystemsSent::of(&station.signals.codes.marks, &station.system_signals.codes);
+    put_clocks(
         lines,
-        name,
         station.dates.proposed_date(),
-        number,
-        &station.msm,
+        &sent,
+        station.clocks.as_slice(),
     )?;
+    put_proposal(alloc, lines, name, number, station)?;
     Ok(())
 }
 

@@ -11,16 +11,16 @@ use crate::station::StationSurvey;
 use crate::system_msm::{epochs_numbered, messages_numbered};
 use std::alloc::AllocError;
 
-/// The messages that are read: 1004 to 1006, and MSM4 to MSM7 of all systems.
-const MESSAGES: [u16; 31] = [
-    1004, 1005, 1006, 1074, 1075, 1076, 1077, 1084, 1085, 1086, 1087, 1094, 1095, 1096, 1097, 1104,
-    1105, 1106, 1107, 1114, 1115, 1116, 1117, 1124, 1125, 1126, 1127, 1134, 1135, 1136, 1137,
+/// The messages that are read: 1004 to 1006, 1012, and MSM4 to MSM7 of all systems.
+const MESSAGES: [u16; 32] = [
+    1004, 1005, 1006, 1012, 1074, 1075, 1076, 1077, 1084, 1085, 1086, 1087, 1094, 1095, 1096, 1097,
+    1104, 1105, 1106, 1107, 1114, 1115, 1116, 1117, 1124, 1125, 1126, 1127, 1134, 1135, 1136, 1137,
 ];
 
 /// Those of other systems than GPS.
-const BESIDE_GPS: [u16; 24] = [
-    1084, 1085, 1086, 1087, 1094, 1095, 1096, 1097, 1104, 1105, 1106, 1107, 1114, 1115, 1116, 1117,
-    1124, 1125, 1126, 1127, 1134, 1135, 1136, 1137,
+const BESIDE_GPS: [u16; 25] = [
+    1012, 1084, 1085, 1086, 1087, 1094, 1095, 1096, 1097, 1104, 1105, 1106, 1107, 1114, 1115, 1116,
+    1117, 1124, 1125, 1126, 1127, 1134, 1135, 1136, 1137,
 ];
 
 // How many messages of a number a station has.

@@ -2,14 +2,21 @@
 
 ghost use Rattle.std.specs.Prelude.{◌≡◌, ◌<◌, ◌++◌, OnOk};
 ghost use Rattle.rtk_obs.specs.CivilText.{last_digits};
-ghost use Rattle.rtk_survey.specs.SummaryText.{other_msm_line, other_msm_lines, msm_option, near_text, words_text, is_standard_input, auto_line, next_lines, proposal_lines};
+ghost use Rattle.rtk_survey.specs.FrameDates.{proposed_date};
+ghost use Rattle.rtk_survey.specs.NextCommand.{station_proposal};
+ghost use Rattle.rtk_survey.specs.Steps.OtherSystems.{glonass_held, taken_held};
+ghost use Rattle.rtk_survey.specs.Steps.Tables.{system_epochs_held};
+ghost use Rattle.rtk_survey.specs.SummaryText.{other_msm_line, other_msm_lines, near_text, words_text, is_standard_input, auto_line, next_lines};
 ghost use Rattle.rtk_survey.specs.Contents.{epochs_held, codes_held};
 
 use crate::date_lines::put_near;
 use crate::date_message::UtcDate;
 use crate::line::put_numbered;
 use crate::msm_parts::MsmParts;
-use crate::signal_lines::{codes_text, put_second_frequency};
+use crate::next_command::{next_options, taken_codes};
+use crate::signal_lines::{all_codes_text, put_second_frequency};
+use crate::station::StationSurvey;
+use crate::systems_sent::SystemsSent;
 use rtk_message::{MsmKind, put_named, put_sh_quoted};
 use std::alloc::{AllocError, Global};
 
@@ -44,18 +51,6 @@ fn put_other_msms(lines: &mut Vec<u8>, msm: &MsmParts, named: MsmKind) -> Result
     Ok(())
 }
 
-// The option that names an MSM.
-fn msm_option(named: MsmKind) -> &'static [u8]
-    ensures { result.now ≡ msm_option named }
-{
-    match named {
-        MsmKind::Msm4 => b"",
-        MsmKind::Msm5 => b" --msm 5",
-        MsmKind::Msm6 => b" --msm 6",
-        MsmKind::Msm7 => b" --msm 7",
-    }
-}
-
 // The four digits of a station's number.
 fn marker_of(station: u16) -> [u8; 4]
     ensures { result ≡ last_digits 4 station }
@@ -74,16 +69,16 @@ fn put_words(
     lines: &mut Vec<u8>,
     name: &[u8],
     station: u16,
-    named: MsmKind,
+    options: &[u8],
     codes: &[u8],
 ) -> Result<(), AllocError>
-    ensures { OnOk result (lines.new.items ≡ lines.old.items ++ words_text name.now station named codes.now) }
+    ensures { OnOk result (lines.new.items ≡ lines.old.items ++ words_text name.now station options.now codes.now) }
 {
     lines.extend_from_slice(b" --made \"$(date -u +%FT%T)\" --marker ")?;
     lines.extend_from_slice(&marker_of(station))?;
     lines.extend_from_slice(b" --codes")?;
     lines.extend_from_slice(codes)?;
-    lines.extend_from_slice(msm_option(named))?;
+    lines.extend_from_slice(options)?;
     lines.push(b' ')?;
     put_sh_quoted(lines, name)?;
     lines.push(b'\n')?;
@@ -124,10 +119,10 @@ fn put_next(
     name: &[u8],
     near: Option<UtcDate>,
     station: u16,
-    named: MsmKind,
+    options: &[u8],
     codes: &[u8],
 ) -> Result<(), AllocError>
-    ensures { OnOk result (lines.new.items ≡ lines.old.items ++ next_lines name.now (near_text near) station named codes.now) }
+    ensures { OnOk result (lines.new.items ≡ lines.old.items ++ next_lines name.now (near_text near) station options.now codes.now) }
 {
     if codes.is_empty() {
         return Ok(());
@@ -139,29 +134,41 @@ fn put_next(
     )?;
     lines.extend_from_slice(b" --near ")?;
     put_near(lines, near)?;
-    put_words(lines, name, station, named, codes)?;
+    put_words(lines, name, station, options, codes)?;
     put_auto(lines, name, station)?;
     Ok(())
 }
 
-/// Appends the commands that convert a station, and before them its second frequency and the MSM that
+/// Appends the commands that convert a station, and before them its second frequency and the MSM of GPS that
 /// they leave out.
 pub(crate) fn put_proposal(
     alloc: Global,
     lines: &mut Vec<u8>,
     name: &[u8],
-    near: Option<UtcDate>,
-    station: u16,
-    msm: &MsmParts,
+    number: u16,
+    station: &StationSurvey,
 ) -> Result<(), AllocError>
     ensures { OnOk result (lines.new.items ≡ lines.old.items
-        ++ proposal_lines name.now (near_text near) station (epochs_held msm.now) (codes_held msm.now)) }
+        ++ station_proposal name.now (near_text (proposed_date station.now.dates)) number (epochs_held station.now.msm) (codes_held station.now.msm)
+        (system_epochs_held station.now) (taken_held (proposed_date station.now.dates) station.now)
+        (glonass_held (proposed_date station.now.dates) station.now)) }
 {
-    let named = msm.proposed();
-    let marks = &msm.part(named).codes.marks;
+    let near = station.dates.proposed_date();
+    let named = station.msm.proposed();
+    let marks = &station.msm.part(named).codes.marks;
+    let others = taken_codes(near, station);
+    let codes = all_codes_text(alloc, marks, &others)?;
+    let sent = SystemsSent::of(marks, &others);
+    let options = next_options(alloc, near, station, named, &sent)?;
     put_second_frequency(lines, marks)?;
-    put_other_msms(lines, msm, named)?;
-    let codes = codes_text(alloc, marks)?;
-    put_next(lines, name, near, station, named, codes.as_slice())?;
+    put_other_msms(lines, &station.msm, named)?;
+    put_next(
+        lines,
+        name,
+        near,
+        number,
+        options.as_slice(),
+        codes.as_slice(),
+    )?;
     Ok(())
 }

@@ -28,6 +28,12 @@ use std::alloc::{AllocError, Global};
 /// The most bytes that one read asks for.
 const PIECE: usize = 32_768;
 
+/// 1004 to 1006, 1012, and MSM4 to MSM7 of all systems.
+const READ: Accepted = Accepted {
+    obs1012: true,
+    ..Accepted::ALL
+};
+
 /// How many bytes of a capture are kept from its beginning.
 const HEAD: usize = 512;
 
@@ -50,6 +56,10 @@ fn put_entries(message: &AnyMessage, found: &mut ArrayVec<CellEntry, 64>)
     let _ = match message {
         AnyMessage::Message(message) => put_cells_of(message, found),
         AnyMessage::Msm(message) => put_cells_msm(message, found),
+        AnyMessage::Obs1012(_) => {
+            found.clear();
+            true
+        }
     };
 }
 
@@ -72,7 +82,7 @@ impl Decoding {
     ) -> Result<(), AllocError>
         ensures { OnOk result (HoldsMore (payload.now ∷ []) contents.old contents.new) }
     {
-        match self.decoder.read(Accepted::ALL, payload) {
+        match self.decoder.read(READ, payload) {
             Ok(message) => {
                 put_entries(message, &mut self.room);
                 put_cells_beside_gps(message, &mut self.signals);

@@ -66,7 +66,7 @@ fn point_of(message: &AnyMessage) -> Option<ReferencePoint>
 {
     match message {
         AnyMessage::Message(message) => point_of_four(message),
-        AnyMessage::Msm(_) => None,
+        AnyMessage::Msm(_) | AnyMessage::Obs1012(_) => None,
     }
 }
 

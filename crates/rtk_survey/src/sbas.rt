@@ -38,6 +38,6 @@ pub(crate) fn has_sbas(message: &AnyMessage) -> bool
 {
     match message {
         AnyMessage::Message(message) => has_sbas_of_four(message),
-        AnyMessage::Msm(_) => false,
+        AnyMessage::Msm(_) | AnyMessage::Obs1012(_) => false,
     }
 }

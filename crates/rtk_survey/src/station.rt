@@ -54,11 +54,11 @@ pub struct StationSurvey {
     pub msm: MsmParts,
     /// The satellites and codes of other systems that have a value.
     pub system_signals: SystemSignals,
-    /// Its MSM of other systems, by number (DF002).
+    /// Its messages of other systems, by number (DF002).
     pub system_msm: BTreeMap<u16, SystemMsm>,
     /// How many messages tell each channel of each slot of GLONASS (`count_of_field`).
     pub channels: Vec<u64>,
-    /// How far the clocks of its systems are apart: an entry, or none if no message came.
+    /// How far the clocks of its systems are apart: an entry, or none if each chain has one message.
     pub clocks: Vec<ClockSurvey>,
     /// That of its first 1005 or 1006 that has one.
     pub reference_point: Option<ReferencePoint>,

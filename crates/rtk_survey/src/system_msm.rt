@@ -1,4 +1,4 @@
-//! What a station has of the MSM of other systems than GPS, by the number of the message.
+//! What a station has of the messages of other systems than GPS, by their number.
 
 ghost use Rattle.std.specs.Prelude.{◌≡◌, List, ℕ, true, [], ◌∷◌, OnOk};
 ghost use Rattle.std.specs.BTreeMap.{get};
@@ -30,7 +30,7 @@ pub struct SystemMsm {
     pub signals: SystemSignals,
 }
 
-// Notes the time of a message, if it is an MSM.
+// Notes the time of a message, if it is a 1012 or an MSM.
 fn note_told_time(epochs: &mut Epochs, message: &AnyMessage)
     ensures { (ms : List AnyMessage) → epochs.old ≡ epochs_so_far (filter_map told_time_of ms)
         → epochs.new ≡ epochs_so_far (filter_map told_time_of (message.now ∷ ms)) }
@@ -40,8 +40,8 @@ fn note_told_time(epochs: &mut Epochs, message: &AnyMessage)
     }
 }
 
-// Has a message with these cells a value?
-fn gives_value(_message: &AnyMessage, entries: &[SignalEntry]) -> bool
+/// Has a message with these cells of other systems than GPS a value?
+pub(crate) fn gives_value(_message: &AnyMessage, entries: &[SignalEntry]) -> bool
     requires { entries.now ≡ cells_beside_gps _message.now }
     ensures { result ≡ spec.gives_value_beside _message.now }
 {

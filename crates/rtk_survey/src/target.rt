@@ -1,9 +1,11 @@
-//! The station of a conversion: the one that is named, or else the first one that has an observation.
+//! The station of a conversion: the one that is named, or else the first one that has an observation of a system that
+//! dates.
 
 ghost use Rattle.std.specs.Prelude.{◌≡◌, ◌≢◌, ℕ, List, [], ◌∷◌, length, Option, Some, Ok, Err, true, OnOk};
 ghost use Rattle.rtk_bits.specs.Bits.{bits};
 ghost use Rattle.rtk_message.specs.declared.any_message.AnyMessage.{AnyMessage};
 ghost use Rattle.rtk_message.specs.declared.any_fault.AnyFault.{AnyFault};
+ghost use Rattle.rtk_survey.specs.BesideGps.{cells_beside_gps};
 ghost use Rattle.rtk_survey.specs.CaptureDates.{no_dates};
 ghost use Rattle.rtk_survey.specs.Counting.{shown_count};
 ghost use Rattle.rtk_survey.specs.Parting as parting;
@@ -11,17 +13,20 @@ ghost use Rattle.rtk_survey.specs.ReadFrames.{ReadFrame, read_frame};
 ghost use Rattle.rtk_survey.specs.Targets as spec;
 ghost use Rattle.rtk_survey.specs.Targets.{IsTargetOf, IsAnswer};
 ghost use Rattle.rtk_survey.specs.Tracing.{entries_of_message};
+ghost use Rattle.rtk_survey.specs.declared.dating_systems.DatingSystems.{DatingSystems};
 ghost use Rattle.rtk_survey.specs.declared.target.Target.{Target};
 
 use crate::capture_dates::CaptureDates;
 use crate::date_message::{DateMessage, UtcDate, date_in};
+use crate::dating_systems::DatingSystems;
 use crate::equipment_message::{EquipmentMessage, equipment_in};
 use crate::parting::Parting;
 use crate::phases::Phases;
 use crate::signals::have_value;
+use crate::system_msm::gives_value;
 use crate::telling::is_to_come;
 use rtk_message::AnyMessage;
-use rtk_obs::{CellEntry, GpsMs};
+use rtk_obs::{CellEntry, GpsMs, SignalEntry};
 use std::alloc::{AllocError, Global};
 
 /// For which station a capture is surveyed.
@@ -29,6 +34,8 @@ use std::alloc::{AllocError, Global};
 pub struct Target {
     /// The station, if one is named.
     pub station: Option<u16>,
+    /// The systems whose observations date.
+    pub systems: DatingSystems,
     /// The present: no date is after it.
     pub present: GpsMs,
 }
@@ -36,7 +43,9 @@ pub struct Target {
 /// The station that is known, and what a capture tells of its epochs.
 #[derive(Clone, Drop)]
 pub struct TargetDates {
-    /// The station that was named, or else the first one that had an observation.
+    /// The systems whose observations date.
+    pub systems: DatingSystems,
+    /// The station that was named, or else the first one that had an observation of such a system.
     pub station: Option<u16>,
     pub capture: CaptureDates,
 }
@@ -66,20 +75,36 @@ pub struct TargetSurvey {
     pub to_come: Option<UtcDate>,
 }
 
-// Has a message with these cells an observation?
-fn observes(_message: &AnyMessage, entries: &[CellEntry]) -> bool
+// Has a message with these cells an observation of GPS?
+fn observes_gps(_message: &AnyMessage, entries: &[CellEntry]) -> bool
     requires { entries.now ≡ entries_of_message _message.now }
-    ensures { result ≡ spec.observes _message.now }
+    ensures { result ≡ spec.observes_gps _message.now }
 {
     have_value(entries)
 }
 
+// Has a message with these cells an observation of a system that dates?
+fn observes(
+    systems: &DatingSystems,
+    message: &AnyMessage,
+    entries: &[CellEntry],
+    signals: &[SignalEntry],
+) -> bool
+    requires entries { entries.now ≡ entries_of_message message.now }
+    requires signals { signals.now ≡ cells_beside_gps message.now }
+    ensures { result ≡ spec.observes systems.now message.now }
+{
+    (observes_gps(message, entries) || gives_value(message, signals))
+        && systems.have_message(message)
+}
+
 impl TargetDates {
     // Nothing came; this station is named, or none.
-    fn new(station: Option<u16>) -> TargetDates
-        ensures { result ≡ spec.dates_with station no_dates }
+    fn new(systems: DatingSystems, station: Option<u16>) -> TargetDates
+        ensures { result ≡ spec.dates_with systems station no_dates }
     {
         TargetDates {
+            systems,
             station,
             capture: CaptureDates::new(),
         }
@@ -87,7 +112,7 @@ impl TargetDates {
 
     // A message more that has an observation.
     fn take_observation(&mut self, now: GpsMs, message: &AnyMessage)
-        requires { spec.observes message.now ≡ true }
+        requires { spec.observes self.old.systems message.now ≡ true }
         ensures { self.new ≡ spec.with_observation now self.old message.now }
     {
         let Some(tow) = message.tow() else {
@@ -176,16 +201,23 @@ fn first_to_come(
     }
 }
 
-fn take_message(dates: &mut TargetDates, now: GpsMs, message: &AnyMessage, entries: &[CellEntry])
-    requires { entries.now ≡ entries_of_message message.now }
+fn take_message(
+    dates: &mut TargetDates,
+    now: GpsMs,
+    message: &AnyMessage,
+    entries: &[CellEntry],
+    signals: &[SignalEntry],
+)
+    requires entries { entries.now ≡ entries_of_message message.now }
+    requires signals { signals.now ≡ cells_beside_gps message.now }
     ensures { dates.new ≡ spec.with_observation now dates.old message.now }
 {
-    if observes(message, entries) {
+    if observes(&dates.systems, message, entries, signals) {
         dates.take_observation(now, message);
     }
 }
 
-// Counts the phases of a message, if it is of the station that is now known.
+// Counts the phases of GPS of a message, if it is of the station that is now known.
 fn take_phases(
     alloc: Global,
     phases: &mut Phases,
@@ -194,7 +226,8 @@ fn take_phases(
     entries: &[CellEntry],
 ) -> Result<(), AllocError>
     requires { entries.now ≡ entries_of_message message.now }
-    ensures { OnOk result ((before : Option ℕ) (ms : List AnyMessage) → station ≡ spec.station_after before message.now
+    ensures { OnOk result ((systems : DatingSystems) (before : Option ℕ) (ms : List AnyMessage) → systems.gps ≡ true
+        → station ≡ spec.station_after systems before message.now
         → spec.HasTargetPhases phases.old before ms → spec.HasTargetPhases phases.new station (message.now ∷ ms)) }
 {
     let Some(station) = station else {
@@ -213,7 +246,7 @@ impl TargetSurvey {
     {
         TargetSurvey {
             present: target.present,
-            dates: TargetDates::new(target.station),
+            dates: TargetDates::new(target.systems, target.station),
             phases: Phases::new(alloc),
             equipment: EquipmentTimes::new(),
             parting: Parting::new(),
@@ -227,14 +260,16 @@ impl TargetSurvey {
         alloc: Global,
         message: &AnyMessage,
         entries: &[CellEntry],
+        signals: &[SignalEntry],
         frame: u64,
     ) -> Result<(), AllocError>
-        requires { entries.now ≡ entries_of_message message.now }
+        requires entries { entries.now ≡ entries_of_message message.now }
+        requires signals { signals.now ≡ cells_beside_gps message.now }
         ensures { OnOk result ((q : Target) (fs : List ReadFrame) (payload : List ℕ) → frame ≡ shown_count (length fs)
             → IsTargetOf q fs self.old → IsTargetOf q (read_frame payload (Ok message.now) ∷ fs) self.new) }
     {
         let before = self.dates.capture.span;
-        take_message(&mut self.dates, self.present, message, entries);
+        take_message(&mut self.dates, self.present, message, entries, signals);
         self.parting
             .take_epochs(before, self.dates.capture.span, frame);
         take_phases(
@@ -286,14 +321,16 @@ pub(crate) fn take_target_message(
     answer: &mut Option<TargetSurvey>,
     message: &AnyMessage,
     entries: &[CellEntry],
+    signals: &[SignalEntry],
     frame: u64,
 ) -> Result<(), AllocError>
-    requires { entries.now ≡ entries_of_message message.now }
+    requires entries { entries.now ≡ entries_of_message message.now }
+    requires signals { signals.now ≡ cells_beside_gps message.now }
     ensures { OnOk result ((q : Option Target) (fs : List ReadFrame) (payload : List ℕ) → frame ≡ shown_count (length fs)
         → IsAnswer q fs answer.old → IsAnswer q (read_frame payload (Ok message.now) ∷ fs) answer.new) }
 {
     match answer {
-        Some(survey) => survey.take_message(alloc, message, entries, frame),
+        Some(survey) => survey.take_message(alloc, message, entries, signals, frame),
         None => Ok(()),
     }
 }

@@ -5,7 +5,8 @@ ghost use Rattle.rtk_message.specs.declared.any_message.AnyMessage.{AnyMessage};
 ghost use Rattle.rtk_survey.specs.Contents.{times_of};
 ghost use Rattle.rtk_survey.specs.Tracing.{change_from, gps_time_of, times_of_week};
 
-use rtk_message::{Accepted, AnyMessage};
+use crate::beside_gps::is_beside_gps;
+use rtk_message::AnyMessage;
 
 /// The first time and the last one, in ms, and how many differ from the one before.
 #[derive(Clone, Copy, Debug, PartialEq, Eq)]
@@ -19,10 +20,10 @@ pub struct Times {
 pub(crate) fn gps_time_of(message: &AnyMessage) -> Option<u32>
     ensures { result ≡ gps_time_of message.now }
 {
-    if Accepted::GPS.accepts(message.number()) {
-        message.tow()
-    } else {
+    if is_beside_gps(message) {
         None
+    } else {
+        message.tow()
     }
 }
 

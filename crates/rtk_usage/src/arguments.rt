@@ -1,5 +1,6 @@
 //! The arguments that several commands have.
 
+use crate::limits::MOST_LEAP_SECONDS;
 use clap::{Arg, ArgAction, value_parser};
 use rtk_setup::{GREATEST_STATION, LEAST_WINDOW, MOST_WINDOW};
 use std::alloc::Global;
@@ -69,6 +70,11 @@ pub(crate) fn kinds_arg<'a>(alloc: Global, takes_lists: bool, help: &'a str) -> 
         return option_arg(alloc, "msm", "N", help);
     }
     msm_arg(alloc, help)
+}
+
+/// The leap seconds that date GLONASS.
+pub(crate) fn leap_seconds_arg<'a>(alloc: Global, help: &'a str) -> Arg<'a> {
+    number_arg(alloc, "leap-seconds", 0, i64::from(MOST_LEAP_SECONDS), help)
 }
 
 /// The marker's name.

@@ -2,7 +2,9 @@
 //!
 //! Its arguments stand in several functions, since the check of one that adds them all takes long.
 
-use crate::arguments::{marker_arg, msm_arg, option_arg, station_arg, switch_arg, window_arg};
+use crate::arguments::{
+    leap_seconds_arg, marker_arg, msm_arg, option_arg, station_arg, switch_arg, window_arg,
+};
 use crate::help_texts;
 use clap::builder::ValueParser;
 use clap::{Arg, ArgAction, Command};
@@ -59,7 +61,7 @@ fn auto_with_times<'a>(alloc: Global) -> Result<Command<'a>, AllocError> {
 
 fn auto_with_values<'a>(alloc: Global) -> Result<Command<'a>, AllocError> {
     let codes = "The observation codes; all that have a value if not given";
-    let msm = "Which MSM is converted beside 1004, 4 to 7";
+    let msm = "Which MSM of all systems is converted beside 1004, 4 to 7";
     let window = "How many epochs are kept open, 2 to 4096; 4096 if not given";
     auto_with_times(alloc)?
         .arg(option_arg(alloc, "codes", "LIST", codes))?
@@ -67,12 +69,26 @@ fn auto_with_values<'a>(alloc: Global) -> Result<Command<'a>, AllocError> {
         .arg(window_arg(alloc, window))
 }
 
+fn systems_arg<'a>(alloc: Global) -> Result<Arg<'a>, AllocError> {
+    let help = "The systems that are converted, as GRE; all that are found if not given";
+    option_arg(alloc, "systems", "LETTERS", help).conflicts_with("codes")
+}
+
+fn auto_with_systems<'a>(alloc: Global) -> Result<Command<'a>, AllocError> {
+    let channels = "The channels of GLONASS slots, as 1:1,9:-6, or none";
+    let seconds = "The leap seconds that date GLONASS, 0 to 99; those of the table if not given";
+    auto_with_values(alloc)?
+        .arg(systems_arg(alloc)?)?
+        .arg(option_arg(alloc, "channels", "LIST", channels))?
+        .arg(leap_seconds_arg(alloc, seconds))
+}
+
 /// The command `auto`.
 pub(crate) fn auto_command<'a>(alloc: Global) -> Result<Command<'a>, AllocError> {
     let skip_empty = "Leave out captures in which nothing of the station was found";
     let links_as_given = "Take each capture for a link, as convert does";
     let report = "Show the report of convert";
-    auto_with_values(alloc)?
+    auto_with_systems(alloc)?
         .arg(switch_arg(alloc, "skip-empty", skip_empty))?
         .arg(switch_arg(alloc, "links-as-given", links_as_given))?
         .arg(switch_arg(alloc, "report", report))?

@@ -3,12 +3,13 @@
 //! clap is the costly part of the proof, so its command is built here alone, in small functions.
 
 use crate::arguments::{
-    file_arg, kinds_arg, marker_arg, number_arg, option_arg, station_arg, switch_arg, window_arg,
+    file_arg, kinds_arg, leap_seconds_arg, marker_arg, number_arg, option_arg, station_arg,
+    switch_arg, window_arg,
 };
 use crate::auto_command::auto_command;
 use crate::help_texts;
 use crate::label_command::label_command;
-use crate::limits::{LEAST_WIDTH, MOST_LEAP_SECONDS, MOST_STEP, MOST_WIDTH};
+use crate::limits::{LEAST_WIDTH, MOST_STEP, MOST_WIDTH};
 use clap::{Arg, ArgAction, ArgGroup, Command};
 use std::alloc::{AllocError, Global};
 
@@ -16,7 +17,7 @@ use std::alloc::{AllocError, Global};
 const NAME: &str = "rtcm2rinex";
 
 /// The version that `--version` shows.
-const VERSION: &str = "0.4.0";
+const VERSION: &str = "0.5.0";
 
 /// The window if none is given.
 const WINDOW: &str = "64";
@@ -145,7 +146,7 @@ fn cut_command<'a>(alloc: Global) -> Result<Command<'a>, AllocError> {
         .group(cut_options_group(alloc)?)
 }
 
-// `convert` with its first options. Its arguments stand in two functions, since the check of one that
+// `convert` with its first options. Its arguments stand in several functions, since the check of one that
 // adds them all takes long.
 fn convert_with_times<'a>(alloc: Global) -> Result<Command<'a>, AllocError> {
     let station = "The reference station, 0 to 4095, as 2003";
@@ -170,18 +171,21 @@ fn convert_with_codes<'a>(alloc: Global) -> Result<Command<'a>, AllocError> {
         .arg(window_arg(alloc, window).default_value(WINDOW))
 }
 
-fn leap_seconds_arg<'a>(alloc: Global) -> Arg<'a> {
-    let help = "The leap seconds that date GLONASS, 0 to 99; those of the table if not given";
-    number_arg(alloc, "leap-seconds", 0, i64::from(MOST_LEAP_SECONDS), help)
-}
-
-fn convert_command<'a>(alloc: Global, takes_lists: bool) -> Result<Command<'a>, AllocError> {
+// The same with the kinds of MSM and the channels.
+fn convert_with_kinds<'a>(alloc: Global, takes_lists: bool) -> Result<Command<'a>, AllocError> {
     let msm = "Which MSM is converted: 4 is MSM4, as 1074, to 7; 7,E4 has an exception";
     let channels = "The channels of GLONASS slots, as 1:1,9:-6, or none";
     convert_with_codes(alloc)?
         .arg(kinds_arg(alloc, takes_lists, msm).default_value(MSM))?
-        .arg(option_arg(alloc, "channels", "LIST", channels))?
-        .arg(leap_seconds_arg(alloc))?
+        .arg(option_arg(alloc, "channels", "LIST", channels))
+}
+
+fn convert_command<'a>(alloc: Global, takes_lists: bool) -> Result<Command<'a>, AllocError> {
+    let seconds = "The leap seconds that date GLONASS, 0 to 99; those of the table if not given";
+    let with_1012 = "Converts 1012 too, and dates it within half a day of --near";
+    convert_with_kinds(alloc, takes_lists)?
+        .arg(leap_seconds_arg(alloc, seconds))?
+        .arg(switch_arg(alloc, "with-1012", with_1012))?
         .arg(links_arg(alloc))
 }
 

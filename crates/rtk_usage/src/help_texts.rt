@@ -14,8 +14,9 @@ Manual: man rtcm2rinex, or docs/MANUAL.md";
 
 pub(crate) const AUTO: &str = "\
 It reads each capture twice: first to find the station, the date, the MSM and the
-codes, then to convert. Standard error has what was found, and the same command
-as words of convert. An option that is given is not looked for.
+codes of each system and the channels of GLONASS, then to convert. Standard error
+has what was found, and the same command as words of convert. An option that is
+given is not looked for.
 
 A time is written as 2024-05-17T12:00:00.
 
@@ -24,6 +25,7 @@ order; captures of the same time are links, and are merged.
 
 Example:
   rtcm2rinex auto hour*.rtcm -o day.rnx --marker BASE
+  rtcm2rinex auto capture.rtcm -o gps.rnx --systems G
 
 Exit status:
   0  the file is written
@@ -58,6 +60,10 @@ Which channels:
   Codes of GLONASS need --channels, because a phase depends on the channel of its
   slot. A slot is 1 to 27, and a channel -7 to 6. A slot that is not listed has no
   phases, and with --channels none no slot has any.
+
+Which messages of GLONASS:
+  --with-1012 converts 1012 too, which old stations send beside 1004. A 1012 tells
+  no day, so all messages must lie within half a day of --near.
 
 Example:
   rtcm2rinex convert --station 2003 --near 2024-05-17T12:00:00 \\

@@ -35,9 +35,9 @@ LINK = 62_000
 GATHERED = 2 * 65_536
 # What a conversion of one link holds besides: the manual says some 100 kB.
 LEAST_BESIDE, MOST_BESIDE = 98_000, 103_000
-# What a summary of one station holds: some 83 kB. `auto` holds as much as `convert`, and before that a survey of each capture, with
+# What a summary of one station holds: some 93 kB. `auto` holds as much as `convert`, and before that a survey of each capture, with
 # the stations and one kind of messages.
-LEAST_OF_SUMMARY, MOST_OF_SUMMARY = 79_000, 84_000
+LEAST_OF_SUMMARY, MOST_OF_SUMMARY = 88_000, 93_000
 LEAST_OF_AUTO, MOST_OF_AUTO = -10_000, 2_000
 CAPTURE = 3_300 + 14_000 + 8_500
 

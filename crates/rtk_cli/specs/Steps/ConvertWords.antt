@@ -1,5 +1,5 @@
 -- What the words of `convert` say, and why they are refused.
-use Rattle.std.specs.Prelude.{◌≡◌, ◌⊎◌, ℕ, true, false, ℤ, List, map, Option, None, Some}
+use Rattle.std.specs.Prelude.{◌≡◌, ◌⊎◌, ℕ, Bool, true, false, ℤ, List, map, Option, None, Some}
 use Rattle.std.specs.Borrow.{Bor}
 use Rattle.rtk_obs.specs.Dating.{IsReference}
 use Rattle.rtk_obs.specs.LeapSeconds.{IsLeapSecondsAt}
@@ -9,7 +9,7 @@ use Rattle.rtk_rinex.specs.MixedHead.{GlonassView, MixedHeadView, IsMixedList, h
 use Rattle.rtk_setup.specs.Setup.{SetupView}
 use Rattle.rtk_cli.specs.declared.options.ConvertOptions.{ConvertOptions}
 use Rattle.rtk_cli.specs.declared.words.BadWords.{BadWords}
-use Rattle.rtk_cli.specs.declared.words.BadWords.TheVariants.{Near, Made, Codes, CodeOfSystem, CodeOfGps, Marker, Channels, NoChannels, Links}
+use Rattle.rtk_cli.specs.declared.words.BadWords.TheVariants.{Near, Made, Codes, CodeOfSystem, CodeOfGps, Marker, Channels, NoChannels, NoGlonass, Links}
 use Rattle.rtk_cli.specs.declared.words.Job.{Job}
 use Rattle.rtk_cli.specs.declared.words.Job.TheVariants.{Convert}
 use Rattle.rtk_cli.specs.declared.words.WordsFault.{WordsFault}
@@ -33,10 +33,10 @@ SaysChannels None channels = ⊥
 SaysChannels (Some text) channels = WritesChannels text.now channels
 
 -- formula
--- for a file with these codes the options tell this of GLONASS: nothing, without its codes and without channels; with its
+-- for a file with these codes the options tell this of GLONASS: nothing, without its codes, channels and 1012; with its
 -- codes the channels, and the leap seconds (this project's rule)
 abbrev pub SaysGlonass : ConvertOptions → List AnyCode → ℕ → Option GlonassView → Type 0
-SaysGlonass o listed near None = (has_glonass listed ≡ false) × (o.channels ≡ None)
+SaysGlonass o listed near None = (has_glonass listed ≡ false) × (o.channels ≡ None) × (o.with_1012 ≡ false)
 SaysGlonass o listed near (Some g) =
     (has_glonass listed ≡ true) × SaysChannels o.channels g.channels × IsLeapSecondsOf o.leap_seconds near g.leap_seconds
 
@@ -51,10 +51,11 @@ HasGoodChannels o = (channels : List (Option ℤ)) × SaysChannels o channels
 
 -- formula
 -- why the options tell nothing that is due of GLONASS: bad channels, or channels without its codes; or its codes without
--- channels (this project's rule)
+-- channels; or, without channels, 1012 that need its codes (this project's rule)
 abbrev pub IsGlonassCause : ConvertOptions → List AnyCode → BadWords → Type 0
 IsGlonassCause o listed Channels = HasBadChannels o.channels ⊎ (HasGoodChannels o.channels × (has_glonass listed ≡ false))
 IsGlonassCause o listed NoChannels = (o.channels ≡ None) × (has_glonass listed ≡ true)
+IsGlonassCause o listed NoGlonass = (o.channels ≡ None) × (has_glonass listed ≡ false) × (o.with_1012 ≡ true)
 IsGlonassCause o listed _ = ⊥
 
 -- ---- the head
@@ -82,12 +83,19 @@ with_given s None = s
 with_given s (Some n) = record s { leap_seconds = Some n }
 
 -- formula
+-- the setup that takes 1012 too, if they are asked for (this project's rule)
+abbrev pub with_1012_if : SetupView → Bool → SetupView
+with_1012_if s false = s
+with_1012_if s true = record s { takes_1012 = true }
+
+-- formula
 -- the setup is what the options write
 abbrev pub SaysSetup : ConvertOptions → SetupView → Type 0
 SaysSetup o s =
     (s.station ≡ o.station) × WritesMoment o.near.now s.near
     × ((own : List AnyCode) × (made : ℕ) × ListsCodes o.codes.now own × WritesMoment o.made.now made × IsHeadOf o o.marker.now own made s.near s.head)
     × (s.window ≡ o.window) × (s.kinds ≡ o.kinds) × (s.leap_seconds ≡ o.leap_seconds)
+    × (s.takes_1012 ≡ o.with_1012)
 
 -- the job is the conversion that the options and the names of the links say
 abbrev pub SaysConversion : ConvertOptions → List (List ℕ) → Job → Type 0
@@ -117,7 +125,8 @@ HasHeadCause o cause = HasMarker o × ((own : List AnyCode) × ListsCodes o.code
 -- formula
 -- this is the first cause for which the words are refused, in this order: the form of the
 -- reference, the form of the time of making, the names of the codes, the marker, the codes
--- together, the channels, codes of GLONASS without channels, the links, and last a reference near which nothing is dated
+-- together, the channels, codes of GLONASS without channels, 1012 without such codes, the links, and last a reference near
+-- which nothing is dated
 -- (this project's rule)
 abbrev pub IsFirstCause : ConvertOptions → List (List ℕ) → BadWords → Type 0
 IsFirstCause o names Near =
@@ -130,6 +139,7 @@ IsFirstCause o names (CodeOfGps c) = HasTimes o × IsNameCause o.codes.now (Code
 IsFirstCause o names Marker = HasNames o × ¬ (IsMarker o.marker.now)
 IsFirstCause o names Channels = HasHeadCause o Channels
 IsFirstCause o names NoChannels = HasHeadCause o NoChannels
+IsFirstCause o names NoGlonass = HasHeadCause o NoGlonass
 IsFirstCause o names Links = HasHead o × ¬ (AreLinkNames names)
 IsFirstCause o names _ = ⊥
 

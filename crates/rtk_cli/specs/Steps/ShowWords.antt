@@ -1,4 +1,5 @@
 -- Which messages the words of `show` choose.
+use Rattle.std.specs.Prelude.{false}
 use Rattle.rtk_message.specs.declared.accepted.Accepted.{Accepted}
 use Rattle.rtk_message.specs.Accepted.{only_kind}
 use Rattle.rtk_setup.specs.declared.system_kinds.SystemKinds.{SystemKinds}
@@ -16,4 +17,5 @@ messages_of ks =
       qzss = only_kind ks.qzss;
       sbas = only_kind ks.sbas;
       navic = only_kind ks.navic;
+      obs1012 = false;
     }

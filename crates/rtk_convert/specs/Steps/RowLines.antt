@@ -1,5 +1,5 @@
 -- The text of a record, whose lines are written code by code.
-use Rattle.std.specs.Prelude.{◌≡◌, ℕ, ◌<◌, ◌≤◌, List, length, take, All}
+use Rattle.std.specs.Prelude.{ℕ, ◌<◌, ◌≤◌, List, length, All}
 use Rattle.rtk_rinex.specs.declared.epoch_table.Observed.{Observed}
 use Rattle.rtk_rinex.specs.declared.epoch_table.SatelliteRow.{SatelliteRow}
 use Rattle.rtk_rinex.specs.RecordLines.{RecordLinesView, HoldsLines, IsFreeIn}
@@ -20,8 +20,3 @@ HasFree HasLine lines place = (row : List Observed) × HasLine lines row × IsFr
 pub record HoldsGpsLines (lines : RecordLinesView) (rows : List SatelliteRow) : Type 0 where
   pub holds : HoldsLines lines rows
   pub satellites : All (λ r. r.satellite ≤ 32) rows
-
--- this is the row of so many codes, of which there are 16 at most
-pub record IsOpenRow (all : List Observed) (codes : ℕ) (row : List Observed) : Type 0 where
-  pub few : codes ≤ 16
-  pub codes_are : row ≡ take codes all

@@ -19,7 +19,7 @@ use Rattle.rtk_rinex.specs.declared.epoch_table.Observed.{Observed}
 use Rattle.rtk_rinex.specs.declared.epoch_table.SatelliteRow.{SatelliteRow}
 use Rattle.rtk_rinex.specs.Record.{has_observation}
 use Rattle.rtk_convert.specs.LastPhases.{track_at}
-use Rattle.rtk_convert.specs.Rows.{band_of, codes_for, first_cell, observed_with, observed_after, or_nothing}
+use Rattle.rtk_convert.specs.Rows.{rolling_frequency, codes_for, first_cell, observed_with, observed_after, or_nothing}
 use Rattle.rtk_convert.specs.Steps.RowLines.{Keeps}
 
 -- ---- the last phases
@@ -30,7 +30,7 @@ AllBelow tracks epoch = (satellite : ℕ) (code : AnyCode) → IsSignal satellit
 
 abbrev pub track_after : Option Track → AnyCode → ℕ → Option Cell → Option Track
 track_after last code epoch None = last
-track_after last code epoch (Some c) = last_after (band_of code) last (epoch_cell epoch c)
+track_after last code epoch (Some c) = last_after (rolling_frequency code) last (epoch_cell epoch c)
 
 -- these cells of an epoch were taken: of each satellite and code the phase of the first cell is the
 -- last one
@@ -175,8 +175,8 @@ pub record TakesCells {L : Type 0} (HasRows : L → List SatelliteRow → Type 0
 -- open line if its code is listed
 pub record StepsOver {L : Type 0} (HasRows : L → List SatelliteRow → Type 0) (HasLine : L → List Observed → Type 0) (epoch : ℕ) (e : SignalEntry)
     (codes : List AnyCode) (tracks after : List (Option Track)) (old new : L) : Type 0 where
-  pub track : track_at after e.satellite e.code ≡ last_after (band_of e.code) (track_at tracks e.satellite e.code) (epoch_cell epoch e.cell)
+  pub track : track_at after e.satellite e.code ≡ last_after (rolling_frequency e.code) (track_at tracks e.satellite e.code) (epoch_cell epoch e.cell)
   pub others : (s : ℕ) (c : AnyCode) → signal_place s c ≢ signal_place e.satellite e.code → track_at after s c ≡ track_at tracks s c
   pub row : (row : List Observed) → HasLine old row → IsFreeOf (place_of e.code) codes row
-      → HasLine new (with_place (place_of e.code) (observed_with e.cell (digits_since (band_of e.code) (track_at tracks e.satellite e.code) (epoch_cell epoch e.cell))) codes row)
+      → HasLine new (with_place (place_of e.code) (observed_with e.cell (digits_since (rolling_frequency e.code) (track_at tracks e.satellite e.code) (epoch_cell epoch e.cell))) codes row)
   pub kept : Keeps HasRows old new

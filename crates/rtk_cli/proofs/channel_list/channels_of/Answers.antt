@@ -1,4 +1,4 @@
-use Rattle.std.proofs.Common.{◌≡◌, ℕ, ℤ, length, slice_index_or, Option, is_some, arith, sym, ap, ◌∙◌, subst}
+use Rattle.std.proofs.Common.{◌≡◌, ℤ, length, slice_index_or, Option, is_some, arith, sym, ap, ◌∙◌, subst}
 use Rattle.std.proofs.lemmas.List.{get_or_default}
 use Rattle.rtk_cli.specs.declared.channel_list.SlotChannel.{SlotChannel}
 use Rattle.rtk_cli.specs.Steps.ChannelList.{IsSlotChannel}

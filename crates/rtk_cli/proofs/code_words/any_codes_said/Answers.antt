@@ -1,7 +1,6 @@
 use Rattle.std.proofs.Common.{List, ℕ, ◌++◌, map, ap, ◌∙◌}
-use Rattle.rtk_cli.specs.Steps.Parts.{marked_parts, marked_parts_after}
+use Rattle.rtk_cli.specs.Steps.Parts.{marked_parts_after}
 use Rattle.rtk_cli.specs.Steps.AnyCodeList.{code_word, IsNameCause}
-use Rattle.rtk_cli.proofs.PartLemmas.{one-word, last-word}
 use Rattle.rtk_cli.proofs.RefusedLemmas.{refused-by}
 use Rattle.rtk_cli.proofs.code_words.any_codes_said.Goals as goal
 

@@ -3,7 +3,7 @@ use Rattle.rtk_rinex.specs.Header.{IsMarker}
 use Rattle.rtk_setup.specs.Setup.{SetupView, IsStation, IsWindow}
 use Rattle.rtk_cli.specs.declared.words.BadWords.TheVariants.{Near, Made, Marker, Links}
 use Rattle.rtk_cli.specs.Steps.AnyCodeList.{ListsCodes, IsNameCause}
-use Rattle.rtk_cli.specs.Steps.ConvertWords.{HasTimes, HasNames, HasMarker, HasHead, IsHeadOf, IsHeadCause, IsFirstCause, with_given}
+use Rattle.rtk_cli.specs.Steps.ConvertWords.{HasTimes, HasNames, HasMarker, HasHead, IsHeadOf, IsHeadCause, IsFirstCause, with_given, with_1012_if}
 use Rattle.rtk_cli.specs.Steps.MomentText.{WritesMoment}
 use Rattle.rtk_cli.proofs.RefusedLemmas.{refused-by, exit-by, exit-also, name-cause, head-cause}
 use Rattle.rtk_cli.proofs.SaidLemmas.{says-setup}
@@ -121,9 +121,10 @@ pub returns-clause-said : goal.returns-clause-said
 returns-clause-said c =
     let o = c.args.options.now in
     let kinds = c.with_kinds.ensures ∙ ap (λ (s : SetupView). record s { kinds = o.kinds }) c.mixed-setup.ensures.setup in
-    let setup = c.with_leap_seconds-setup.ensures.given ∙ ap (λ (s : SetupView). with_given s o.leap_seconds) kinds in
+    let given = c.with_leap_seconds-setup.ensures.given ∙ ap (λ (s : SetupView). with_given s o.leap_seconds) kinds in
+    let setup = c.with_1012_if-setup.ensures.given ∙ ap (λ (s : SetupView). with_1012_if s o.with_1012) given in
     let near = c.in_ok-near.ensures.near in (
-      says-setup o c.with_leap_seconds-setup.result c.in_ok-near.near c.in_ok-made.made c.in_ok-marker.marker c.as_slice.result.now c.in_ok-head.head setup
+      says-setup o c.with_1012_if-setup.result c.in_ok-near.near c.in_ok-made.made c.in_ok-marker.marker c.as_slice.result.now c.in_ok-head.head setup
           (subst (λ (n : ℕ). WritesMoment o.near.now n) (sym near) c.in_ok-moment.ensures.moment)
           c.in_ok-made.ensures.moment c.in_ok-marker.ensures.marker
           (subst (ListsCodes o.codes.now) (sym c.as_slice.ensures.value) c.in_ok-codes.ensures.listed)
@@ -134,8 +135,10 @@ returns-clause-said c =
 -- and its parts are within their limits
 pub returns-clause-limits : goal.returns-clause-limits
 returns-clause-limits c =
-    let kinds = c.with_kinds.ensures in (
-      subst IsStation (sym (c.with_leap_seconds-setup.ensures.station ∙ ap (λ (s : SetupView). s.station) kinds)) c.mixed-setup.ensures.good.0,
-      subst IsWindow (sym (c.with_leap_seconds-setup.ensures.window ∙ ap (λ (s : SetupView). s.window) kinds)) c.mixed-setup.ensures.good.3,
+    let kinds = c.with_kinds.ensures in
+    let station = c.with_1012_if-setup.ensures.station ∙ c.with_leap_seconds-setup.ensures.station ∙ ap (λ (s : SetupView). s.station) kinds in
+    let window = c.with_1012_if-setup.ensures.window ∙ c.with_leap_seconds-setup.ensures.window ∙ ap (λ (s : SetupView). s.window) kinds in (
+      subst IsStation (sym station) c.mixed-setup.ensures.good.0,
+      subst IsWindow (sym window) c.mixed-setup.ensures.good.3,
       (let are = rw c.as_slice-2.ensures.value at c.if-not-are_links.ensures in are.0 refl),
     )

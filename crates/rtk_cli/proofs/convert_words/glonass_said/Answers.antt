@@ -1,6 +1,6 @@
 use Rattle.std.proofs.Common.{◌≡◌, ℤ, List, Option, inr, sym, ◌∙◌, subst}
 use Rattle.rtk_cli.specs.declared.words.BadWords.{BadWords}
-use Rattle.rtk_cli.specs.declared.words.BadWords.TheVariants.{Channels, NoChannels}
+use Rattle.rtk_cli.specs.declared.words.BadWords.TheVariants.{Channels, NoChannels, NoGlonass}
 use Rattle.rtk_cli.specs.Steps.ChannelList.{HasNoChannels}
 use Rattle.rtk_cli.specs.Steps.ConvertWords.{SaysChannels, IsGlonassCause}
 use Rattle.rtk_cli.proofs.RefusedLemmas.{refused-by, exit-also}
@@ -11,6 +11,12 @@ use Rattle.rtk_cli.proofs.convert_words.glonass_said.Goals as goal
 pub returns-then-is_due-clause-refused : goal.returns-then-is_due-clause-refused
 returns-then-is_due-clause-refused c =
     refused-by (IsGlonassCause c.args.options.now c.args.listed.now) NoChannels c.into.result c.into.ensures (c.in-None.is, sym c.has_glonass-is_due.ensures ∙ c.if-is_due.true)
+
+-- 1012 have no code of GLONASS
+pub returns-then-options-clause-refused : goal.returns-then-options-clause-refused
+returns-then-options-clause-refused c =
+    refused-by (IsGlonassCause c.args.options.now c.args.listed.now) NoGlonass c.into-then-options.result c.into-then-options.ensures
+    (c.in-None.is, sym c.has_glonass-is_due.ensures ∙ c.if-is_due.false, c.if-options.true)
 
 -- the channels are bad
 pub returns-in_err-channels-clause-refused : goal.returns-in_err-channels-clause-refused

@@ -1,5 +1,4 @@
-use Rattle.rtk_obs.specs.SignalCells.{entries_of}
-use Rattle.rtk_collect.specs.Signals.{signals}
+use Rattle.rtk_collect.specs.Signals.{signals, entries_by}
 use Rattle.rtk_collect.proofs.ArrivalsLemmas.{with_arrival-new, with_arrival-below, with_arrival-same, kept-falls}
 use Rattle.rtk_collect.proofs.EqualityLemmas.{any_satellite_code-same}
 use Rattle.rtk_collect.proofs.FewLemmas.{kept-are-greatest}
@@ -37,61 +36,61 @@ pub returns-clause-closes : goal.returns-clause-closes
 returns-clause-closes c = signals-close
 
 pub returns-clause-new : goal.returns-clause-new
-returns-clause-new c = λ channels. new-window-is-empty signals (entries_of channels)
+returns-clause-new c = λ sbas channels. new-window-is-empty signals (entries_by sbas channels)
 
 pub returns-clause-answers : goal.returns-clause-answers
-returns-clause-answers c = λ channels. windows-answer signals (entries_of channels)
+returns-clause-answers c = λ sbas channels. windows-answer signals (entries_by sbas channels)
 
 pub returns-clause-one_answer : goal.returns-clause-one_answer
-returns-clause-one_answer c = λ channels. answers-unique signals (entries_of channels)
+returns-clause-one_answer c = λ sbas channels. answers-unique signals (entries_by sbas channels)
 
 pub returns-clause-one_window : goal.returns-clause-one_window
-returns-clause-one_window c = λ channels. windows-unique signals (entries_of channels)
+returns-clause-one_window c = λ sbas channels. windows-unique signals (entries_by sbas channels)
 
 pub returns-clause-late_change_nothing : goal.returns-clause-late_change_nothing
-returns-clause-late_change_nothing c = λ channels. late-change-nothing signals (entries_of channels)
+returns-clause-late_change_nothing c = λ sbas channels. late-change-nothing signals (entries_by sbas channels)
 
 pub returns-clause-closed_grow : goal.returns-clause-closed_grow
-returns-clause-closed_grow c = λ channels. closed-only-grow signals (entries_of channels)
+returns-clause-closed_grow c = λ sbas channels. closed-only-grow signals (entries_by sbas channels)
 
 pub returns-clause-closed_fall : goal.returns-clause-closed_fall
-returns-clause-closed_fall c = λ channels. closed-fall signals (entries_of channels)
+returns-clause-closed_fall c = λ sbas channels. closed-fall signals (entries_by sbas channels)
 
 pub returns-clause-closed_after : goal.returns-clause-closed_after
-returns-clause-closed_after c = λ channels. closed-after signals (entries_of channels)
+returns-clause-closed_after c = λ sbas channels. closed-after signals (entries_by sbas channels)
 
 pub returns-clause-closed_rest : goal.returns-clause-closed_rest
-returns-clause-closed_rest c = λ channels. closed-rest signals (entries_of channels)
+returns-clause-closed_rest c = λ sbas channels. closed-rest signals (entries_by sbas channels)
 
 pub returns-clause-closed_count : goal.returns-clause-closed_count
-returns-clause-closed_count c = λ channels. closed-length signals (entries_of channels)
+returns-clause-closed_count c = λ sbas channels. closed-length signals (entries_by sbas channels)
 
 pub returns-clause-taken : goal.returns-clause-taken
-returns-clause-taken c = λ channels. kept-are-taken signals (entries_of channels)
+returns-clause-taken c = λ sbas channels. kept-are-taken signals (entries_by sbas channels)
 
 pub returns-clause-same : goal.returns-clause-same
-returns-clause-same c = λ channels. set-decides signals (entries_of channels)
+returns-clause-same c = λ sbas channels. set-decides signals (entries_by sbas channels)
 
 pub returns-clause-late : goal.returns-clause-late
-returns-clause-late c = λ channels. kept-late signals (entries_of channels)
+returns-clause-late c = λ sbas channels. kept-late signals (entries_by sbas channels)
 
 pub returns-clause-in_time : goal.returns-clause-in_time
-returns-clause-in_time c = λ channels. kept-new signals (entries_of channels)
+returns-clause-in_time c = λ sbas channels. kept-new signals (entries_by sbas channels)
 
 pub returns-clause-held : goal.returns-clause-held
-returns-clause-held c = λ channels. held-length signals (entries_of channels)
+returns-clause-held c = λ sbas channels. held-length signals (entries_by sbas channels)
 
 pub returns-clause-fall : goal.returns-clause-fall
-returns-clause-fall c = λ channels. kept-falls signals (entries_of channels)
+returns-clause-fall c = λ sbas channels. kept-falls signals (entries_by sbas channels)
 
 pub returns-clause-rise : goal.returns-clause-rise
-returns-clause-rise c = λ channels. kept-rise signals (entries_of channels)
+returns-clause-rise c = λ sbas channels. kept-rise signals (entries_by sbas channels)
 
 pub returns-clause-greatest : goal.returns-clause-greatest
-returns-clause-greatest c = λ channels. kept-are-greatest signals (entries_of channels)
+returns-clause-greatest c = λ sbas channels. kept-are-greatest signals (entries_by sbas channels)
 
 pub returns-clause-first : goal.returns-clause-first
-returns-clause-first c = λ channels. first-is-kept signals (entries_of channels)
+returns-clause-first c = λ sbas channels. first-is-kept signals (entries_by sbas channels)
 
 pub returns-clause-joins_greater : goal.returns-clause-joins_greater
 returns-clause-joins_greater c = with_arrival-new signals

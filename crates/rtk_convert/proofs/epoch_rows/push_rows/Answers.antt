@@ -314,7 +314,7 @@ satellites-preserved g c =
     let held = filled.ensures.lines rows (c.in_ok-open_line.ensures.rows rows before) in
     let shown = fills-row old epoch ms c.satellites.at.msm ls c.satellites.at.legacy n (g.E.FileEntry.places c.satellites.phases) at _ filled.result.msm filled.result.legacy codes own
     (g.E.FileEntry.places filled.new.phases) filled.new.lines filled.ensures.msm.from filled.ensures.msm.next filled.ensures.legacy.from filled.ensures.legacy.next shows in
-    let closed = c.in_ok-close_line.ensures rows (row_with h codes n).observed.items held shown in
+    let closed = c.close_line.ensures rows (row_with h codes n).observed.items held shown in
     record {
       shows = record {
         from = n + 1;

@@ -1,4 +1,4 @@
-use Rattle.std.proofs.Common.{◌≡◌, ◌+◌, ◌^◌, ◌++◌, ℕ, bit_and, bit_or, map, slice_range, refl, sym, subst}
+use Rattle.std.proofs.Common.{◌≡◌, ◌+◌, ◌^◌, ◌++◌, ◌∙◌, ℕ, ap, bit_and, bit_or, map, slice_range, refl, sym, subst}
 use Rattle.rtk_obs.specs.AnyCode.{place_of}
 use Rattle.rtk_obs.specs.declared.signal_cells.SignalEntry.{SignalEntry}
 use Rattle.rtk_convert.specs.Steps.ShownCells.{IsSetOfCodes}
@@ -23,7 +23,7 @@ cells-preserved-then-known-bit-ne0 g c =
     let at : (f x).satellite ≡ c.args.satellite = subst (λ (e : SignalEntry). e.satellite ≡ c.args.satellite) (here (f x)) (told.1 (f x)) in
     let g0 = c.cells.invariant.takes in
     let own = next-signal _ _ _ _ _ _ _ _ _ _ _ _ _ (f x) g0 c.requires.codes c.requires.cells.ranges told.0 here at in
-    let seen = c.requires.known.some (f x).code (signal-at (f x) at own) (rw c.bit_of-bit.ensures at c.if-known-bit-ne0.true) in
+    let seen = c.requires.known.some (f x).code (signal-at (f x) at own) (rw (c.bit_at-bit.ensures ∙ ap (λ (n : ℕ). 2 ^ n) c.code_place-place.ensures.value) at c.if-known-bit-ne0.true) in
     record {
       takes = takes-repeat _ _ _ _ _ _ _ _ _ _ _ _ _ (f x) g0 c.requires.codes c.requires.cells.ranges told.0 here at seen;
       codes = codes-repeat _ _ _ _ _ _ _ _ _ _ _ _ _ (f x) g0 c.requires.codes c.requires.cells.ranges told.0 here at c.cells.codes seen c.cells.invariant.codes;
@@ -46,7 +46,7 @@ show_entry-requires-clause-later g c =
     let at : (f x).satellite ≡ c.args.satellite = subst (λ (e : SignalEntry). e.satellite ≡ c.args.satellite) (here (f x)) (told.1 (f x)) in
     let g0 = c.cells.invariant.takes in
     let own = next-signal _ _ _ _ _ _ _ _ _ _ _ _ _ (f x) g0 c.requires.codes c.requires.cells.ranges told.0 here at in
-    let unseen : bit_and c.args.known (2 ^ place_of (f x).code) ≡ 0 = rw c.bit_of-bit.ensures at c.if-known-bit-ne0.false in
+    let unseen : bit_and c.args.known (2 ^ place_of (f x).code) ≡ 0 = rw (c.bit_at-bit.ensures ∙ ap (λ (n : ℕ). 2 ^ n) c.code_place-place.ensures.value) at c.if-known-bit-ne0.false in
     let free = takes-free _ _ _ _ _ _ _ _ _ _ _ _ _ (f x) g0 c.requires.codes c.requires.cells.ranges told.0 here at c.requires.cells.from.rises c.requires.cells.kind
     (c.requires.known.none (f x).code (signal-at (f x) at own) unseen) in
     takes-later _ _ _ _ _ _ _ _ _ _ _ _ _ (f x) g0 c.requires.codes c.requires.cells.ranges told.0 here at free
@@ -61,7 +61,7 @@ show_entry-requires-clause-free g c =
     let at : (f x).satellite ≡ c.args.satellite = subst (λ (e : SignalEntry). e.satellite ≡ c.args.satellite) (here (f x)) (told.1 (f x)) in
     let g0 = c.cells.invariant.takes in
     let own = next-signal _ _ _ _ _ _ _ _ _ _ _ _ _ (f x) g0 c.requires.codes c.requires.cells.ranges told.0 here at in
-    let unseen : bit_and c.args.known (2 ^ place_of (f x).code) ≡ 0 = rw c.bit_of-bit.ensures at c.if-known-bit-ne0.false in
+    let unseen : bit_and c.args.known (2 ^ place_of (f x).code) ≡ 0 = rw (c.bit_at-bit.ensures ∙ ap (λ (n : ℕ). 2 ^ n) c.code_place-place.ensures.value) at c.if-known-bit-ne0.false in
     let free = takes-free _ _ _ _ _ _ _ _ _ _ _ _ _ (f x) g0 c.requires.codes c.requires.cells.ranges told.0 here at c.requires.cells.from.rises c.requires.cells.kind
     (c.requires.known.none (f x).code (signal-at (f x) at own) unseen) in
     takes-open _ _ _ _ _ _ _ _ _ _ _ _ _ (f x) g0 c.requires.codes c.requires.cells.ranges told.0 here at free c.requires.shows
@@ -76,12 +76,12 @@ cells-preserved g c =
     let at : (f x).satellite ≡ c.args.satellite = subst (λ (e : SignalEntry). e.satellite ≡ c.args.satellite) (here (f x)) (told.1 (f x)) in
     let g0 = c.cells.invariant.takes in
     let own = next-signal _ _ _ _ _ _ _ _ _ _ _ _ _ (f x) g0 c.requires.codes c.requires.cells.ranges told.0 here at in
-    let unseen : bit_and c.args.known (2 ^ place_of (f x).code) ≡ 0 = rw c.bit_of-bit.ensures at c.if-known-bit-ne0.false in
+    let unseen : bit_and c.args.known (2 ^ place_of (f x).code) ≡ 0 = rw (c.bit_at-bit.ensures ∙ ap (λ (n : ℕ). 2 ^ n) c.code_place-place.ensures.value) at c.if-known-bit-ne0.false in
     let free = takes-free _ _ _ _ _ _ _ _ _ _ _ _ _ (f x) g0 c.requires.codes c.requires.cells.ranges told.0 here at c.requires.cells.from.rises c.requires.cells.kind
     (c.requires.known.none (f x).code (signal-at (f x) at own) unseen) in
     record {
       takes = takes-more _ _ _ _ _ _ _ _ _ _ _ _ _ (f x) g0 c.requires.codes c.requires.cells.ranges told.0 here at _ _ free c.show_entry.ensures;
-      codes = subst (λ (b : ℕ). IsSetOfCodes (bit_or c.cells.codes b) (map f c.args.earlier.now ++ slice_range (map f c.args.entries.now) c.args.begin (c.cells.end + 1)) c.args.satellite) (sym c.bit_of-bit.ensures)
+      codes = subst (λ (b : ℕ). IsSetOfCodes (bit_or c.cells.codes b) (map f c.args.earlier.now ++ slice_range (map f c.args.entries.now) c.args.begin (c.cells.end + 1)) c.args.satellite) (sym (c.bit_at-bit.ensures ∙ ap (λ (n : ℕ). 2 ^ n) c.code_place-place.ensures.value))
           (codes-next _ _ _ _ _ _ _ _ _ _ _ _ _ (f x) g0 c.requires.codes c.requires.cells.ranges told.0 here at c.cells.codes free c.cells.invariant.codes);
     }
 

@@ -5,7 +5,7 @@ use Rattle.rtk_obs.specs.Rollover.{digits_since}
 use Rattle.rtk_obs.specs.Slip.{epoch_cell}
 use Rattle.rtk_rinex.specs.declared.epoch_table.Observed.{Observed}
 use Rattle.rtk_convert.specs.LastPhases.{track_at}
-use Rattle.rtk_convert.specs.Rows.{band_of, observed_with}
+use Rattle.rtk_convert.specs.Rows.{rolling_frequency, observed_with}
 use Rattle.rtk_convert.specs.Steps.ShownCells.{IsFreeOf, with_place}
 use Rattle.rtk_convert.proofs.epoch_rows.show_entry.Goals as goal
 
@@ -15,13 +15,13 @@ returns g c =
     let codes = c.args.form.now.codes.now in
     let last = track_at (g.E.FileEntry.places c.args.phases.now) e.satellite e.code in
     let cell = c.cell.ensures ∙ c.cells_are_signals.ensures.values c.args.entry.now in
-    let shown : c.observed-shown.result ≡ observed_with e.cell (digits_since (band_of e.code) last (epoch_cell c.args.form.now.epoch e.cell)) =
+    let shown : c.observed-shown.result ≡ observed_with e.cell (digits_since (rolling_frequency e.code) last (epoch_cell c.args.form.now.epoch e.cell)) =
     c.observed-shown.ensures ∙ ap (λ (x : Cell). observed_with x c.step-digits.result) cell ∙ ap (observed_with e.cell) c.step-digits.ensures.digits in
     record {
       track = c.step-digits.ensures.same;
       others = c.step-digits.ensures.others;
       row = λ row h free.
           subst (λ (o : Observed). g.E.Lines.RowLines.HasLine c.put_listed.new.lines (with_place (place_of e.code) o codes row)) shown
-          (subst (λ (p : ℕ). IsFreeOf p codes row → g.E.Lines.RowLines.HasLine c.put_listed.new.lines (with_place p c.observed-shown.result codes row)) c.code_place.ensures.value (c.put_listed.ensures.open row h) free);
+          (subst (λ (p : ℕ). IsFreeOf p codes row → g.E.Lines.RowLines.HasLine c.put_listed.new.lines (with_place p c.observed-shown.result codes row)) c.requires.place (c.put_listed.ensures.open row h) free);
       kept = c.put_listed.ensures.lines;
     }

@@ -13,4 +13,4 @@ returns-then-not-accepts c =
 
 pub returns : goal.returns
 returns c =
-    rw (← c.new-reader.ensures) (decodes_after c.args.accepted c.new-reader.result c.take_u.new.self c.in-Some.number c.in-Some.number c.read_any_by_number.result c.in-Some.ensures.bound c.in-Some.ensures.field (sym c.accepts.ensures ∙ c.if-not-accepts.false) refl c.read_any_by_number.ensures.message c.read_any_by_number.ensures.fault)
+    rw (← c.new-reader.ensures) (decodes_after c.args.accepted c.new-reader.result c.take_u.new.self c.in-Some.number c.in-Some.number c.read_any_by_number.result c.in-Some.ensures.bound c.in-Some.ensures.field (sym c.accepts.ensures ∙ c.if-not-accepts.false) refl c.read_any_by_number.ensures.message c.read_any_by_number.ensures.clock c.read_any_by_number.ensures.fault)

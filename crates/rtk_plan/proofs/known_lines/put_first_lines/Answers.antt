@@ -1,7 +1,9 @@
 use Rattle.std.proofs.Common.{◌++◌, ℕ, List, ap, ◌∙◌}
-use Rattle.rtk_plan.specs.KnownLines.{undated_lines, all_other_dates, few_phases_lines, stray_lines, lines_before_late}
+use Rattle.rtk_plan.specs.KnownLines.{undated_lines, all_other_dates, clock_lines_of, few_phases_lines, stray_lines, lines_before_late}
+use Rattle.rtk_plan.specs.Plan.{taken_messages}
 use Rattle.rtk_plan.specs.TextsLeftOut.{texts_left_out}
-use Rattle.rtk_plan.proofs.PutLemmas.{five-parts}
+use Rattle.rtk_systems.specs.ToldChannels.{told_channel_lines}
+use Rattle.rtk_survey.proofs.PublicLaws.{seven-parts}
 use Rattle.rtk_plan.proofs.known_lines.put_first_lines.Goals as goal
 
 pub returns : goal.returns
@@ -12,12 +14,16 @@ returns c =
     let plan = c.args.plan.now in
     let a : List ℕ = undated_lines plan.span.source names plan.captures.items in
     let b : List ℕ = all_other_dates names plan.setup.station plan.setup.near ss in
+    let k : List ℕ = clock_lines_of names ss plan in
     let d : List ℕ = few_phases_lines ss plan.setup.station plan.setup.kinds.gps plan.setup.head.listed in
+    let g : List ℕ = told_channel_lines ss plan.setup.station (taken_messages plan.setup) plan.own_channels plan.setup.head.glonass in
     let e : List ℕ = texts_left_out c.args.told.now in
     let f : List ℕ = stray_lines names plan.span.until plan.strays.items in
     c.in_ok-put_strays.ensures
     ∙ ap (λ (ps : List ℕ). c.put_texts_left_out.new.lines.items ++ stray_lines names plan.span.until ps) c.as_slice.ensures.value
     ∙ ap (λ (l : List ℕ). l ++ f) (c.in_ok-put_texts_left_out.ensures
-    ∙ ap (λ (l : List ℕ). l ++ e) (c.in_ok-put_few_phases_in.ensures
-    ∙ ap (λ (l : List ℕ). l ++ d) (c.in_ok-put_other_dates.ensures ∙ ap (λ (l : List ℕ). l ++ b) c.in_ok-put_undated.ensures)))
-    ∙ five-parts c.args.lines.now.items a b d e f
+    ∙ ap (λ (l : List ℕ). l ++ e) (c.in_ok-put_channels_in.ensures
+    ∙ ap (λ (l : List ℕ). l ++ g) (c.in_ok-put_few_phases_in.ensures
+    ∙ ap (λ (l : List ℕ). l ++ d) (c.in_ok-put_clocks_in.ensures
+    ∙ ap (λ (l : List ℕ). l ++ k) (c.in_ok-put_other_dates.ensures ∙ ap (λ (l : List ℕ). l ++ b) c.in_ok-put_undated.ensures)))))
+    ∙ seven-parts c.args.lines.now.items a b k d g e f

@@ -1,12 +1,20 @@
-use Rattle.std.proofs.Common.{◌++◌, ℕ, List, ap, ◌∙◌}
-use Rattle.rtk_setup.specs.declared.system_kinds.SystemKinds.{SystemKinds}
-use Rattle.rtk_plan.specs.KnownLines.{not_taken}
+use Rattle.std.proofs.Common.{◌++◌, ℕ, Bool, List, ap, ◌∙◌}
+use Rattle.rtk_message.specs.declared.accepted.Accepted.{Accepted}
+use Rattle.rtk_setup.specs.Setup.{taken_by, takes_1004}
+use Rattle.rtk_plan.specs.KnownLines.{not_taken_by}
 use Rattle.rtk_plan.proofs.known_lines.put_not_taken_in.Goals as goal
 
 pub returns : goal.returns
 returns c =
     let old : List ℕ = c.args.lines.now.items in
     let ss = c.args.surveys.now in
+    let setup = c.args.setup.now in
+    let taken = c.accepted-taken.result in
+    let has_1004 = c.takes_1004-has_1004.result in
+    let has_sbas = c.takes_sbas-has_sbas.result in
+    let is_long = c.args.is_long in
     c.in_ok-put_not_taken.ensures
-    ∙ ap (λ (n : ℕ). old ++ not_taken ss n c.kinds.result.gps) c.station.ensures.value
-    ∙ ap (λ (ks : SystemKinds). old ++ not_taken ss c.args.setup.now.station ks.gps) c.kinds.ensures
+    ∙ ap (λ (n : ℕ). old ++ not_taken_by taken has_1004 has_sbas is_long ss n) c.station.ensures.value
+    ∙ ap (λ (a : Accepted). old ++ not_taken_by a has_1004 has_sbas is_long ss setup.station) c.accepted-taken.ensures
+    ∙ ap (λ (b : Bool). old ++ not_taken_by (taken_by setup) b has_sbas is_long ss setup.station) c.takes_1004-has_1004.ensures
+    ∙ ap (λ (b : Bool). old ++ not_taken_by (taken_by setup) (takes_1004 setup) b is_long ss setup.station) c.takes_sbas-has_sbas.ensures

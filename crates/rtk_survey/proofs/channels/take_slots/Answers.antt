@@ -1,6 +1,6 @@
 use Rattle.std.proofs.Common.{◌≡◌, ◌<◌, ◌+◌, ◌∙◌, ℕ, true, inl, inr, get_or, sym, ap, subst, arith}
 use Rattle.std.proofs.lemmas.Bool.{cases_eq}
-use Rattle.rtk_survey.specs.Channels.{tells_field_of, place_of_field}
+use Rattle.rtk_survey.specs.Channels.{tells_field, place_of_field}
 use Rattle.rtk_survey.specs.Counting.{shown_count}
 use Rattle.rtk_survey.proofs.channels.take_slots.Goals as goal
 
@@ -14,7 +14,7 @@ loop-slot-preserved c =
       size = t.size;
       told = λ s f before from few tells. elim (cases_eq s slot) [
         | inl same ↦
-            let here = subst (λ (k : ℕ). tells_field_of m k f ≡ true) same tells in
+            let here = subst (λ (k : ℕ). tells_field k f m ≡ true) same tells in
             ap (λ (k : ℕ). get_or c.take_slot.new.table.items (place_of_field k f) 0) same ∙ t.own f few here
             ∙ ap (λ (n : ℕ). shown_count (n + 1)) (i.others slot f few (λ lt. absurd (omega (arith, lt))))
             ∙ ap (λ (k : ℕ). shown_count (get_or c.args.table.now.items (place_of_field k f) 0 + 1)) (sym same)

@@ -1,5 +1,5 @@
 use Rattle.std.proofs.Common.{◌≡◌, ◌<◌, ◌≤◌, ◌+◌, ℕ, true, false, length, get_or}
-use Rattle.rtk_survey.specs.Channels.{tells_field_of, place_of_field}
+use Rattle.rtk_survey.specs.Channels.{tells_field, place_of_field}
 use Rattle.rtk_survey.specs.Counting.{shown_count}
 use Rattle.rtk_survey.proofs.channels.take_slots.Given as goal
 
@@ -7,8 +7,8 @@ use Rattle.rtk_survey.proofs.channels.take_slots.Given as goal
 abbrev pub invariant-loop-slot : goal.invariant-loop-slot
 invariant-loop-slot l = record {
   size : length l.table.items ≡ 392;
-  told : (s f : ℕ) → s < l.slot → 1 ≤ s → f < 14 → tells_field_of l.message s f ≡ true
+  told : (s f : ℕ) → s < l.slot → 1 ≤ s → f < 14 → tells_field s f l.message ≡ true
       → get_or l.table.items (place_of_field s f) 0 ≡ shown_count (get_or l.fn.table.items (place_of_field s f) 0 + 1);
-  others : (s f : ℕ) → f < 14 → (s < l.slot → tells_field_of l.message s f ≡ false)
+  others : (s f : ℕ) → f < 14 → (s < l.slot → tells_field s f l.message ≡ false)
       → get_or l.table.items (place_of_field s f) 0 ≡ get_or l.fn.table.items (place_of_field s f) 0;
 }

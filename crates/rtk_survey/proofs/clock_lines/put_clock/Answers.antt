@@ -8,7 +8,7 @@ pub returns : goal.returns
 returns c =
     let before : List ℕ = c.args.lines.now.items in
     let letter : ℕ = c.args.letter in
-    on-ok c.put_told.result
+    on-ok c.put_clock_line.result
     (λ put. put ∙ ap (λ (n : ℕ). before ++ clock_line_of letter n c.told_offset.result) c.compared_clocks.ensures
     ∙ ap (λ (o : Option ClockOffset). before ++ clock_line_of letter (compared_clocks c.args.offsets.now) o) c.told_offset.ensures)
-    c.put_told.ensures
+    c.put_clock_line.ensures

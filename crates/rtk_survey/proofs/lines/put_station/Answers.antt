@@ -1,19 +1,23 @@
-use Rattle.std.proofs.Common.{◌++◌, List, ℕ, false, get_or, sym, ap, ◌∙◌}
+use Rattle.std.proofs.Common.{◌++◌, List, ℕ, Option, false, get_or, sym, ap, ◌∙◌}
 use Rattle.std.specs.Prelude.{codes}
 use Rattle.rtk_obs.specs.AnyCode.{number_of}
 use Rattle.rtk_obs.specs.Code.{place_of}
 use Rattle.rtk_survey.specs.declared.equipment.Equipment.{Equipment}
 use Rattle.rtk_survey.specs.Chains.{no_clocks, clocks_at}
-use Rattle.rtk_survey.specs.ClockLines.{clock_lines}
 use Rattle.rtk_survey.specs.FrameDates.{proposed_date}
 use Rattle.rtk_survey.specs.FrameEquipment.{told_lines}
+use Rattle.rtk_survey.specs.NextCommand.{station_proposal}
+use Rattle.rtk_survey.specs.Steps.OtherSystems.{glonass_held, taken_held}
 use Rattle.rtk_survey.specs.Summary.{station_lines}
-use Rattle.rtk_survey.specs.SummaryText.{number_line, message_lines, system_epoch_lines, channel_line, time_lines, near_text, signal_lines, proposal_lines}
+use Rattle.rtk_survey.specs.SummaryText.{number_line, message_lines, system_epoch_lines, channel_line, time_lines, near_text, signal_lines}
 use Rattle.rtk_survey.specs.Contents.{equipment_at, epochs_held, codes_held}
 use Rattle.rtk_survey.specs.Steps.Tables.{messages_held, system_epochs_held, place_is_counted}
 use Rattle.rtk_survey.specs.Tracing.{times_of_week}
+use Rattle.rtk_survey.specs.UncheckedClocks.{systems_sent, all_clock_lines}
 use Rattle.rtk_survey.specs.declared.clock_chains.ClockSurvey.{ClockSurvey}
+use Rattle.rtk_survey.specs.declared.date_message.UtcDate.{UtcDate}
 use Rattle.rtk_survey.specs.declared.station_dates.StationDates.{StationDates}
+use Rattle.rtk_survey.specs.declared.systems_sent.SystemsSent.{SystemsSent}
 use Rattle.rtk_survey.proofs.LineLemmas.{own-survey, station-lines-are}
 use Rattle.rtk_survey.proofs.ListLemmas.{and-then}
 use Rattle.rtk_survey.proofs.lines.put_station.Goals as goal
@@ -29,6 +33,7 @@ returns c = λ ms date told stands.
     let signals : List ℕ =
     signal_lines (λ n. get_or s.signals.satellites n false) (λ code. get_or s.signals.codes.marks (place_of code) false)
     (λ n. get_or s.system_signals.satellites n false) (λ code. get_or s.system_signals.codes (number_of code) false) in
+    let sent : SystemsSent = systems_sent (λ code. get_or s.signals.codes.marks (place_of code) false) (λ code. get_or s.system_signals.codes (number_of code) false) in
     let l0 : List ℕ = c.args.lines.now.items in
     let l1 : List ℕ = c.put_line.new.lines.items in
     let l2 : List ℕ = c.put_messages.new.lines.items in
@@ -39,8 +44,8 @@ returns c = λ ms date told stands.
     let l7 : List ℕ = c.put_channels.new.lines.items in
     let l8 : List ℕ = c.put_clocks.new.lines.items in
     let l9 : List ℕ = c.put_proposal.new.lines.items in
-    and-then l0 l8 l9 _ (proposal_lines name (near_text (proposed_date d)) number (epochs_held s.msm) (codes_held s.msm))
-    (and-then l0 l7 l8 _ (clock_lines (clocks_at s.clocks).offsets)
+    and-then l0 l8 l9 _ (station_proposal name (near_text (proposed_date d)) number (epochs_held s.msm) (codes_held s.msm) (system_epochs_held s) (taken_held (proposed_date d) s) (glonass_held (proposed_date d) s))
+    (and-then l0 l7 l8 _ (all_clock_lines (proposed_date d) sent (clocks_at s.clocks).offsets)
     (and-then l0 l6 l7 _ (channel_line (place_is_counted s.channels.items))
     (and-then l0 l5 l6 _ (system_epoch_lines (system_epochs_held s))
     (and-then l0 l4 l5 _ signals
@@ -53,7 +58,9 @@ returns c = λ ms date told stands.
     c.in_ok-put_signals.ensures)
     c.in_ok-put_epochs.ensures)
     (c.in_ok-put_channels.ensures ∙ ap (λ (t : List ℕ). l6 ++ channel_line (place_is_counted t)) c.as_slice.ensures.value))
-    (c.in_ok-put_clocks.ensures ∙ ap (λ (t : List ClockSurvey). l7 ++ clock_lines (get_or t 0 no_clocks).offsets) c.as_slice-2.ensures.value))
-    (c.in_ok-put_proposal.ensures ∙ ap (λ near. l8 ++ proposal_lines name (near_text near) number (epochs_held s.msm) (codes_held s.msm)) c.proposed_date.ensures)
+    (c.in_ok-put_clocks.ensures ∙ ap (λ (t : List ClockSurvey). l7 ++ all_clock_lines c.proposed_date.result c.of-sent.result (get_or t 0 no_clocks).offsets) c.as_slice-2.ensures.value
+    ∙ ap (λ (o : Option UtcDate). l7 ++ all_clock_lines o c.of-sent.result (clocks_at s.clocks).offsets) c.proposed_date.ensures
+    ∙ ap (λ (x : SystemsSent). l7 ++ all_clock_lines (proposed_date d) x (clocks_at s.clocks).offsets) c.of-sent.ensures))
+    c.in_ok-put_proposal.ensures
     ∙ ap (λ (t : List ℕ). l0 ++ t) (sym (station-lines-are name number s d e ms (own-survey ms date told s stands)))
     ∙ ap (λ (x : StationDates). l0 ++ station_lines name number ms x e) stands.dates ∙ ap (λ (x : Equipment). l0 ++ station_lines name number ms date x) stands.equipment

@@ -19,6 +19,6 @@ loop-number-preserved c =
 pub returns : goal.returns
 unfolding system_epoch_lines
 returns c =
-    let end : c.loop-number.number-index ≡ 24 = omega (arith, c.loop-number.auto.number-index-end, c.loop-number-test.false) in
+    let end : c.loop-number.number-index ≡ 25 = omega (arith, c.loop-number.auto.number-index-end, c.loop-number-test.false) in
     c.loop-number.invariant
     ∙ ap (λ (k : ℕ). c.args.lines.now.items ++ flat_map (λ n. numbered_line (codes " epochs ") n (system_epochs_held c.args.station.now n)) (take k beside_numbers)) end

@@ -19,6 +19,6 @@ loop-number-preserved c =
 pub returns : goal.returns
 unfolding message_lines
 returns c =
-    let end : c.loop-number.number-index ≡ 31 = omega (arith, c.loop-number.auto.number-index-end, c.loop-number-test.false) in
+    let end : c.loop-number.number-index ≡ 32 = omega (arith, c.loop-number.auto.number-index-end, c.loop-number-test.false) in
     c.loop-number.invariant
     ∙ ap (λ (k : ℕ). c.args.lines.now.items ++ flat_map (λ n. numbered_line (codes " message ") n (messages_held c.args.station.now n)) (take k message_numbers)) end

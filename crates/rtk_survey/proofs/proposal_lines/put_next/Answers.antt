@@ -12,11 +12,11 @@ returns c =
     let name : List ℕ = c.args.name.now in
     let station : ℕ = c.args.station in
     rw (
-      next-lines-are name (near_text c.args.near) station c.args.named c.args.codes.now (eqb-false (length c.args.codes.now) 0 (sym c.is_empty.ensures ∙ c.if-is_empty.false)),
+      next-lines-are name (near_text c.args.near) station c.args.options.now c.args.codes.now (eqb-false (length c.args.codes.now) 0 (sym c.is_empty.ensures ∙ c.if-is_empty.false)),
       c.in_ok-put_auto.ensures,
       c.in_ok-put_words.ensures,
       c.in_ok-put_near.ensures,
       c.in_ok-extend_from_slice.ensures.items,
       c.in_ok-put_named.ensures,
       c.from.ensures,
-    ) (regrouped c.args.lines.now.items (codes " next rtcm2rinex convert --station ") (decimal station) (codes " --near ") (near_text c.args.near) (words_text name station c.args.named c.args.codes.now) (auto_line name station))
+    ) (regrouped c.args.lines.now.items (codes " next rtcm2rinex convert --station ") (decimal station) (codes " --near ") (near_text c.args.near) (words_text name station c.args.options.now c.args.codes.now) (auto_line name station))

@@ -8,7 +8,6 @@ returns c =
       c.in_ok-put_sh_quoted.ensures,
       c.in_ok-push.ensures.items,
       c.in_ok-extend_from_slice-5.ensures.items,
-      c.msm_option.ensures,
       c.in_ok-extend_from_slice-4.ensures.items,
       c.in_ok-extend_from_slice-3.ensures.items,
       c.in_ok-extend_from_slice-2.ensures.items,

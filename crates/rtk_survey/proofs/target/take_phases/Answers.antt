@@ -6,20 +6,20 @@ use Rattle.rtk_survey.proofs.TargetLemmas.{taken, passed, none-known}
 use Rattle.rtk_survey.proofs.target.take_phases.Goals as goal
 
 pub returns-then-station : goal.returns-then-station
-returns-then-station c = on-ok c.take_message.result (λ took before ms is has.
+returns-then-station c = on-ok c.take_message.result (λ took systems before ms dates is has.
     let m = c.args.message.now in
     let same : c.in-Some.station ≡ station_of m = omega (arith, c.station.ensures, c.if-station.true) in
     subst (λ (o : Option ℕ). HasTargetPhases c.take_message.new.self o (m ∷ ms)) (sym c.in-Some.is)
-    (taken c.args.phases.now c.take_message.new.self before m ms c.in-Some.station (sym c.in-Some.is ∙ is) same took has)) c.take_message.ensures
+    (taken systems c.args.phases.now c.take_message.new.self before m ms c.in-Some.station (sym c.in-Some.is ∙ is) same took has)) c.take_message.ensures
 
 pub returns : goal.returns
-returns c = λ before ms is has.
+returns c = λ systems before ms dates is has.
     let m = c.args.message.now in
     subst (λ (o : Option ℕ). HasTargetPhases c.args.phases.now o (m ∷ ms)) (sym c.in-Some.is)
-    (passed c.args.phases.now before m ms c.in-Some.station (sym c.in-Some.is ∙ is) (λ same. omega (arith, same, c.station.ensures, c.if-station.false)) has)
+    (passed systems c.args.phases.now before m ms c.in-Some.station (sym c.in-Some.is ∙ is) (λ same. omega (arith, same, c.station.ensures, c.if-station.false)) has)
 
 pub returns-in_default : goal.returns-in_default
-returns-in_default c = λ before ms is has.
+returns-in_default c = λ systems before ms dates is has.
     let m = c.args.message.now in
     subst (λ (o : Option ℕ). HasTargetPhases c.args.phases.now o (m ∷ ms)) (sym c.in_default.is)
-    (none-known c.args.phases.now before m ms (sym c.in_default.is ∙ is) has)
+    (none-known systems c.args.phases.now before m ms dates (sym c.in_default.is ∙ is) has)

@@ -1,15 +1,14 @@
-use Rattle.std.proofs.Common.{◌≡◌, ◌∙◌, ℕ, List, ◌∷◌, Option, map, refl, sym, ap, subst, arith}
+use Rattle.std.proofs.Common.{◌≡◌, ◌∙◌, ℕ, Bool, List, ◌∷◌, Option, map, refl, sym, ap, subst, arith}
 use Rattle.std.proofs.lemmas.List.{length-map}
 use Rattle.std.proofs.lemmas.Result.{err_from_is_err_and}
 use Rattle.rtk_obs.specs.declared.signal_cells.SignalEntry.{SignalEntry}
 use Rattle.rtk_collect.specs.Collector.{CollectorView, RepresentsArrivals}
-use Rattle.rtk_collect.specs.Signals.{signals}
+use Rattle.rtk_collect.specs.Signals.{signals, entries_by}
 use Rattle.rtk_collect.specs.declared.outcome.Outcome.{Outcome}
 use Rattle.rtk_collect.specs.declared.conflicts.AnySatelliteCode.{AnySatelliteCode}
 use Rattle.rtk_message.specs.AnyDecoded.{number_of}
 use Rattle.rtk_collect.specs.Answer.{Class, IsRightAnswer}
 use Rattle.rtk_collect.specs.Arrival.{epoch_of, message_of}
-use Rattle.rtk_obs.specs.SignalCells.{entries_of}
 use Rattle.rtk_convert.specs.Conversion.{IsAhead}
 use Rattle.rtk_convert.specs.Epochs.{outcome_of, set_of, window_of}
 use Rattle.rtk_convert.specs.Report.{class_lines}
@@ -35,12 +34,12 @@ write_answer-requires g c =
 pub returns-clause-adds : goal.returns-clause-adds
 returns-clause-adds g c =
     let meets : AnswersMessage c.args.setup.now (window_of same c.self.inside.collector) c.args.dated (outcome_of same c.in_ok-offer.offer) (map name_same c.offer_signals.new.conflicts) (window_of same c.offer_signals.new.self) =
-    signal-answers c.args.setup.now c.channels-channels.result.now (window_of same c.self.inside.collector) (window_of same c.offer_signals.new.self) c.args.dated (outcome_of same c.in_ok-offer.offer) (map name_same c.offer_signals.new.conflicts) c.channels-channels.ensures.cells
+    signal-answers c.args.setup.now (entries_by c.takes_sbas-sbas.result c.channels-channels.result.now) (window_of same c.self.inside.collector) (window_of same c.offer_signals.new.self) c.args.dated (outcome_of same c.in_ok-offer.offer) (map name_same c.offer_signals.new.conflicts) (ap (λ (b : Bool). entries_by b c.channels-channels.result.now) c.takes_sbas-sbas.ensures ∙ c.channels-channels.ensures.cells)
     (λ before rep.
-    let m = c.in_ok-offer.ensures.answer before (subst (λ (w : CollectorView SignalEntry). RepresentsArrivals signals (entries_of c.channels-channels.result.now) w before) (window-id c.self.inside.collector) rep) in (
-      subst (λ (o : Outcome SignalEntry AnySatelliteCode). IsRightAnswer signals (entries_of c.channels-channels.result.now) c.self.inside.collector.places c.args.dated before o (map name_same c.offer_signals.new.conflicts)) (sym (outcome-id c.in_ok-offer.offer))
-          (subst (λ (xs : List AnySatelliteCode). IsRightAnswer signals (entries_of c.channels-channels.result.now) c.self.inside.collector.places c.args.dated before c.in_ok-offer.offer xs) (sym (map-id name_same (λ x. refl) c.offer_signals.new.conflicts)) m.0),
-      subst (λ (w : CollectorView SignalEntry). RepresentsArrivals signals (entries_of c.channels-channels.result.now) w (c.args.dated ∷ before)) (sym (window-id c.offer_signals.new.self)) m.1,
+    let m = c.in_ok-offer.ensures.answer before (subst (λ (w : CollectorView SignalEntry). RepresentsArrivals signals (entries_by c.takes_sbas-sbas.result c.channels-channels.result.now) w before) (window-id c.self.inside.collector) rep) in (
+      subst (λ (o : Outcome SignalEntry AnySatelliteCode). IsRightAnswer signals (entries_by c.takes_sbas-sbas.result c.channels-channels.result.now) c.self.inside.collector.places c.args.dated before o (map name_same c.offer_signals.new.conflicts)) (sym (outcome-id c.in_ok-offer.offer))
+          (subst (λ (xs : List AnySatelliteCode). IsRightAnswer signals (entries_by c.takes_sbas-sbas.result c.channels-channels.result.now) c.self.inside.collector.places c.args.dated before c.in_ok-offer.offer xs) (sym (map-id name_same (λ x. refl) c.offer_signals.new.conflicts)) m.0),
+      subst (λ (w : CollectorView SignalEntry). RepresentsArrivals signals (entries_by c.takes_sbas-sbas.result c.channels-channels.result.now) w (c.args.dated ∷ before)) (sym (window-id c.offer_signals.new.self)) m.1,
     )) in
     let text : c.deref.result.now ≡ offer_lines c.args.link (number_of (message_of c.args.dated)) (epoch_of c.args.dated) (outcome_of same c.in_ok-offer.offer) (map name_same c.offer_signals.new.conflicts) =
     c.deref.ensures.value ∙ c.in_ok-lines.ensures
@@ -53,12 +52,12 @@ returns-clause-adds g c =
 pub returns-clause-stays : goal.returns-clause-stays
 returns-clause-stays g c =
     let meets : AnswersMessage c.args.setup.now (window_of same c.self.inside.collector) c.args.dated (outcome_of same c.in_ok-offer.offer) (map name_same c.offer_signals.new.conflicts) (window_of same c.offer_signals.new.self) =
-    signal-answers c.args.setup.now c.channels-channels.result.now (window_of same c.self.inside.collector) (window_of same c.offer_signals.new.self) c.args.dated (outcome_of same c.in_ok-offer.offer) (map name_same c.offer_signals.new.conflicts) c.channels-channels.ensures.cells
+    signal-answers c.args.setup.now (entries_by c.takes_sbas-sbas.result c.channels-channels.result.now) (window_of same c.self.inside.collector) (window_of same c.offer_signals.new.self) c.args.dated (outcome_of same c.in_ok-offer.offer) (map name_same c.offer_signals.new.conflicts) (ap (λ (b : Bool). entries_by b c.channels-channels.result.now) c.takes_sbas-sbas.ensures ∙ c.channels-channels.ensures.cells)
     (λ before rep.
-    let m = c.in_ok-offer.ensures.answer before (subst (λ (w : CollectorView SignalEntry). RepresentsArrivals signals (entries_of c.channels-channels.result.now) w before) (window-id c.self.inside.collector) rep) in (
-      subst (λ (o : Outcome SignalEntry AnySatelliteCode). IsRightAnswer signals (entries_of c.channels-channels.result.now) c.self.inside.collector.places c.args.dated before o (map name_same c.offer_signals.new.conflicts)) (sym (outcome-id c.in_ok-offer.offer))
-          (subst (λ (xs : List AnySatelliteCode). IsRightAnswer signals (entries_of c.channels-channels.result.now) c.self.inside.collector.places c.args.dated before c.in_ok-offer.offer xs) (sym (map-id name_same (λ x. refl) c.offer_signals.new.conflicts)) m.0),
-      subst (λ (w : CollectorView SignalEntry). RepresentsArrivals signals (entries_of c.channels-channels.result.now) w (c.args.dated ∷ before)) (sym (window-id c.offer_signals.new.self)) m.1,
+    let m = c.in_ok-offer.ensures.answer before (subst (λ (w : CollectorView SignalEntry). RepresentsArrivals signals (entries_by c.takes_sbas-sbas.result c.channels-channels.result.now) w before) (window-id c.self.inside.collector) rep) in (
+      subst (λ (o : Outcome SignalEntry AnySatelliteCode). IsRightAnswer signals (entries_by c.takes_sbas-sbas.result c.channels-channels.result.now) c.self.inside.collector.places c.args.dated before o (map name_same c.offer_signals.new.conflicts)) (sym (outcome-id c.in_ok-offer.offer))
+          (subst (λ (xs : List AnySatelliteCode). IsRightAnswer signals (entries_by c.takes_sbas-sbas.result c.channels-channels.result.now) c.self.inside.collector.places c.args.dated before c.in_ok-offer.offer xs) (sym (map-id name_same (λ x. refl) c.offer_signals.new.conflicts)) m.0),
+      subst (λ (w : CollectorView SignalEntry). RepresentsArrivals signals (entries_by c.takes_sbas-sbas.result c.channels-channels.result.now) w (c.args.dated ∷ before)) (sym (window-id c.offer_signals.new.self)) m.1,
     )) in
     let ahead = ahead-written _ (outcome_of same c.in_ok-offer.offer) c.self.view_is refl c.write_answer.ensures.window (least-map same c.self.inside.collector.places c.self.inside.collector.sets c.in_ok-offer.offer c.in_ok-offer.ensures.least_closes) (below-map same c.in_ok-offer.offer c.offer_signals.new.self.sets c.in_ok-offer.ensures.closed) (never-map same c.self.inside.collector c.offer_signals.new.self c.offer_signals.ensures.least) c.requires.ahead c.in_ok-write_answer.ensures.writes in
     hands-on _ (outcome_of same c.in_ok-offer.offer) (map name_same c.offer_signals.new.conflicts) c.self.view_is c.requires.taken c.offer_signals.ensures.places (omega (arith, c.offer_signals.ensures.bound, length-map c.offer_signals.new.self.sets (set_of same))) meets c.write_answer.ensures.window ahead
@@ -71,12 +70,12 @@ pub returns-in_err-write_answer-clause-adds : goal.returns-in_err-write_answer-c
 returns-in_err-write_answer-clause-adds g c =
     let p = err_from_is_err_and c.from_residual-in_err-write_answer.result c.from_residual-in_err-write_answer.ensures.1 in
     let meets : AnswersMessage c.args.setup.now (window_of same c.self.inside.collector) c.args.dated (outcome_of same c.in_ok-offer.offer) (map name_same c.offer_signals.new.conflicts) (window_of same c.offer_signals.new.self) =
-    signal-answers c.args.setup.now c.channels-channels.result.now (window_of same c.self.inside.collector) (window_of same c.offer_signals.new.self) c.args.dated (outcome_of same c.in_ok-offer.offer) (map name_same c.offer_signals.new.conflicts) c.channels-channels.ensures.cells
+    signal-answers c.args.setup.now (entries_by c.takes_sbas-sbas.result c.channels-channels.result.now) (window_of same c.self.inside.collector) (window_of same c.offer_signals.new.self) c.args.dated (outcome_of same c.in_ok-offer.offer) (map name_same c.offer_signals.new.conflicts) (ap (λ (b : Bool). entries_by b c.channels-channels.result.now) c.takes_sbas-sbas.ensures ∙ c.channels-channels.ensures.cells)
     (λ before rep.
-    let m = c.in_ok-offer.ensures.answer before (subst (λ (w : CollectorView SignalEntry). RepresentsArrivals signals (entries_of c.channels-channels.result.now) w before) (window-id c.self.inside.collector) rep) in (
-      subst (λ (o : Outcome SignalEntry AnySatelliteCode). IsRightAnswer signals (entries_of c.channels-channels.result.now) c.self.inside.collector.places c.args.dated before o (map name_same c.offer_signals.new.conflicts)) (sym (outcome-id c.in_ok-offer.offer))
-          (subst (λ (xs : List AnySatelliteCode). IsRightAnswer signals (entries_of c.channels-channels.result.now) c.self.inside.collector.places c.args.dated before c.in_ok-offer.offer xs) (sym (map-id name_same (λ x. refl) c.offer_signals.new.conflicts)) m.0),
-      subst (λ (w : CollectorView SignalEntry). RepresentsArrivals signals (entries_of c.channels-channels.result.now) w (c.args.dated ∷ before)) (sym (window-id c.offer_signals.new.self)) m.1,
+    let m = c.in_ok-offer.ensures.answer before (subst (λ (w : CollectorView SignalEntry). RepresentsArrivals signals (entries_by c.takes_sbas-sbas.result c.channels-channels.result.now) w before) (window-id c.self.inside.collector) rep) in (
+      subst (λ (o : Outcome SignalEntry AnySatelliteCode). IsRightAnswer signals (entries_by c.takes_sbas-sbas.result c.channels-channels.result.now) c.self.inside.collector.places c.args.dated before o (map name_same c.offer_signals.new.conflicts)) (sym (outcome-id c.in_ok-offer.offer))
+          (subst (λ (xs : List AnySatelliteCode). IsRightAnswer signals (entries_by c.takes_sbas-sbas.result c.channels-channels.result.now) c.self.inside.collector.places c.args.dated before c.in_ok-offer.offer xs) (sym (map-id name_same (λ x. refl) c.offer_signals.new.conflicts)) m.0),
+      subst (λ (w : CollectorView SignalEntry). RepresentsArrivals signals (entries_by c.takes_sbas-sbas.result c.channels-channels.result.now) w (c.args.dated ∷ before)) (sym (window-id c.offer_signals.new.self)) m.1,
     )) in
     let text : c.deref.result.now ≡ offer_lines c.args.link (number_of (message_of c.args.dated)) (epoch_of c.args.dated) (outcome_of same c.in_ok-offer.offer) (map name_same c.offer_signals.new.conflicts) =
     c.deref.ensures.value ∙ c.in_ok-lines.ensures
@@ -90,12 +89,12 @@ pub returns-in_err-write_answer-clause-stays : goal.returns-in_err-write_answer-
 returns-in_err-write_answer-clause-stays g c =
     let p = err_from_is_err_and c.from_residual-in_err-write_answer.result c.from_residual-in_err-write_answer.ensures.1 in
     let meets : AnswersMessage c.args.setup.now (window_of same c.self.inside.collector) c.args.dated (outcome_of same c.in_ok-offer.offer) (map name_same c.offer_signals.new.conflicts) (window_of same c.offer_signals.new.self) =
-    signal-answers c.args.setup.now c.channels-channels.result.now (window_of same c.self.inside.collector) (window_of same c.offer_signals.new.self) c.args.dated (outcome_of same c.in_ok-offer.offer) (map name_same c.offer_signals.new.conflicts) c.channels-channels.ensures.cells
+    signal-answers c.args.setup.now (entries_by c.takes_sbas-sbas.result c.channels-channels.result.now) (window_of same c.self.inside.collector) (window_of same c.offer_signals.new.self) c.args.dated (outcome_of same c.in_ok-offer.offer) (map name_same c.offer_signals.new.conflicts) (ap (λ (b : Bool). entries_by b c.channels-channels.result.now) c.takes_sbas-sbas.ensures ∙ c.channels-channels.ensures.cells)
     (λ before rep.
-    let m = c.in_ok-offer.ensures.answer before (subst (λ (w : CollectorView SignalEntry). RepresentsArrivals signals (entries_of c.channels-channels.result.now) w before) (window-id c.self.inside.collector) rep) in (
-      subst (λ (o : Outcome SignalEntry AnySatelliteCode). IsRightAnswer signals (entries_of c.channels-channels.result.now) c.self.inside.collector.places c.args.dated before o (map name_same c.offer_signals.new.conflicts)) (sym (outcome-id c.in_ok-offer.offer))
-          (subst (λ (xs : List AnySatelliteCode). IsRightAnswer signals (entries_of c.channels-channels.result.now) c.self.inside.collector.places c.args.dated before c.in_ok-offer.offer xs) (sym (map-id name_same (λ x. refl) c.offer_signals.new.conflicts)) m.0),
-      subst (λ (w : CollectorView SignalEntry). RepresentsArrivals signals (entries_of c.channels-channels.result.now) w (c.args.dated ∷ before)) (sym (window-id c.offer_signals.new.self)) m.1,
+    let m = c.in_ok-offer.ensures.answer before (subst (λ (w : CollectorView SignalEntry). RepresentsArrivals signals (entries_by c.takes_sbas-sbas.result c.channels-channels.result.now) w before) (window-id c.self.inside.collector) rep) in (
+      subst (λ (o : Outcome SignalEntry AnySatelliteCode). IsRightAnswer signals (entries_by c.takes_sbas-sbas.result c.channels-channels.result.now) c.self.inside.collector.places c.args.dated before o (map name_same c.offer_signals.new.conflicts)) (sym (outcome-id c.in_ok-offer.offer))
+          (subst (λ (xs : List AnySatelliteCode). IsRightAnswer signals (entries_by c.takes_sbas-sbas.result c.channels-channels.result.now) c.self.inside.collector.places c.args.dated before c.in_ok-offer.offer xs) (sym (map-id name_same (λ x. refl) c.offer_signals.new.conflicts)) m.0),
+      subst (λ (w : CollectorView SignalEntry). RepresentsArrivals signals (entries_by c.takes_sbas-sbas.result c.channels-channels.result.now) w (c.args.dated ∷ before)) (sym (window-id c.offer_signals.new.self)) m.1,
     )) in
     rw (p.1, p.2) (hands-on _ (outcome_of same c.in_ok-offer.offer) (map name_same c.offer_signals.new.conflicts) c.self.view_is c.requires.taken c.offer_signals.ensures.places (omega (arith, c.offer_signals.ensures.bound, length-map c.offer_signals.new.self.sets (set_of same))) meets c.write_answer.ensures.window tt)
 
@@ -113,12 +112,12 @@ pub returns-in_err-lines-clause-stays : goal.returns-in_err-lines-clause-stays
 returns-in_err-lines-clause-stays g c =
     let p = err_from_is_err_and c.from_residual-in_err-lines.result c.from_residual-in_err-lines.ensures.1 in
     let meets : AnswersMessage c.args.setup.now (window_of same c.self.inside.collector) c.args.dated (outcome_of same c.in_ok-offer.offer) (map name_same c.offer_signals.new.conflicts) (window_of same c.offer_signals.new.self) =
-    signal-answers c.args.setup.now c.channels-channels.result.now (window_of same c.self.inside.collector) (window_of same c.offer_signals.new.self) c.args.dated (outcome_of same c.in_ok-offer.offer) (map name_same c.offer_signals.new.conflicts) c.channels-channels.ensures.cells
+    signal-answers c.args.setup.now (entries_by c.takes_sbas-sbas.result c.channels-channels.result.now) (window_of same c.self.inside.collector) (window_of same c.offer_signals.new.self) c.args.dated (outcome_of same c.in_ok-offer.offer) (map name_same c.offer_signals.new.conflicts) (ap (λ (b : Bool). entries_by b c.channels-channels.result.now) c.takes_sbas-sbas.ensures ∙ c.channels-channels.ensures.cells)
     (λ before rep.
-    let m = c.in_ok-offer.ensures.answer before (subst (λ (w : CollectorView SignalEntry). RepresentsArrivals signals (entries_of c.channels-channels.result.now) w before) (window-id c.self.inside.collector) rep) in (
-      subst (λ (o : Outcome SignalEntry AnySatelliteCode). IsRightAnswer signals (entries_of c.channels-channels.result.now) c.self.inside.collector.places c.args.dated before o (map name_same c.offer_signals.new.conflicts)) (sym (outcome-id c.in_ok-offer.offer))
-          (subst (λ (xs : List AnySatelliteCode). IsRightAnswer signals (entries_of c.channels-channels.result.now) c.self.inside.collector.places c.args.dated before c.in_ok-offer.offer xs) (sym (map-id name_same (λ x. refl) c.offer_signals.new.conflicts)) m.0),
-      subst (λ (w : CollectorView SignalEntry). RepresentsArrivals signals (entries_of c.channels-channels.result.now) w (c.args.dated ∷ before)) (sym (window-id c.offer_signals.new.self)) m.1,
+    let m = c.in_ok-offer.ensures.answer before (subst (λ (w : CollectorView SignalEntry). RepresentsArrivals signals (entries_by c.takes_sbas-sbas.result c.channels-channels.result.now) w before) (window-id c.self.inside.collector) rep) in (
+      subst (λ (o : Outcome SignalEntry AnySatelliteCode). IsRightAnswer signals (entries_by c.takes_sbas-sbas.result c.channels-channels.result.now) c.self.inside.collector.places c.args.dated before o (map name_same c.offer_signals.new.conflicts)) (sym (outcome-id c.in_ok-offer.offer))
+          (subst (λ (xs : List AnySatelliteCode). IsRightAnswer signals (entries_by c.takes_sbas-sbas.result c.channels-channels.result.now) c.self.inside.collector.places c.args.dated before c.in_ok-offer.offer xs) (sym (map-id name_same (λ x. refl) c.offer_signals.new.conflicts)) m.0),
+      subst (λ (w : CollectorView SignalEntry). RepresentsArrivals signals (entries_by c.takes_sbas-sbas.result c.channels-channels.result.now) w (c.args.dated ∷ before)) (sym (window-id c.offer_signals.new.self)) m.1,
     )) in
     rw (p.1, p.2) (hands-on _ (outcome_of same c.in_ok-offer.offer) (map name_same c.offer_signals.new.conflicts) c.self.view_is c.requires.taken c.offer_signals.ensures.places (omega (arith, c.offer_signals.ensures.bound, length-map c.offer_signals.new.self.sets (set_of same))) meets refl tt)
 

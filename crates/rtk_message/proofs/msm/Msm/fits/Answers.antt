@@ -17,7 +17,7 @@ returns-then-satellites_fit c =
     let cells = c.cells_have_lengths.ensures.0 (search rules) in (
       λ h. record {
         wide = is_wide (type_of m) (λ e. c.if-number-eq1074.false (c.number.ensures ∙ ap number_of_type c.msm_type.ensures ∙ e));
-        form = has_form m header (sym c.is_in_week.ensures ∙ c.if-not-is_in_week.false) few (has_lengths m satellites.0 satellites.1 cells) (c.satellites_fit.ensures.0 (search rules)) (rw c.form.ensures at (c.cells_fit.ensures.0 h));
+        form = has_form m header (sym c.tells_time.ensures ∙ c.if-not-tells_time.false) few (has_lengths m satellites.0 satellites.1 cells) (c.satellites_fit.ensures.0 (search rules)) (rw c.form.ensures at (c.cells_fit.ensures.0 h));
       },
       λ v. c.cells_fit.ensures.1 (rw c.form.ensures (cells_fit m v.form.fields_fit)),
     )

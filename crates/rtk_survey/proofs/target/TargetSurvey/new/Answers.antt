@@ -6,7 +6,7 @@ pub returns : goal.returns
 returns c = record {
   present = refl;
   dates = c.new.ensures;
-  phases = no-phases c.new-2.result c.new.result.station c.new-2.ensures;
+  phases = λ dates. no-phases c.new-2.result c.new.result.station c.new-2.ensures;
   equipment = c.new-3.ensures;
   parting = c.new-4.ensures;
   to_come = refl;

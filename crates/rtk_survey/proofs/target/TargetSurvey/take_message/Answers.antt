@@ -1,9 +1,10 @@
-use Rattle.std.proofs.Common.{ℕ, ap, ◌∙◌}
+use Rattle.std.proofs.Common.{ℕ, sym, ap, ◌∙◌}
 use Rattle.rtk_survey.specs.ReadFrames.{messages_in}
 use Rattle.rtk_survey.specs.Targets.{with_observation}
+use Rattle.rtk_survey.specs.declared.dating_systems.DatingSystems.{DatingSystems}
 use Rattle.rtk_survey.specs.declared.target.TargetDates.{TargetDates}
 use Rattle.rtk_survey.proofs.ResultLemmas.{on-ok}
-use Rattle.rtk_survey.proofs.TargetLemmas.{station-of-dates, parted-message}
+use Rattle.rtk_survey.proofs.TargetLemmas.{station-of-dates, systems-of-dates, parted-message}
 use Rattle.rtk_survey.proofs.target.TargetSurvey.take_message.Goals as goal
 
 pub returns : goal.returns
@@ -11,12 +12,15 @@ returns c = on-ok c.take_phases.result (λ took q fs payload count is.
     let old = c.args.self.now in
     let m = c.args.message.now in
     let station = ap (λ (d : TargetDates). d.station) c.take_message.ensures ∙ station-of-dates old.present old.dates m in
+    let systems = ap (λ (d : TargetDates). d.systems) c.take_message.ensures ∙ systems-of-dates old.present old.dates m in
     record {
       present = is.present;
       dates = c.take_message.ensures
           ∙ ap (λ (n : ℕ). with_observation n old.dates m) is.present
           ∙ ap (λ (d : TargetDates). with_observation q.present d m) is.dates;
-      phases = took old.dates.station (messages_in fs) station is.phases;
+      phases = λ dates.
+          let dated = sym (ap (λ (s : DatingSystems). s.gps) systems) ∙ dates in
+          took old.dates.systems old.dates.station (messages_in fs) dated station (is.phases dated);
       equipment = is.equipment;
       parting = parted-message q fs old m c.args.frame c.take_message.new.dates c.take_epochs.new.self c.take_message.ensures count is c.take_epochs.ensures;
       to_come = is.to_come;

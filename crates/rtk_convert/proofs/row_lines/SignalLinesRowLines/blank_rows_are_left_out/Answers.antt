@@ -1,5 +1,0 @@
-use Rattle.rtk_convert.proofs.RowLinesLemmas.{mixed-blank}
-use Rattle.rtk_convert.proofs.row_lines.SignalLinesRowLines.blank_rows_are_left_out.Goals as goal
-
-pub returns : goal.returns
-returns c = λ lines rows row none h. mixed-blank lines.lines rows row none h

@@ -1,4 +1,0 @@
-use Rattle.rtk_convert.proofs.row_lines.SignalLinesRowLines.has_gps_alone.Goals as goal
-
-pub returns : goal.returns
-returns c = λ alone. absurd cc

@@ -1,8 +1,0 @@
-use Rattle.std.proofs.Common.{◌≡◌, ◌≤◌, length}
-use Rattle.rtk_message.proofs.obs1004.Satellites.resize.Given as goal
-
-abbrev pub invariant-loop : goal.invariant-loop
-invariant-loop l = record {
-  so_far : length l.self-inside.list.items ≡ l.counter;
-  most : l.counter ≤ l.count;
-}

@@ -1,0 +1,6 @@
+use Rattle.rtk_plan.proofs.CodeLemmas.{no-head-fault}
+use Rattle.rtk_plan.proofs.station_setup.head_of.Goals as goal
+
+-- parts that are good make a head
+pub unreachable-requires : goal.unreachable-requires
+unreachable-requires c = no-head-fault c.args.codes.now c.args.glonass c.in_default.field-0 c.requires.good c.requires.due c.in_default.ensures.fault

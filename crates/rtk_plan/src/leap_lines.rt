@@ -1,0 +1,131 @@
+//! The lines of captures whose 1013 tell other leap seconds than a conversion has.
+//!
+//! If memory is refused, a first part of what is put may stand there.
+
+ghost use Rattle.std.specs.Prelude.{◌≡◌, ◌++◌, OnOk};
+ghost use Rattle.std.specs.Option.{option_copied};
+ghost use Rattle.rtk_plan.specs.LeapLines as spec;
+
+use rtk_captures::{Captures, put_name_line};
+use rtk_message::put_named;
+use rtk_rinex::Glonass;
+use rtk_setup::Setup;
+use rtk_survey::{CaptureSurvey, LeapRange};
+use rtk_systems::{is_alone, leap_in_capture};
+use std::alloc::AllocError;
+
+fn put_to(lines: &mut Vec<u8>, greatest: u8) -> Result<(), AllocError>
+    ensures { OnOk result (lines.new.items ≡ lines.old.items ++ spec.to_text greatest) }
+{
+    put_named(lines, b" to ", u64::from(greatest))?;
+    Ok(())
+}
+
+fn put_greatest(lines: &mut Vec<u8>, range: &LeapRange) -> Result<(), AllocError>
+    ensures { OnOk result (lines.new.items ≡ lines.old.items ++ spec.greatest_text range.now) }
+{
+    if range.least == range.greatest {
+        Ok(())
+    } else {
+        put_to(lines, range.greatest)
+    }
+}
+
+#[tactic(auto, unfolding(crate::specs::LeapLines::leap_words_of))]
+fn put_leap_words(lines: &mut Vec<u8>, name: &str, range: &LeapRange) -> Result<(), AllocError>
+    ensures { OnOk result (lines.new.items ≡ lines.old.items ++ spec.leap_words_of name.now range.now) }
+{
+    put_named(lines, b" other-leap-seconds ", u64::from(range.least))?;
+    put_greatest(lines, range)?;
+    put_name_line(lines, b" by 1013 in ", name)?;
+    Ok(())
+}
+
+// Appends the line of a capture, if its 1013 tell other leap seconds than these.
+fn put_other_range(
+    lines: &mut Vec<u8>,
+    seconds: u8,
+    name: &str,
+    range: &LeapRange,
+) -> Result<(), AllocError>
+    ensures { OnOk result (lines.new.items ≡ lines.old.items ++ spec.other_leap_range seconds name.now range.now) }
+{
+    if is_alone(u64::from(seconds), range) {
+        return Ok(());
+    }
+    put_leap_words(lines, name, range)
+}
+
+fn put_other_leap(
+    lines: &mut Vec<u8>,
+    seconds: u8,
+    name: &str,
+    told: Option<&LeapRange>,
+) -> Result<(), AllocError>
+    ensures { OnOk result (lines.new.items ≡ lines.old.items ++ spec.other_leap_line seconds name.now (option_copied told.entry)) }
+{
+    match told {
+        Some(range) => put_other_range(lines, seconds, name, range),
+        None => Ok(()),
+    }
+}
+
+fn put_other_leap_at(
+    lines: &mut Vec<u8>,
+    captures: &Captures<'_, '_>,
+    station: u16,
+    seconds: u8,
+    at: usize,
+    survey: &CaptureSurvey,
+) -> Result<(), AllocError>
+    ensures { OnOk result (lines.new.items ≡ lines.old.items ++ spec.other_leap_at captures.now.names.now station seconds at survey.now) }
+{
+    put_other_leap(
+        lines,
+        seconds,
+        captures.name(at),
+        leap_in_capture(station, survey),
+    )?;
+    Ok(())
+}
+
+fn put_all_other_leap(
+    lines: &mut Vec<u8>,
+    captures: &Captures<'_, '_>,
+    station: u16,
+    seconds: u8,
+) -> Result<(), AllocError>
+    ensures { OnOk result (lines.new.items ≡ lines.old.items ++ spec.all_other_leap captures.now.names.now station captures.now.surveys.now seconds) }
+{
+    for (at, survey) in captures.surveys.iter().enumerate() {
+        put_other_leap_at(lines, captures, station, seconds, at, survey)?;
+    }
+    Ok(())
+}
+
+fn put_other_leap_if(
+    lines: &mut Vec<u8>,
+    captures: &Captures<'_, '_>,
+    station: u16,
+    glonass: Option<Glonass>,
+) -> Result<(), AllocError>
+    ensures { OnOk result (lines.new.items ≡ lines.old.items ++ spec.other_leap_lines captures.now.names.now station captures.now.surveys.now glonass) }
+{
+    match glonass {
+        Some(glonass) => put_all_other_leap(lines, captures, station, glonass.leap_seconds()),
+        None => Ok(()),
+    }
+}
+
+/// Appends the captures whose 1013 tell other leap seconds than a conversion of GLONASS has.
+pub(crate) fn put_other_leap_in(
+    lines: &mut Vec<u8>,
+    captures: &Captures<'_, '_>,
+    setup: &Setup,
+) -> Result<(), AllocError>
+    ensures { OnOk result (lines.new.items ≡ lines.old.items
+        ++ spec.other_leap_lines captures.now.names.now setup.now.station captures.now.surveys.now setup.now.head.glonass) }
+{
+    put_other_leap_if(lines, captures, setup.station(), setup.head().glonass())?;
+    Ok(())
+}

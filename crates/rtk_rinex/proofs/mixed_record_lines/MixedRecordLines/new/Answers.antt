@@ -1,0 +1,4 @@
+use Rattle.rtk_rinex.proofs.mixed_record_lines.MixedRecordLines.new.Goals as goal
+
+pub returns : goal.returns
+returns c = record { lines = c.new.ensures.lines; count = c.new.ensures.count }

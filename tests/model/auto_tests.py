@@ -1,0 +1,179 @@
+"""Tests of the slow model of `auto` for several systems, against what was worked by hand.
+
+Prints a line for each test, and last 'N passed, M failed'.
+"""
+
+from __future__ import annotations
+
+import sys
+from collections import Counter
+from typing import Iterable
+
+import stages
+import worked_rows as rows
+from auto_lines import Asked, auto_text
+from chains import Date, is_wrong, offset_lines, offsets_of, told_offset
+from channels import orbit_of, slots_of
+from choosing import Chosen, Wanted, kind_of
+from finding import Capture, Found, find
+from mixed_model import convert_mixed
+from mixed_sender import with_more
+from model import moment
+from systems import BEIDOU, GALILEO, GLONASS, GPS, QZSS, SBAS, System
+from tested import NOON, one_cell, run_tests, same, test
+from wire import WEEK_MS, frame_of
+
+MADE = moment("2024-05-17T13:00:00")
+CLOCKS = "GEJSICR"
+
+
+def epoch(time: int, *sent: tuple[System, int]) -> bytes:
+    """A chain of MSM7 of these systems, whose clocks are ahead by so many ms. Channels are -5."""
+    last = len(sent) - 1
+    return b"".join(
+        one_cell(system, 7, time + ahead, 10, next(iter(system.signals.values())) or 0, more=int(at < last), channel=2, cnr=160)
+        for at, (system, ahead) in enumerate(sent)
+    )
+
+
+def found_in(*texts: bytes, **wanted: object) -> Found:
+    return find(list(texts), MADE, Wanted(**{"near": NOON, **wanted}))
+
+
+def chosen_in(*texts: bytes, **wanted: object) -> Chosen:
+    return found_in(*texts, **wanted).chosen
+
+
+@test
+def seven_systems_in_one_command() -> None:
+    payloads = [bytes.fromhex(row.payload) for row in rows.ROWS if row.kind == 7]
+    text = b"".join(frame_of(with_more(it, at < len(payloads))) for at, it in enumerate(payloads, 1))
+    for names in (None, tuple(rows.CODES.split(",")[::-1])):
+        asked = Asked(MADE, "BASE", 64, Wanted(near=NOON, names=names))
+        found = find([text], MADE, asked.wanted)
+        options = asked.options(found)
+        same("codes", ",".join(options.names), rows.CODES)
+        same("kinds and channels", (options.msm, options.channels, options.leap), ("7", {10: -5}, None))
+        due = convert_mixed(options, [text])
+        same("the file", due.file, rows.FILE)
+        lines = auto_text(found, asked, due, [text]).splitlines()
+        command = "rtcm2rinex convert --station 1 --near 2024-05-17T12:00:00 --made 2024-05-17T13:00:00 --marker BASE --codes "
+        same("the command", lines[1], f"{command}{rows.CODES} --msm 7 --window 64 --channels 10:-5 link1")
+        same("lines", [it.split(":")[0] for it in lines[11:]], [" from 2024-05-17T12", " no-position", " not in the file"])
+
+
+@test
+def clocks_in_chains() -> None:
+    sent = [(GPS, 0), (GLONASS, 0), (QZSS, 0), (BEIDOU, 14_000)]
+    text = b"".join(epoch(NOON + 1000 * at, *sent) for at in range(257))
+    chosen = chosen_in(text)
+    same("BeiDou on GPS time", (chosen.clocks, chosen.wrong, chosen.letters), ([" clock C +14.000 257 of 257"], "C", "GRJ"))
+    same("codes that are named", chosen_in(text, names=("1C", "C2I")).letters, "GC")
+    same("systems that are named", chosen_in(text, systems="GJ").clocks, [])
+    cases = (
+        (GLONASS, 1, [" clock R +0.001 1 of 1"], ""), (GLONASS, -86_400_000, [" clock R -86400.000 1 of 1"], "R"),
+        (GALILEO, 499, [" clock E +0.499 1 of 1"], ""), (GALILEO, 500, [" clock E +0.500 1 of 1"], "E"),
+        (SBAS, -500, [" clock S -0.500 1 of 1"], "S"), (BEIDOU, WEEK_MS // 2, [" clock C +302400.000 1 of 1"], "C"), (QZSS, 0, [], ""),
+    )  # fmt: skip
+    for system, ahead, lines, wrong in cases:
+        for sent in ([(GPS, 0), (system, ahead)], [(system, ahead), (GPS, 0)]):
+            chosen = chosen_in(epoch(NOON, *sent))
+            same(f"{system.letter} {ahead}", (chosen.clocks, chosen.wrong), (lines, wrong))
+
+
+@test
+def offsets_that_are_told() -> None:
+    week, rows_due = WEEK_MS, (
+        ({0: 5}, None, False), ({0: 5, 500: 5}, 500, False), ({0: 5, 500: 6}, 500, True), ({0: 0, 499: 6}, 499, False),
+        ({1000: 3, WEEK_MS - 500: 3}, WEEK_MS - 500, True), ({700: 3, WEEK_MS - 700: 3}, WEEK_MS - 700, True),
+        ({1: 2, 1000: 3, 0: 2}, 1000, True),
+    )  # fmt: skip
+    for counts, told, wrong in rows_due:
+        got = (told_offset(Counter(counts)), is_wrong(Counter(counts)))
+        same(f"{counts}", got, (told, wrong))
+    same("a line", offset_lines("S", Counter({week - 700: 3, 700: 3, 0: 1})), [" clock S -0.700 3 of 7"])
+
+
+@test
+def the_clock_of_a_chain() -> None:
+    """It is the first of G, E, J, S and I; R and C alone are no chain, and neither is one that has not ended."""
+
+    def counted(*sent: tuple[System, int]) -> dict[str, dict[int, int]]:
+        messages = Capture.of(epoch(NOON, *sent), "G").messages()
+        return {letter: dict(its) for letter, its in offsets_of(messages, Date(NOON)).items() if its}
+
+    same("of GPS", counted((GLONASS, 3), (GALILEO, 1), (GPS, 0)), {"R": {3: 1}, "E": {1: 1}})
+    same("of Galileo", counted((GLONASS, 3), (SBAS, 2), (GALILEO, 1)), {"R": {2: 1}, "S": {1: 1}})
+    same("of none", counted((GLONASS, 3), (BEIDOU, 2)), {})
+    text = epoch(NOON, (GPS, 0), (GALILEO, 7), (BEIDOU, 5))
+    whole = Capture.of(text, "G").messages()
+    same("without its end", {it for it in offsets_of(whole[:2], None).values() if it}, set())
+
+
+@test
+def leap_seconds_by_clocks() -> None:
+    ahead = [(GPS, 0), (GLONASS, 1000)]
+    text = b"".join(epoch(NOON + 1000 * at, *ahead) for at in range(3))
+    chosen = chosen_in(text, leap=17)
+    same("given", (chosen.leap, chosen.clocks, chosen.letters), (17, [], "GR"))
+    same("given and wrong", chosen_in(text, leap=18).wrong, "R")
+    if stages.SETS_LEAP_SECONDS:
+        same("found", (chosen_in(text).leap, chosen_in(text).clocks), (17, []))
+        same("behind", chosen_in(epoch(NOON, (GPS, 0), (GLONASS, -1000))).leap, 19)
+        mixed = [epoch(NOON, *ahead), epoch(NOON + 5000, (GPS, 0), (GLONASS, 2000))]
+        same("captures that differ", chosen_in(*mixed).leap, None)
+        same("no whole second", chosen_in(epoch(NOON, (GPS, 0), (GLONASS, 1001))).wrong, "R")
+
+
+@test
+def kinds_by_epochs() -> None:
+    def link(*kinds: int, system: System = GALILEO) -> list:
+        texts = (one_cell(system, kind, NOON + 1000 * at, 1, 2, cnr=40) for at, kind in enumerate(kinds))
+        return Capture.of(b"".join(texts), "G").messages()
+
+    cases: Iterable[tuple[list, int | None]] = (
+        ([link(4, 4, 7)], 4), ([link(4, 7)], 7), ([link(4, 4, 7), link(7, 7, 7, 4)], 7), ([link(7, 7), link(7, 7), link(4, 4, 4)], 4),
+        ([link(5)], 5), ([[]], None),
+    )  # fmt: skip
+    for links, due in cases:
+        same("kind", kind_of(links, "E"), due)
+    text = one_cell(GPS, 4, NOON, 1, 2, more=1, cnr=40) + one_cell(GALILEO, 7, NOON, 1, 2, more=1, cnr=160)
+    text += one_cell(BEIDOU, 4, NOON, 1, 2, cnr=40)
+    for wanted, due in (({}, "4,E7"), ({"systems": "EC"}, "7,C4"), ({"systems": "GC"}, "4"), ({"msm": 7}, "7"), ({"names": ("1C",)}, "4")):
+        same(f"{wanted}", chosen_in(text, **wanted).msm, due)
+    same("of one kind", chosen_in(text, msm=7).letters, "E")
+
+
+@test
+def channels_of_slots() -> None:
+    told = {1: Counter({3: 2, -7: 2, 6: 1}), 2: Counter({1: 3}), 5: Counter({6: 1})}
+    orbits = {2: Counter({2: 9}), 3: Counter({-1: 1, -4: 1}), 9: Counter({0: 1})}
+    got = slots_of((4, 3, 2, 1, 1), told, orbits, None, True)
+    same("channels", (got.channels, got.by_orbits, got.without), ({1: -7, 2: 1, 3: -4}, [3], [4]))
+    same("several", got.several, {1: [-7, 3, 6]})
+    got = slots_of((1, 4), told, orbits, {4: 6, 7: 1}, True)
+    due = ({4: 6, 7: 1, 1: -7}, []) if stages.JOINS_CHANNELS else ({4: 6, 7: 1}, [1])
+    same("given", (got.channels, got.without), due)
+    alike = {slot: Counter({-7: 1}) for slot in (1, 2, 3, 25)}
+    got = slots_of((1, 2, 3, 25), alike, orbits, None, True)
+    same("alike", (got.alike, got.channels), ({-7: [1, 2, 3]}, {1: -7, 2: 2, 3: -4, 25: -7}))
+    same("two alike", slots_of((1, 2, 25), alike, orbits, None, True).alike, {})
+    same("a 1020", orbit_of(bytes.fromhex("3FC050") + bytes(42)), (1, 1))
+    same("one that is short", orbit_of(bytes.fromhex("3FC050") + bytes(41)), None)
+
+
+@test
+def channels_in_the_command() -> None:
+    text = epoch(NOON, (GPS, 0), (GLONASS, 0))
+    same("told", chosen_in(text).slots.channels, {10: -5})
+    same("given", chosen_in(text, channels={10: 1, 3: 2}).slots.channels, {10: 1, 3: 2})
+    unknown = one_cell(GPS, 7, NOON, 1, 2, more=1, cnr=40) + one_cell(GLONASS, 4, NOON, 10, 2, cnr=40)
+    orbit = frame_of(bytes.fromhex("3FC288") + bytes(42))  # slot 10
+    slots = chosen_in(unknown).slots
+    same("none", (slots.channels, slots.without), ({}, [10]))
+    same("a 1020", chosen_in(unknown + orbit).slots.channels, {10: -3})
+    same("no code of it", chosen_in(unknown, systems="G").slots, None)
+
+
+if __name__ == "__main__":
+    sys.exit(run_tests())
