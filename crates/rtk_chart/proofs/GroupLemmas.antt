@@ -112,12 +112,12 @@ group-none choice g read rows own none is =
       few = omega arith;
       top = omega arith;
       so_far = λ e of rise. record {
-          left = e.rows;
-          are_left = subst (λ (r : MixedRowsView). AreRowsLeft r e.rows) (sym is) of.rows;
-          rise = rise;
-          above = above-none choice g e.rows;
-          are = refl;
-        };
+        left = e.rows;
+        are_left = subst (λ (r : MixedRowsView). AreRowsLeft r e.rows) (sym is) of.rows;
+        rise = rise;
+        above = above-none choice g e.rows;
+        are = refl;
+      };
     })
 
 -- the next row has a place behind the last one

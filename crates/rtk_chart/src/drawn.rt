@@ -129,7 +129,13 @@ impl Drawn {
     {
         let bins = grid.bins.as_slice();
         put_rows(&mut self.rows, names, bins, grid.outages.as_slice())?;
-        put_never_of_system(&mut self.never, names, bins, never_in_line(width - 1), codes)?;
+        put_never_of_system(
+            &mut self.never,
+            names,
+            bins,
+            never_in_line(width - 1),
+            codes,
+        )?;
         self.numbers = self.numbers.and(DrawnNumbers::of_grid(grid));
         Ok(())
     }
@@ -146,11 +152,7 @@ impl Drawn {
 }
 
 // The codes of a system, in their order.
-fn listed_in(
-    alloc: Global,
-    system: System,
-    listed: &[AnyCode],
-) -> Result<Vec<AnyCode>, AllocError>
+fn listed_in(alloc: Global, system: System, listed: &[AnyCode]) -> Result<Vec<AnyCode>, AllocError>
     ensures { IfOk result (λ codes. codes.items ≡ listed_in system listed.now) }
 {
     let mut codes = Vec::new(alloc);
@@ -271,12 +273,75 @@ pub(crate) fn drawn_systems(
     ensures { IfOk result (λ drawn. HoldsOfMixed table.now.text (λ es. view_of drawn ≡ drawn_systems scale.now width choice.now es listed.now)) }
 {
     let mut all = Drawn::new(alloc);
-    put_system(alloc, &mut all, table, scale, width, choice, listed, System::Gps)?;
-    put_system(alloc, &mut all, table, scale, width, choice, listed, System::Glonass)?;
-    put_system(alloc, &mut all, table, scale, width, choice, listed, System::Galileo)?;
-    put_system(alloc, &mut all, table, scale, width, choice, listed, System::Beidou)?;
-    put_system(alloc, &mut all, table, scale, width, choice, listed, System::Qzss)?;
-    put_system(alloc, &mut all, table, scale, width, choice, listed, System::Sbas)?;
-    put_system(alloc, &mut all, table, scale, width, choice, listed, System::Navic)?;
+    put_system(
+        alloc,
+        &mut all,
+        table,
+        scale,
+        width,
+        choice,
+        listed,
+        System::Gps,
+    )?;
+    put_system(
+        alloc,
+        &mut all,
+        table,
+        scale,
+        width,
+        choice,
+        listed,
+        System::Glonass,
+    )?;
+    put_system(
+        alloc,
+        &mut all,
+        table,
+        scale,
+        width,
+        choice,
+        listed,
+        System::Galileo,
+    )?;
+    put_system(
+        alloc,
+        &mut all,
+        table,
+        scale,
+        width,
+        choice,
+        listed,
+        System::Beidou,
+    )?;
+    put_system(
+        alloc,
+        &mut all,
+        table,
+        scale,
+        width,
+        choice,
+        listed,
+        System::Qzss,
+    )?;
+    put_system(
+        alloc,
+        &mut all,
+        table,
+        scale,
+        width,
+        choice,
+        listed,
+        System::Sbas,
+    )?;
+    put_system(
+        alloc,
+        &mut all,
+        table,
+        scale,
+        width,
+        choice,
+        listed,
+        System::Navic,
+    )?;
     Ok(all)
 }

@@ -43,7 +43,11 @@ fn systems_picture(
         moments.missing,
     )?;
     text.extend_from_slice(drawn.rows.as_slice())?;
-    put_gap_row(&mut text, moments.recorded.as_slice(), moments.gaps.as_slice())?;
+    put_gap_row(
+        &mut text,
+        moments.recorded.as_slice(),
+        moments.gaps.as_slice(),
+    )?;
     put_time(&mut text, scale, width)?;
     text.extend_from_slice(drawn.never.as_slice())?;
     text.extend_from_slice(SIGNS)?;
@@ -76,6 +80,14 @@ pub fn mixed_chart_text(
     let scale = Scale::new(heading.first, last, interval, u64::from(width - FRAME));
     let moments = fill_moments(alloc, table, &scale)?;
     let drawn = drawn_systems(alloc, table, &scale, width, choice, codes)?;
-    let text = systems_picture(alloc, marker, &scale, width, survey.records, &drawn, &moments)?;
+    let text = systems_picture(
+        alloc,
+        marker,
+        &scale,
+        width,
+        survey.records,
+        &drawn,
+        &moments,
+    )?;
     Ok(text)
 }

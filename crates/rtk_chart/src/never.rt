@@ -39,12 +39,7 @@ fn put_line_end(text: &mut Vec<u8>, count: u64) -> Result<(), AllocError>
 }
 
 // Appends what stands before a satellite, after so many satellites.
-fn put_start(
-    text: &mut Vec<u8>,
-    title: &[u8],
-    in_line: u64,
-    count: u64,
-) -> Result<(), AllocError>
+fn put_start(text: &mut Vec<u8>, title: &[u8], in_line: u64, count: u64) -> Result<(), AllocError>
     requires { 0 < in_line }
     ensures { OnOk result (text.new.items ≡ text.old.items ++ never_start title.now in_line count) }
 {

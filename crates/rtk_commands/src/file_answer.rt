@@ -80,9 +80,7 @@ impl FileAnswer {
                 NOT_VALID
             }
             FileAnswer::OtherSystems => {
-                let _printed = eprintln!(rt;
-                    "rtcm2rinex: other systems than GPS: add --text"
-                );
+                let _printed = eprintln!(rt; "rtcm2rinex: other systems than GPS: add --text");
                 NOT_VALID
             }
         }
