@@ -1,5 +1,5 @@
 """The slow model of a picture in characters of a file of any systems: the rows of each system below its name."""
-# pins: group_place, first_group, second_group, titled_rows, system_title, title_of, both_numbers, systems_picture, drawn_systems
+# pins: group_place, group_epoch, first_group, second_group, with_satellites, titled_rows, system_title, title_of, both_numbers, systems_picture, drawn_systems
 
 from __future__ import annotations
 

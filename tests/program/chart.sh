@@ -8,7 +8,7 @@ chart() { run chart "$@"; }
 picture=$(cat "$root/examples/marks.txt")
 svg=$(cat "$root/examples/marks.svg")
 
-# pins: text_heading, satellite_rows, axis_row, label_row
+# pins: text_heading, satellite_rows, gps_names, axis_row, label_row
 chart --text "$marks";              expect chart_of_a_file 0 "$picture" ''
 chart --text --columns 80 "$marks"; expect chart_80_wide 0 "$picture" ''
 # pins: STYLE, LEGEND, svg_picture, svg_start, svg_legend, svg_body, svg_of_epochs, bands_text, ticks_text, satellite_label
