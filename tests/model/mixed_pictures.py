@@ -1,5 +1,6 @@
 """The slow model of the pictures of a file of any systems: the satellites of each system below its name."""
-# pins: group_place, first_group, second_group, titled_rows, system_title, title_of, both_numbers, systems_picture, drawn_systems
+# pins: group_place, group_epoch, first_group, second_group, with_satellites, titled_rows, system_title, title_of, both_numbers, systems_picture, drawn_systems
+# pins: moved_bands, both_counts, svg_of_systems, systems_svg_body
 
 from __future__ import annotations
 

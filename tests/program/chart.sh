@@ -8,7 +8,7 @@ chart() { run chart "$@"; }
 picture=$(cat "$root/examples/marks.txt")
 svg=$(cat "$root/examples/marks.svg")
 
-# pins: text_heading, satellite_rows, axis_row, label_row
+# pins: text_heading, satellite_rows, gps_names, axis_row, label_row
 chart --text "$marks";              expect chart_of_a_file 0 "$picture" ''
 chart --text --columns 80 "$marks"; expect chart_80_wide 0 "$picture" ''
 # pins: STYLE, LEGEND, svg_picture, svg_start, svg_legend, svg_body, svg_of_epochs, bands_text, ticks_text, satellite_label
@@ -173,14 +173,16 @@ chart --text --systems G heading
 expect none_of_mixed_without_records 3 '' 'rtcm2rinex: none of the chosen satellites is in the file'
 
 # In SVG the names of the systems stand above their bands, and below these the lines of the codes that satellites have nowhere.
-# pins: heading_if_first, moved_bands, with_svg_bins, never_group, systems_svg, ShowsSystemsInSvg
 chart mixed
+# pins: svg_title, heading_if_first, with_svg_bins, systems_svg, ShowsSystemsInSvg
 sed -n "s/.*class='system' x='110' y='\([0-9]*\)'>\(.*\)<.*/\1 \2/p" out >got
 printf '%s\n' '134 GPS' '192 GLONASS' '274 Galileo' '332 BeiDou' '390 QZSS' '448 SBAS' '506 NavIC' >want
 same systems_of_mixed_in_svg got want
+# pins: never_group
 sed -n "s/.*class='never' x='110' y='\([0-9]*\)'>\(.*\)<.*/\1 \2/p" out >got
 printf '%s\n' '18 never R2P: R26' '42 never C6I: C41' '66 never C7I: C41' '90 never C5P: C41' >want
 same never_of_mixed_in_svg got want
+# pins: lower_band, upper_band, upper_number
 sed -n "s/.*'>of band \([0-9]\)<.*/\1/p" out >got
 printf '%s\n' 1 2 5 8 >want # no code of the bands 6 and 7 has a strength
 same strips_of_mixed_in_svg got want

@@ -120,6 +120,7 @@ drawn_systems s width choice es listed =
 
 -- ---- the picture
 
+-- formula
 -- the picture of a file with records: its marker, its scale, its width, the number of its records, what is drawn of its
 -- satellites, how many epochs are missing, and in which bins there are records and missing epochs
 unfoldable pub systems_picture : List ℕ → Scale → ℕ → ℕ → DrawnView → ℕ → List Bool → List Bool → List ℕ
