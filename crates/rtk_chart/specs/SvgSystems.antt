@@ -191,6 +191,7 @@ systems_end v = v.top + 24 * v.lines
 abbrev pub strips_height : SvgView → ℕ
 strips_height v = strip_height v.lower + strip_height v.upper
 
+-- formula
 -- the lines of the codes that satellites have nowhere, below the bands
 unfoldable pub never_group : SvgView → List ℕ
 never_group v = number_between (codes "<g transform='translate(0 ") v.top (codes ")'>\n") ++ v.never ++ codes "</g>\n"
