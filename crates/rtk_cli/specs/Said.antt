@@ -3,8 +3,8 @@ use Rattle.std.specs.Prelude.{◌≡◌, ℕ, List, ◌++◌, map, codes}
 use Rattle.std.specs.Borrow.{Bor}
 use Rattle.std.specs.declared.vec.Vec.{Vec}
 use Rattle.rtk_setup.specs.Setup.{SetupView}
-use Rattle.rtk_plan.specs.CaptureNames.{capture_name}
-use Rattle.rtk_plan.specs.Linking.{places_of}
+use Rattle.rtk_captures.specs.CaptureNames.{capture_name}
+use Rattle.rtk_survey.specs.Surveys.{places_of}
 use Rattle.rtk_plan.specs.SaidCommand.{convert_words, command_text}
 use Rattle.rtk_cli.specs.declared.auto_rereading.CaptureRead.{CaptureRead}
 

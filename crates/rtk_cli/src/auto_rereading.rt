@@ -2,7 +2,7 @@
 //! they are as they were.
 
 ghost use Rattle.std.specs.Prelude.{◌≡◌, map, IfOk};
-ghost use Rattle.rtk_plan.specs.CaptureNames.{capture_name};
+ghost use Rattle.rtk_captures.specs.CaptureNames.{capture_name};
 ghost use Rattle.rtk_cli.specs.Said.{read_names, ReadsPlanned};
 
 use rtk_message::{put_named, put_sh_quoted};

@@ -22,11 +22,12 @@ use crate::capture_order::in_order_of_names;
 use crate::converting::{Converted, conversion_status};
 use crate::watching::Watched;
 use crate::words::AutoWords;
+use rtk_captures::{Captures, PlanFault, Refusal, equipment_in_captures};
 use rtk_convert::{Setup, Station};
 use rtk_label::Label;
 use rtk_plan::{
-    Captures, Known, Plan, PlanFault, Refusal, Reported, Ways, WrittenFile, dating_wanted,
-    equipment_in_captures, label_wanted, plan_of, put_label_command, what_is_known,
+    Known, Plan, Reported, Ways, WrittenFile, dating_wanted, label_wanted, plan_of,
+    put_label_command, what_is_known,
 };
 use rtk_rinex::CreationTime;
 use rtk_streams::{

@@ -17,8 +17,9 @@ use crate::options::AutoOptions;
 use crate::words::{AutoWords, BadWords, WordsFault};
 use rtk_convert::{MOST_WINDOW, Window};
 use rtk_obs::{AnyCode, Channels};
-use rtk_plan::{SystemFlags, Wanted};
+use rtk_plan::Wanted;
 use rtk_rinex::is_mixed_list;
+use rtk_systems::SystemFlags;
 use std::alloc::Global;
 
 // The codes, if any are given, in the order of a file. Whether they are good together is not looked at.

@@ -1,5 +1,5 @@
 -- Codes that are found or named are a list for a head.
-use Rattle.std.proofs.Common.{◌≡◌, ◌≢◌, ◌<◌, ◌≤◌, ◌+◌, ◌-◌, ◌*◌, ◌==◌, ◌&&◌, ◌∙◌, ℕ, zero, suc, Bool, true, false, cond, nat_le, List, [], ◌∷◌, ◌++◌, length, map, drop, get_or, append_assoc, refl, sym, ap, subst, eq-eqb, Option, arith}
+use Rattle.std.proofs.Common.{◌≡◌, ◌≢◌, ◌<◌, ◌≤◌, ◌+◌, ◌-◌, ◌==◌, ◌&&◌, ◌∙◌, ℕ, zero, suc, Bool, true, false, nat_le, List, [], ◌∷◌, length, refl, sym, ap, subst, eq-eqb, Option, arith}
 use Rattle.std.specs.Prelude.{filter, AllPairs, slice_index_or, count_by}
 use Rattle.std.specs.Int.{IsInRange}
 use Rattle.std.proofs.lemmas.Bool.{and_parts, eqb-true, leb-true}
@@ -10,26 +10,6 @@ use Rattle.rtk_obs.specs.AnyCode.{system_of, codes_before, number_of, all_any_co
 use Rattle.rtk_rinex.specs.MixedHead.{AreInOrder, GlonassView, IsMixedList, IsMixedHeadFault, TellsGlonass}
 use Rattle.rtk_rinex.specs.declared.mixed_head_fault.MixedHeadFault.{MixedHeadFault}
 use Rattle.rtk_rinex.specs.declared.mixed_head_fault.MixedHeadFault.TheVariants.{Codes, Glonass as NotTold}
-use Rattle.rtk_plan.proofs.WalkLemmas.{cut-at}
-
--- ---- codes one after another
-
--- a code that is found is kept
-pub any-code-kept : (found : AnyCode → Bool) (codes : List AnyCode) (i : ℕ) (d : AnyCode) (whole : List AnyCode) → i < 69 → found (get_or all_any_codes i d) ≡ true
-    → codes ++ filter found (drop i all_any_codes) ≡ whole → (codes ++ get_or all_any_codes i d ∷ []) ++ filter found (drop (i + 1) all_any_codes) ≡ whole
-any-code-kept found codes i d whole within kept so_far =
-    let c = get_or all_any_codes i d in
-    let rest = filter found (drop (i + 1) all_any_codes) in
-    let first : filter found (drop i all_any_codes) ≡ c ∷ rest = ap (λ cs. filter found cs) (cut-at all_any_codes i d within) ∙ ap (λ b. cond b (c ∷ rest) rest) kept in
-    append_assoc codes (c ∷ []) rest ∙ ap (λ cs. codes ++ cs) (sym first) ∙ so_far
-
-pub any-code-left : (found : AnyCode → Bool) (codes : List AnyCode) (i : ℕ) (d : AnyCode) (whole : List AnyCode) → i < 69 → found (get_or all_any_codes i d) ≡ false
-    → codes ++ filter found (drop i all_any_codes) ≡ whole → codes ++ filter found (drop (i + 1) all_any_codes) ≡ whole
-any-code-left found codes i d whole within left so_far =
-    let c = get_or all_any_codes i d in
-    let rest = filter found (drop (i + 1) all_any_codes) in
-    let first : filter found (drop i all_any_codes) ≡ rest = ap (λ cs. filter found cs) (cut-at all_any_codes i d within) ∙ ap (λ b. cond b (c ∷ rest) rest) left in
-    ap (λ cs. codes ++ cs) (sym first) ∙ so_far
 
 -- ---- the order of all codes
 

@@ -1,10 +1,8 @@
-mod ChannelLemmas
 mod CodeLemmas
-mod LinkLemmas
+mod EndsLemmas
 mod OnePlanLemmas
-mod PutLemmas
 mod RefusedLemmas
+mod SetupLemmas
 mod SumLemmas
 mod TakenLemmas
 mod ToldLabelLemmas
-mod WalkLemmas

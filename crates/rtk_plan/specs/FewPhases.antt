@@ -9,7 +9,7 @@ use Rattle.rtk_survey.specs.Phases.{no_phases, table_of_msm, count_in}
 use Rattle.rtk_survey.specs.declared.phases.PhaseCount.{PhaseCount}
 use Rattle.rtk_survey.specs.declared.survey.CaptureSurvey.{CaptureSurvey}
 use Rattle.rtk_survey.specs.declared.target.TargetSurvey.{TargetSurvey}
-use Rattle.rtk_plan.specs.StationCaptures.{is_station}
+use Rattle.rtk_captures.specs.StationCaptures.{is_station}
 
 -- ---- the tables of a capture
 

@@ -4,9 +4,9 @@ use Rattle.std.specs.Borrow.{Bor}
 use Rattle.rtk_rinex.specs.MixedHead.{GlonassView}
 use Rattle.rtk_survey.specs.declared.survey.CaptureSurvey.{CaptureSurvey}
 use Rattle.rtk_survey.specs.declared.system_tellings.LeapRange.{LeapRange}
-use Rattle.rtk_plan.specs.CaptureNames.{capture_name, lines_by}
-use Rattle.rtk_plan.specs.FoundSeconds.{is_range_alone, leap_in_capture}
-use Rattle.rtk_plan.specs.Lists.{name_line}
+use Rattle.rtk_captures.specs.CaptureNames.{capture_name, lines_by}
+use Rattle.rtk_systems.specs.FoundSeconds.{is_range_alone, leap_in_capture}
+use Rattle.rtk_captures.specs.Lists.{name_line}
 
 -- formula
 abbrev pub to_text : ℕ → List ℕ

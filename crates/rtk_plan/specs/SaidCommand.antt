@@ -4,20 +4,14 @@ use Rattle.std.specs.Borrow.{Bor}
 use Rattle.std.specs.List.{list_any}
 use Rattle.std.specs.declared.vec.Vec.{Vec}
 use Rattle.rtk_message.specs.ShellText.{sh_quoted}
-use Rattle.rtk_obs.specs.CivilText.{date_text, clock_text}
 use Rattle.rtk_obs.specs.declared.any_code.AnyCode.{AnyCode}
 use Rattle.rtk_obs.specs.AnyCode.{system_of, name_of, text_of}
 use Rattle.rtk_rinex.specs.MixedHead.{MixedHeadView}
-use Rattle.rtk_obs.specs.Reading.{reading_of}
 use Rattle.rtk_setup.specs.Setup.{SetupView}
-use Rattle.rtk_plan.specs.ChannelWords.{glonass_words}
-use Rattle.rtk_plan.specs.SystemMsms.{kinds_words}
-use Rattle.rtk_plan.specs.Values.{is_gps_system}
-
--- formula
--- a moment as an option writes it, its milliseconds dropped: 2024-05-17T12:00:00
-unfoldable pub time_text : ℕ → List ℕ
-time_text t = date_text (reading_of t) ++ codes "T" ++ clock_text (reading_of t)
+use Rattle.rtk_systems.specs.ChannelWords.{glonass_words}
+use Rattle.rtk_systems.specs.SystemMsms.{kinds_words}
+use Rattle.rtk_systems.specs.Values.{is_gps_system}
+use Rattle.rtk_captures.specs.TimeText.{time_text}
 
 -- formula
 -- a word that is no name of a file: its leading hyphens stay in front

@@ -2,7 +2,7 @@
 use Rattle.std.specs.Prelude.{ℕ, ◌-◌, ◌*◌, ◌==◌, Bool, max, nat_lt, List, [], ◌∷◌, ◌++◌, Option, None, Some, codes, decimal, flat_map, if◌then◌else◌}
 use Rattle.std.specs.List.{sum_by}
 use Rattle.rtk_survey.specs.Counting.{shown_count, count_of}
-use Rattle.rtk_plan.specs.SaidCommand.{time_text}
+use Rattle.rtk_captures.specs.TimeText.{time_text}
 use Rattle.rtk_plan.specs.declared.written_file.Step.{Step}
 use Rattle.rtk_plan.specs.declared.written_file.WrittenFile.{WrittenFile}
 

@@ -5,16 +5,14 @@
 
 ghost use Rattle.std.specs.Prelude.{◌≡◌, ◌++◌, OnOk};
 ghost use Rattle.rtk_plan.specs.KnownLines as spec;
-ghost use Rattle.rtk_plan.specs.Linking.{places_of};
-ghost use Rattle.rtk_plan.specs.StationCaptures.{dates_in};
+ghost use Rattle.rtk_survey.specs.Surveys.{places_of};
+ghost use Rattle.rtk_captures.specs.StationCaptures.{dates_in};
 
-use crate::captures::Captures;
-use crate::lists::{
-    put_capture_line, put_date_line, put_name_line, put_stray_line, put_undated_line,
-};
 use crate::planning::Plan;
-use crate::span_line::DateSource;
-use crate::station_capture::{StationCapture, passed_over_in, span_in, told_in};
+use rtk_captures::{
+    Captures, DateSource, StationCapture, passed_over_in, put_capture_line, put_date_line,
+    put_name_line, put_stray_line, put_undated_line, span_in, told_in,
+};
 use rtk_obs::GpsMs;
 use rtk_setup::Setup;
 use rtk_survey::{CaptureEpochs, CaptureSurvey, Span, Told, place};

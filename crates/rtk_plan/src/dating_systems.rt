@@ -2,13 +2,13 @@
 
 ghost use Rattle.std.specs.Prelude.{◌≡◌};
 ghost use Rattle.rtk_setup.specs.Setup.{lists_system};
-ghost use Rattle.rtk_plan.specs.SystemFlags as spec;
+ghost use Rattle.rtk_systems.specs.SystemFlags as spec;
 
-use crate::system_flags::SystemFlags;
 use crate::wanted::Wanted;
 use rtk_message::System;
 use rtk_obs::AnyCode;
 use rtk_survey::DatingSystems;
+use rtk_systems::SystemFlags;
 
 fn lists_code(listed: &[AnyCode], system: System) -> bool
     ensures { result ≡ lists_system listed.now system }

@@ -3,7 +3,7 @@
 ghost use Rattle.std.specs.Prelude.{◌≡◌, ◌<◌, ◌^◌};
 ghost use Rattle.rtk_plan.specs.FewPhases as spec;
 
-use crate::station_capture::is_station;
+use rtk_captures::is_station;
 use rtk_message::MsmKind;
 use rtk_obs::{ALL_CODES, Code};
 use rtk_survey::{CaptureSurvey, PhaseCount, TargetSurvey, count_in_table};

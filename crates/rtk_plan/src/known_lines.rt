@@ -4,25 +4,26 @@
 
 ghost use Rattle.std.specs.Prelude.{◌≡◌, ◌++◌, IfOk, OnOk};
 ghost use Rattle.rtk_plan.specs.KnownLines as spec;
-ghost use Rattle.rtk_plan.specs.Linking.{places_of};
+ghost use Rattle.rtk_plan.specs.Plan.{taken_messages};
+ghost use Rattle.rtk_survey.specs.Surveys.{places_of};
+ghost use Rattle.rtk_systems.specs.ToldChannels.{told_channel_lines};
 
 use crate::capture_lines::{put_epochs, put_other_dates, put_skipped, put_strays, put_undated};
-use crate::captures::Captures;
-use crate::clock_lines::put_told_clocks;
 use crate::leap_lines::put_other_leap_in;
-use crate::message_lines::{put_doppler, put_msms, put_obs_1004, put_sbas, put_unread};
 use crate::phase_lines::put_few_phases_in;
 use crate::planning::Plan;
-use crate::positions::put_no_position;
 use crate::reported::Reported;
-use crate::span_line::{DateSource, DatedSpan, put_span};
+use crate::station_setup::taken_by_setup;
 use crate::texts_left_out::put_texts_left_out;
-use crate::told_channels::put_channels_in;
-use crate::unchecked_systems::put_unchecked;
 use crate::written_file::{Step, WrittenFile};
+use rtk_captures::{Captures, DateSource, DatedSpan, put_no_position, put_span};
 use rtk_message::{Accepted, put_named};
 use rtk_setup::{Counts, Setup};
 use rtk_survey::{CaptureSurvey, Equipment};
+use rtk_systems::{
+    is_1012_given, put_channel_lines, put_doppler, put_msms, put_obs_1004, put_sbas,
+    put_told_clocks, put_unchecked, put_unread,
+};
 use std::alloc::{AllocError, Global};
 
 // Appends how many late messages came on a link with a stray epoch.
@@ -143,6 +144,29 @@ fn put_clocks_in(
     Ok(())
 }
 
+// Appends what messages tell of channels of GLONASS, and the slots that have a value and no channel.
+fn put_channels_in(
+    lines: &mut Vec<u8>,
+    surveys: &[CaptureSurvey],
+    plan: &Plan,
+) -> Result<(), AllocError>
+    ensures { OnOk result (lines.new.items ≡ lines.old.items
+        ++ told_channel_lines surveys.now plan.now.setup.station (taken_messages plan.now.setup) plan.now.own_channels plan.now.setup.head.glonass) }
+{
+    let setup = &plan.setup;
+    let taken = taken_by_setup(setup);
+    let own = &plan.own_channels;
+    put_channel_lines(
+        lines,
+        surveys,
+        setup.station(),
+        taken,
+        own,
+        setup.head().glonass(),
+    )?;
+    Ok(())
+}
+
 // Appends what a person should know before the line of late messages.
 #[tactic(auto, unfolding(crate::specs::KnownLines::lines_before_late))]
 fn put_first_lines(
@@ -174,29 +198,46 @@ fn put_not_taken(
     taken: Accepted,
     has_1004: bool,
     has_sbas: bool,
+    is_long: bool,
 ) -> Result<(), AllocError>
-    ensures { OnOk result (lines.new.items ≡ lines.old.items ++ spec.not_taken_by taken has_1004 has_sbas surveys.now station) }
+    ensures { OnOk result (lines.new.items ≡ lines.old.items ++ spec.not_taken_by taken has_1004 has_sbas is_long surveys.now station) }
 {
     put_obs_1004(lines, surveys, station, has_1004)?;
     put_msms(lines, surveys, station, taken)?;
     put_doppler(lines, surveys, station, taken)?;
     put_sbas(lines, surveys, station, has_sbas)?;
-    put_unread(lines, surveys, taken)?;
+    put_unread(lines, surveys, is_long, taken)?;
     Ok(())
 }
 
-// Appends the observations that a conversion does not take.
+// Are 1012 of the station left out, since there is no moment near which they are dated right?
+fn leaves_long(surveys: &[CaptureSurvey], plan: &Plan) -> bool
+    ensures { result ≡ spec.leaves_long surveys.now plan.now }
+{
+    plan.asked.glonass && (!plan.has_near_1012 && is_1012_given(surveys, plan.setup.station()))
+}
+
+// Appends the observations that a conversion does not take; 1012 may be left out since they can't be dated.
 fn put_not_taken_in(
     lines: &mut Vec<u8>,
     surveys: &[CaptureSurvey],
+    is_long: bool,
     setup: &Setup,
 ) -> Result<(), AllocError>
-    ensures { OnOk result (lines.new.items ≡ lines.old.items ++ spec.not_taken surveys.now setup.now) }
+    ensures { OnOk result (lines.new.items ≡ lines.old.items ++ spec.not_taken surveys.now is_long setup.now) }
 {
     let taken = setup.accepted();
     let has_1004 = setup.takes_1004();
     let has_sbas = setup.takes_sbas();
-    put_not_taken(lines, surveys, setup.station(), taken, has_1004, has_sbas)?;
+    put_not_taken(
+        lines,
+        surveys,
+        setup.station(),
+        taken,
+        has_1004,
+        has_sbas,
+        is_long,
+    )?;
     Ok(())
 }
 
@@ -227,7 +268,8 @@ fn put_last_lines(
         ++ spec.lines_behind_late captures.now.names.now captures.now.surveys.now plan.now) }
 {
     put_captures_in(lines, captures, plan)?;
-    put_not_taken_in(lines, captures.surveys, &plan.setup)?;
+    let is_long = leaves_long(captures.surveys, plan);
+    put_not_taken_in(lines, captures.surveys, is_long, &plan.setup)?;
     Ok(())
 }
 

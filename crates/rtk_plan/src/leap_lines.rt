@@ -6,13 +6,12 @@ ghost use Rattle.std.specs.Prelude.{◌≡◌, ◌++◌, OnOk};
 ghost use Rattle.std.specs.Option.{option_copied};
 ghost use Rattle.rtk_plan.specs.LeapLines as spec;
 
-use crate::captures::Captures;
-use crate::found_seconds::{is_alone, leap_in_capture};
-use crate::lists::put_name_line;
+use rtk_captures::{Captures, put_name_line};
 use rtk_message::put_named;
 use rtk_rinex::Glonass;
 use rtk_setup::Setup;
 use rtk_survey::{CaptureSurvey, LeapRange};
+use rtk_systems::{is_alone, leap_in_capture};
 use std::alloc::AllocError;
 
 fn put_to(lines: &mut Vec<u8>, greatest: u8) -> Result<(), AllocError>

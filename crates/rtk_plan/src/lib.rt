@@ -8,9 +8,11 @@
 //! use rtk_setup::{Reference, Window};
 //! use rtk_frame::{After, MemSource};
 //! use rtk_obs::GpsMs;
-//! use rtk_plan::{Captures, SystemFlags, Wanted, plan_of};
+//! use rtk_captures::Captures;
+//! use rtk_plan::{Wanted, plan_of};
 //! use rtk_rinex::CreationTime;
 //! use rtk_survey::{CaptureSurvey, DatingSystems, Target, survey_capture};
+//! use rtk_systems::SystemFlags;
 //! use std::alloc::{AllocError, Global};
 //!
 //! // Frames with a 1004 of station 2003: of 2024-05-17 12:00:00, and of two seconds later.
@@ -70,72 +72,35 @@
 //! Its tests: tests/values/src/plan.rt.in, tests/program/auto.sh and tests/model
 #![tactic(auto)]
 
-mod alike_channels;
-mod capture_equipment;
 mod capture_lines;
-mod captures;
-mod channel_words;
-mod chosen_station;
-mod clock_lines;
-mod clock_offsets;
 mod count_lines;
-mod dating;
 mod dating_systems;
 mod few_phases;
-mod found_seconds;
-mod held_messages;
-mod joining;
-mod kept;
 mod known_lines;
 mod label_command;
 mod laws;
 mod leap_lines;
-mod linking;
-mod lists;
-mod message_lines;
+mod near_1012;
 mod phase_lines;
 mod planning;
-mod position_lines;
-mod positions;
-mod reach;
-mod refusal;
 mod reported;
 mod said_command;
 mod satellite_marks;
 mod setup_seconds;
-mod slot_channels;
-mod span_line;
-mod station_capture;
 mod station_setup;
-mod stray;
-mod system_flags;
-mod system_msms;
 mod texts_left_out;
-mod told_channels;
 mod told_label;
-mod unchecked_systems;
-mod values;
 mod wanted;
 mod written_file;
 
-pub use capture_equipment::equipment_in_captures;
-pub use captures::Captures;
-pub use chosen_station::{OnlyStation, only_station};
 pub use count_lines::put_counts;
 pub use dating_systems::dating_wanted;
-pub use joining::{Ordered, in_order, links_of};
 pub use known_lines::{Known, put_file, put_known, what_is_known};
 pub use label_command::put_label_command;
 pub use laws::{captures_are_taken_or_told, surveys_decide_plan};
-pub use lists::put_parting;
 pub use planning::{Plan, plan_of};
-pub use reach::{Base, is_out_of_reach, least_told, near_of, place_captures, reach_of};
-pub use refusal::{PlanFault, Refusal};
 pub use reported::Reported;
 pub use said_command::put_command;
-pub use span_line::{DateSource, DatedSpan};
-pub use station_capture::StationCapture;
-pub use system_flags::SystemFlags;
 pub use told_label::label_wanted;
 pub use wanted::{Wanted, Ways};
 pub use written_file::{Step, TakesText, WrittenFile};

@@ -3,47 +3,15 @@
 //! If memory is refused, a first part of what is put may stand there.
 
 ghost use Rattle.std.specs.Prelude.{◌≡◌, ◌≤◌, ◌++◌, OnOk};
-ghost use Rattle.rtk_obs.specs.declared.time.TheConstants.{LAST_MS};
-ghost use Rattle.rtk_obs.specs.Reading.{reading_of};
 ghost use Rattle.rtk_plan.specs.SaidCommand as spec;
 
-use crate::channel_words::put_glonass_words;
-use crate::system_msms::put_kinds_words;
-use crate::values::is_gps_system;
+use rtk_captures::put_time;
 use rtk_message::{put_named, put_sh_quoted};
-use rtk_obs::{AnyCode, Civil, GpsMs, civil, put_clock, put_date};
+use rtk_obs::AnyCode;
 use rtk_rinex::MixedHead;
 use rtk_setup::Setup;
+use rtk_systems::{is_gps_system, put_glonass_words, put_kinds_words};
 use std::alloc::AllocError;
-
-/// The reading of a moment.
-pub(crate) fn reading(moment: GpsMs) -> Civil
-    ensures { result ≡ reading_of moment }
-{
-    civil(moment)
-}
-
-/// Appends a moment as an option writes it.
-#[tactic(auto, unfolding(crate::specs::SaidCommand::time_text))]
-pub(crate) fn put_time(line: &mut Vec<u8>, moment: GpsMs) -> Result<(), AllocError>
-    ensures { OnOk result (line.new.items ≡ line.old.items ++ spec.time_text moment) }
-{
-    let reading = reading(moment);
-    put_date(line, reading)?;
-    line.push(b'T')?;
-    put_clock(line, reading)
-}
-
-/// Appends a moment of so many ms as an option writes it.
-pub(crate) fn put_time_at(line: &mut Vec<u8>, ms: u64) -> Result<(), AllocError>
-    requires { ms ≤ LAST_MS }
-    ensures { OnOk result (line.new.items ≡ line.old.items ++ spec.time_text ms) }
-{
-    let Some(moment) = GpsMs::new(ms) else {
-        unreachable!();
-    };
-    put_time(line, moment)
-}
 
 /// Appends a word that is no name of a file.
 pub(crate) fn put_word(line: &mut Vec<u8>, word: &[u8]) -> Result<(), AllocError>

@@ -2,16 +2,17 @@
 
 ghost use Rattle.std.specs.Prelude.{◌≡◌, ◌≤◌, IfOk};
 ghost use Rattle.rtk_rinex.specs.MixedHead.{has_glonass};
-ghost use Rattle.rtk_plan.specs.FoundSeconds.{asks_glonass, AreSecondsOfSetup};
-ghost use Rattle.rtk_plan.specs.Plan.{captures_of, IsSpanOf, AreLeapSecondsOf};
-ghost use Rattle.rtk_plan.specs.SlotChannels.{AreSecondsChosen};
+ghost use Rattle.rtk_systems.specs.FoundSeconds.{asks_glonass, AreSecondsOfSetup};
+ghost use Rattle.rtk_captures.specs.Dating.{captures_of, IsSpanOf};
+ghost use Rattle.rtk_plan.specs.Plan.{AreLeapSecondsOf};
+ghost use Rattle.rtk_systems.specs.SlotChannels.{AreSecondsChosen};
 
-use crate::found_seconds::seconds_in_captures;
-use crate::span_line::DatedSpan;
 use crate::wanted::Wanted;
+use rtk_captures::DatedSpan;
 use rtk_obs::{AnyCode, GpsMs, leap_seconds_at};
-use rtk_setup::{LeapSeconds, Setup};
+use rtk_setup::LeapSeconds;
 use rtk_survey::CaptureSurvey;
+use rtk_systems::seconds_in_captures;
 use std::alloc::{AllocError, Global};
 
 /// The leap seconds that are given, else those of the table at a moment.
@@ -23,22 +24,6 @@ pub(crate) fn seconds_chosen(given: &Option<LeapSeconds>, near: GpsMs) -> u8
         Some(given) => given.number(),
         None => leap_seconds_at(near),
     }
-}
-
-fn seconds_at(given: Option<u8>, near: GpsMs) -> u8
-    ensures { AreSecondsChosen given near result }
-{
-    match given {
-        Some(given) => given,
-        None => leap_seconds_at(near),
-    }
-}
-
-/// The leap seconds of a setup, else those of the table at the moment near which it dates.
-pub(crate) fn seconds_of(setup: &Setup) -> u8
-    ensures { AreSecondsChosen setup.now.leap_seconds setup.now.near result }
-{
-    seconds_at(setup.leap_seconds(), setup.near())
 }
 
 /// Is a listed code of GLONASS?
@@ -78,7 +63,7 @@ fn seconds_said_or_found(
         return Ok(Some(given));
     }
     let asked = asks_glonass(wanted);
-    let seconds = seconds_in_captures(alloc, asked, surveys, station, near, span)?;
+    let seconds = seconds_in_captures(alloc, asked, surveys, station, near, span.from, span.until)?;
     Ok(seconds)
 }
 

@@ -3,11 +3,11 @@
 ghost use Rattle.std.specs.Option.{ForSome};
 ghost use Rattle.rtk_rinex.specs.MixedHead.{IsMixedList};
 
-use crate::system_flags::SystemFlags;
 use rtk_message::MsmKind;
 use rtk_obs::{AnyCode, Channels};
 use rtk_rinex::Marker;
 use rtk_setup::{LeapSeconds, Reference, Station, Window};
+use rtk_systems::SystemFlags;
 
 /// What the words say of the values of a conversion. `None` is to be found in the captures.
 #[derive(Drop)]

@@ -7,10 +7,10 @@ ghost use Rattle.rtk_message.specs.declared.system.System.TheVariants.{Gps};
 ghost use Rattle.rtk_plan.specs.SatelliteMarks.{marked_count};
 ghost use Rattle.rtk_plan.specs.WrittenFile as spec;
 
-use crate::said_command::put_time;
 use crate::satellite_marks::SatelliteMarks;
 use arrayvec::ArrayVec;
 use memchr::memchr;
+use rtk_captures::put_time;
 use rtk_message::{System, put_named};
 use rtk_obs::{Civil, GpsMs, of_civil};
 use std::alloc::{AllocError, Global};

@@ -22,6 +22,7 @@ pub mod NextLemmas
 pub mod PhaseLemmas
 pub mod PlacedLemmas
 pub mod PublicLaws
+pub mod PutLemmas
 pub mod ReadLemmas
 pub mod ResultLemmas
 pub mod SignalLemmas

@@ -1,5 +1,5 @@
 -- Lists of lines, one for each number.
-use Rattle.std.proofs.Common.{◌≡◌, ◌<◌, ◌+◌, ◌-◌, ◌==◌, ℕ, zero, suc, List, [], ◌∷◌, ◌++◌, length, take, get_or, ap, sym, ◌∙◌, append_assoc, refl, arith}
+use Rattle.std.proofs.Common.{◌≡◌, ◌<◌, ◌+◌, ◌-◌, ◌==◌, ℕ, zero, suc, List, [], ◌∷◌, ◌++◌, length, take, drop, get_or, drop-cons, add-one, ap, sym, ◌∙◌, append_assoc, refl, arith}
 use Rattle.std.proofs.lemmas.List.{append-nil, take_more}
 use Rattle.std.proofs.lemmas.Grind.{flat_map-append}
 use Rattle.std.specs.Prelude.{flat_map}
@@ -58,3 +58,9 @@ shown-none zero = refl
 shown-none (suc n) =
     let some : shown_count (suc n) ≡ suc (shown_count (suc n) - 1) = omega arith in
     ap (λ (k : ℕ). k == 0) some ∙ eqb-suc-zero (shown_count (suc n) - 1) ∙ sym (eqb-suc-zero n)
+
+-- ---- what is left of a list
+
+-- from a place on: the entry there, and the rest
+pub cut-at : {X : Type 0} (xs : List X) (i : ℕ) (d : X) → i < length xs → drop i xs ≡ get_or xs i d ∷ drop (i + 1) xs
+cut-at xs i d lt = drop-cons xs i d lt ∙ ap (λ (k : ℕ). get_or xs i d ∷ drop k xs) (sym (add-one i))

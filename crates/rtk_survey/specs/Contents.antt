@@ -40,6 +40,7 @@ use Rattle.rtk_survey.specs.declared.signals.Signals.{Signals}
 use Rattle.rtk_survey.specs.declared.station.MessageCounts.{MessageCounts}
 use Rattle.rtk_survey.specs.declared.station.StationSurvey.{StationSurvey}
 use Rattle.rtk_survey.specs.declared.station_dates.StationDates.{StationDates}
+use Rattle.rtk_survey.specs.declared.survey.CaptureSurvey.{CaptureSurvey}
 use Rattle.rtk_survey.specs.declared.system_message.SystemMessage.{SystemMessage}
 use Rattle.rtk_survey.specs.declared.system_msm.SystemMsm.{SystemMsm}
 use Rattle.rtk_survey.specs.declared.system_signals.SystemSignals.{SystemSignals}
@@ -234,3 +235,7 @@ pub record HoldsFrames (q : Option Target) (fs : List ReadFrame) (c : Contents) 
   pub unread : CountsFaults c.unread (faults_in fs)
   pub beside : CountsBeside c.beside (messages_in fs)
   pub target : IsAnswer q fs c.target
+
+-- the survey of a station in a capture
+abbrev pub station_in : ℕ → CaptureSurvey → Option StationSurvey
+station_in n s = get nat_cmp s.contents.stations n

@@ -1,5 +1,6 @@
 -- The survey of a capture, from its bytes and its frames. Lists of frames are newest first.
-use Rattle.std.specs.Prelude.{◌≡◌, ℕ, ◌==◌, List, length, take, Option, None, Some, if◌then◌else◌}
+use Rattle.std.specs.Prelude.{◌≡◌, ℕ, ◌==◌, List, length, map, take, Option, None, Some, if◌then◌else◌}
+use Rattle.std.specs.declared.vec.Vec.{Vec}
 use Rattle.rtk_frame.specs.Stream.{with_more}
 use Rattle.rtk_survey.specs.Contents.{HoldsFrames}
 use Rattle.rtk_survey.specs.Counting.{shown_count}
@@ -32,3 +33,9 @@ abbrev pub HoldsMore : List (List ℕ) → Contents → Contents → Type 0
 HoldsMore payloads old new =
     (q : Option Target) (before : List ReadFrame) → HoldsFrames q before old
     → (after : List ReadFrame) × ReadsFrames payloads before after × HoldsFrames q after new
+
+-- ---- captures among others
+
+-- links of captures: of each capture its place among all, from 0
+abbrev pub places_of : {A : Type 0} → List (Vec ℕ A) → List (List ℕ)
+places_of links = map (λ link. link.items) links

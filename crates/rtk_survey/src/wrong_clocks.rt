@@ -67,11 +67,7 @@ fn are_wrong_at(date: Option<UtcDate>, offsets: &[ClockOffset]) -> bool
 /// Are the clocks of a system wrong? Those of GLONASS take the leap seconds of a date, and without one none
 /// of them is known to be wrong.
 #[tactic(auto, unfolding(crate::specs::WrongClocks::is_system_wrong))]
-pub(crate) fn is_system_wrong(
-    date: Option<UtcDate>,
-    offsets: &ClockOffsets,
-    system: System,
-) -> bool
+pub(crate) fn is_system_wrong(date: Option<UtcDate>, offsets: &ClockOffsets, system: System) -> bool
     ensures { result ≡ spec.is_system_wrong date offsets.now system }
 {
     match system {

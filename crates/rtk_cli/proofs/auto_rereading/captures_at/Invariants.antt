@@ -1,5 +1,5 @@
 use Rattle.std.proofs.Common.{◌≡◌, map, take}
-use Rattle.rtk_plan.specs.CaptureNames.{capture_name}
+use Rattle.rtk_captures.specs.CaptureNames.{capture_name}
 use Rattle.rtk_cli.specs.Said.{read_names}
 use Rattle.rtk_cli.proofs.auto_rereading.captures_at.Given as goal
 

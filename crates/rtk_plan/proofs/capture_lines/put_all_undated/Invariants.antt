@@ -1,5 +1,5 @@
 use Rattle.std.proofs.Common.{◌≡◌, ◌++◌, drop}
-use Rattle.rtk_plan.specs.CaptureNames.{capture_name, lines_by}
+use Rattle.rtk_captures.specs.CaptureNames.{capture_name, lines_by}
 use Rattle.rtk_plan.specs.KnownLines.{undated_line_if}
 use Rattle.rtk_plan.proofs.capture_lines.put_all_undated.Given as goal
 

@@ -1,7 +1,7 @@
 use Rattle.std.proofs.Common.{◌≡◌, ◌++◌, drop}
 use Rattle.std.specs.Prelude.{flat_map}
 use Rattle.rtk_plan.specs.KnownLines.{epochs_lines_of}
-use Rattle.rtk_plan.specs.Linking.{places_of}
+use Rattle.rtk_survey.specs.Surveys.{places_of}
 use Rattle.rtk_plan.proofs.capture_lines.put_epochs.Given as goal
 
 -- the lines so far and those of the links that are left are those of all

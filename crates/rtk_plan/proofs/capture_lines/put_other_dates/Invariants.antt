@@ -1,7 +1,7 @@
 use Rattle.std.proofs.Common.{◌≡◌, ◌++◌, drop}
-use Rattle.rtk_plan.specs.CaptureNames.{capture_name, lines_by}
+use Rattle.rtk_captures.specs.CaptureNames.{capture_name, lines_by}
 use Rattle.rtk_plan.specs.KnownLines.{other_dates_if_any}
-use Rattle.rtk_plan.specs.StationCaptures.{dates_in}
+use Rattle.rtk_captures.specs.StationCaptures.{dates_in}
 use Rattle.rtk_plan.proofs.capture_lines.put_other_dates.Given as goal
 
 -- the lines so far and those of the captures that are left are those of all

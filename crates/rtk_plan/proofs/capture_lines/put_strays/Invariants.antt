@@ -1,7 +1,7 @@
 use Rattle.std.proofs.Common.{◌≡◌, ◌++◌, take}
 use Rattle.std.specs.Prelude.{flat_map}
-use Rattle.rtk_plan.specs.CaptureNames.{capture_name}
-use Rattle.rtk_plan.specs.Lists.{stray_line}
+use Rattle.rtk_captures.specs.CaptureNames.{capture_name}
+use Rattle.rtk_captures.specs.Lists.{stray_line}
 use Rattle.rtk_plan.proofs.capture_lines.put_strays.Given as goal
 
 abbrev pub invariant-loop-place : goal.invariant-loop-place

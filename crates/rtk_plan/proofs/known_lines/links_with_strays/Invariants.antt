@@ -1,6 +1,6 @@
 use Rattle.std.proofs.Common.{◌≡◌, ◌++◌, drop}
 use Rattle.rtk_plan.specs.KnownLines.{links_from}
-use Rattle.rtk_plan.specs.Linking.{places_of}
+use Rattle.rtk_survey.specs.Surveys.{places_of}
 use Rattle.rtk_plan.proofs.known_lines.links_with_strays.Given as goal
 
 -- the places so far and those of the links that are left are those of all

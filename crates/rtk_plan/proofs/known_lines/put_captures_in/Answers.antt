@@ -1,8 +1,8 @@
 use Rattle.std.proofs.Common.{◌≡◌, ◌++◌, ℕ, List, ap, ◌∙◌}
 use Rattle.rtk_plan.specs.KnownLines.{skipped_lines, epochs_lines}
-use Rattle.rtk_plan.specs.Linking.{places_of}
-use Rattle.rtk_plan.specs.declared.station_capture.StationCapture.{StationCapture}
-use Rattle.rtk_plan.proofs.PutLemmas.{then-put}
+use Rattle.rtk_survey.specs.Surveys.{places_of}
+use Rattle.rtk_captures.specs.declared.station_capture.StationCapture.{StationCapture}
+use Rattle.rtk_survey.proofs.PublicLaws.{then-put}
 use Rattle.rtk_plan.proofs.known_lines.put_captures_in.Goals as goal
 
 pub returns : goal.returns

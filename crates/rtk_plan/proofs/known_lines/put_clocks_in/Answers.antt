@@ -1,8 +1,8 @@
 use Rattle.std.proofs.Common.{◌++◌, ℕ, List, ap, ◌∙◌}
-use Rattle.rtk_plan.specs.ClockOffsets.{told_clock_lines}
+use Rattle.rtk_systems.specs.ClockOffsets.{told_clock_lines}
 use Rattle.rtk_plan.specs.LeapLines.{other_leap_lines}
-use Rattle.rtk_plan.specs.UncheckedSystems.{unchecked_system_lines}
-use Rattle.rtk_plan.proofs.PutLemmas.{three-parts}
+use Rattle.rtk_systems.specs.UncheckedSystems.{unchecked_system_lines}
+use Rattle.rtk_survey.proofs.PublicLaws.{three-parts}
 use Rattle.rtk_plan.proofs.known_lines.put_clocks_in.Goals as goal
 
 pub returns : goal.returns

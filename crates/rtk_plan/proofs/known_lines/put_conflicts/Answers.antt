@@ -1,6 +1,6 @@
 use Rattle.std.proofs.Common.{◌++◌, ap, ◌∙◌, codes, decimal, ne_eqb}
 use Rattle.rtk_plan.specs.KnownLines.{conflicts_line}
-use Rattle.rtk_plan.proofs.PutLemmas.{three-parts}
+use Rattle.rtk_survey.proofs.PublicLaws.{three-parts}
 use Rattle.rtk_plan.proofs.known_lines.put_conflicts.Goals as goal
 
 pub returns : goal.returns

@@ -1,6 +1,6 @@
 use Rattle.std.proofs.Common.{◌≡◌, ◌++◌, ℕ, List, refl, ◌∙◌, codes, decimal, append_assoc, ne_eqb}
 use Rattle.rtk_plan.specs.KnownLines.{late_by_stray, late_count_line}
-use Rattle.rtk_plan.proofs.PutLemmas.{then-put}
+use Rattle.rtk_survey.proofs.PublicLaws.{then-put}
 use Rattle.rtk_plan.proofs.known_lines.put_late.Goals as goal
 
 -- words and a number more

@@ -1,5 +1,5 @@
 use Rattle.std.proofs.Common.{◌≡◌, ◌++◌, drop}
-use Rattle.rtk_plan.specs.CaptureNames.{lines_by}
+use Rattle.rtk_captures.specs.CaptureNames.{lines_by}
 use Rattle.rtk_plan.specs.LeapLines.{other_leap_at}
 use Rattle.rtk_plan.proofs.leap_lines.put_all_other_leap.Given as goal
 

@@ -1,7 +1,7 @@
 use Rattle.std.proofs.Common.{◌++◌, List, ℕ, ap, ◌∙◌, codes, decimal}
 use Rattle.rtk_plan.specs.LeapLines.{greatest_text, leap_words_of}
-use Rattle.rtk_plan.specs.Lists.{name_line}
-use Rattle.rtk_plan.proofs.PutLemmas.{four-parts}
+use Rattle.rtk_captures.specs.Lists.{name_line}
+use Rattle.rtk_survey.proofs.PublicLaws.{four-parts}
 use Rattle.rtk_plan.proofs.leap_lines.put_leap_words.Goals as goal
 
 pub returns : goal.returns

@@ -1,6 +1,6 @@
 use Rattle.std.proofs.Common.{◌++◌, ℕ, List, ap, ◌∙◌, codes}
 use Rattle.rtk_obs.specs.Code.{name_of}
-use Rattle.rtk_plan.proofs.PutLemmas.{three-parts}
+use Rattle.rtk_survey.proofs.PublicLaws.{three-parts}
 use Rattle.rtk_plan.proofs.phase_lines.put_few_phases_line.Goals as goal
 
 pub returns : goal.returns

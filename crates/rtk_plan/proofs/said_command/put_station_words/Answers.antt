@@ -1,6 +1,7 @@
 use Rattle.std.proofs.Common.{◌++◌, ℕ, ap, ◌∙◌, codes, decimal}
-use Rattle.rtk_plan.specs.SaidCommand.{station_words, time_text}
-use Rattle.rtk_plan.proofs.PutLemmas.{four-parts}
+use Rattle.rtk_plan.specs.SaidCommand.{station_words}
+use Rattle.rtk_captures.specs.TimeText.{time_text}
+use Rattle.rtk_survey.proofs.PublicLaws.{four-parts}
 use Rattle.rtk_plan.proofs.said_command.put_station_words.Goals as goal
 
 pub returns : goal.returns

@@ -1,5 +1,5 @@
 use Rattle.std.proofs.Common.{ℕ, Option, arith, sym, subst}
-use Rattle.rtk_plan.specs.SlotChannels.{AreSecondsChosen}
+use Rattle.rtk_systems.specs.SlotChannels.{AreSecondsChosen}
 use Rattle.rtk_plan.proofs.setup_seconds.seconds_chosen.Goals as goal
 
 pub returns-in-Some-clause-said : goal.returns-in-Some-clause-said

@@ -1,5 +1,5 @@
 use Rattle.std.proofs.Common.{ℕ, Option, Some, sym, subst, refl}
-use Rattle.rtk_plan.specs.FoundSeconds.{asks_glonass, AreSecondsOfSetup}
+use Rattle.rtk_systems.specs.FoundSeconds.{asks_glonass, AreSecondsOfSetup}
 use Rattle.rtk_plan.proofs.setup_seconds.seconds_said_or_found.Goals as goal
 
 pub returns-in-Some : goal.returns-in-Some

@@ -1,7 +1,7 @@
 use Rattle.std.proofs.Common.{◌≤◌, ℕ, ℤ, List, Option, rules, sym, ap, subst}
 use Rattle.rtk_obs.specs.Carriers.{AreChannels}
 use Rattle.rtk_rinex.specs.MixedHead.{GlonassView}
-use Rattle.rtk_plan.specs.SlotChannels.{AreChannelsChosen, AreSecondsChosen}
+use Rattle.rtk_systems.specs.SlotChannels.{AreChannelsChosen, AreSecondsChosen}
 use Rattle.rtk_plan.proofs.station_setup.glonass_of.Goals as goal
 
 pub returns-clause-found : goal.returns-clause-found
@@ -9,7 +9,7 @@ returns-clause-found c =
     let is = c.in-Some.ensures.1 in
     record {
       channels_are =
-          subst (λ (cs : List (Option ℤ)). AreChannelsChosen c.args.channels.now c.args.surveys.now c.args.station c.args.kind cs) (sym (ap (λ (g : GlonassView). g.channels) is)) c.channels_chosen-channels.ensures;
+          subst (λ (cs : List (Option ℤ)). AreChannelsChosen c.args.channels.now c.args.surveys.now c.args.station c.args.taken cs) (sym (ap (λ (g : GlonassView). g.channels) is)) c.channels_chosen-channels.ensures;
       seconds_are = subst (λ (n : ℕ). AreSecondsChosen c.args.seconds.now c.args.near n) (sym (ap (λ (g : GlonassView). g.leap_seconds) is)) c.seconds_chosen-seconds.ensures.said;
     }
 

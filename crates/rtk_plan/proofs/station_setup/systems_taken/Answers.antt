@@ -1,6 +1,6 @@
 use Rattle.std.proofs.Common.{ap, ◌∙◌}
-use Rattle.rtk_plan.specs.SystemFlags.{in_both}
-use Rattle.rtk_plan.specs.declared.system_flags.SystemFlags.{SystemFlags}
+use Rattle.rtk_systems.specs.SystemFlags.{in_both}
+use Rattle.rtk_systems.specs.declared.system_flags.SystemFlags.{SystemFlags}
 use Rattle.rtk_plan.proofs.station_setup.systems_taken.Goals as goal
 
 pub returns : goal.returns

@@ -1,0 +1,167 @@
+//! The dates of captures that were read.
+
+ghost use Rattle.std.specs.Prelude.{◌≡◌, ◌-◌, ◌%◌, ◌∷◌, [], None, map, length, Some, IfOk};
+ghost use Rattle.rtk_captures.specs.Reach as spec;
+
+use crate::station_capture::StationCapture;
+use rtk_obs::GpsMs;
+use rtk_survey::{CaptureEpochs, Placed, Span, Told, is_dated_near, least_with_if_any, place};
+use std::alloc::{AllocError, Global};
+
+/// The moment near which captures are dated.
+#[derive(Clone, Copy, Debug, PartialEq, Eq)]
+pub enum Base {
+    /// It is given: all captures are dated near it, whatever they tell.
+    Given(GpsMs),
+    /// The least first epoch that a capture tells, or else the least moment that one names: the captures
+    /// that tell none are dated near it.
+    Told(GpsMs),
+}
+
+fn moment_told(told: Option<Told>) -> Option<GpsMs>
+    ensures { result ≡ spec.moment_told told }
+{
+    GpsMs::new(told?.first)
+}
+
+// The least first epoch that captures tell; `None` if none tells one.
+fn least_first(captures: &[StationCapture]) -> Option<GpsMs>
+    ensures { result ≡ spec.least_of_captures None captures.now }
+{
+    let mut least = None;
+    for capture in captures {
+        least = least_with_if_any(least, moment_told(capture.told));
+    }
+    least
+}
+
+// The least moment that captures without an epoch name; `None` if none names one.
+fn least_moment(captures: &[StationCapture]) -> Option<GpsMs>
+    ensures { result ≡ spec.least_of_moments None captures.now }
+{
+    let mut least = None;
+    for capture in captures {
+        least = least_with_if_any(least, moment_told(capture.moment));
+    }
+    least
+}
+
+/// The least first epoch that captures tell; if none tells one, the least moment that captures without an
+/// epoch name.
+pub fn least_told(captures: &[StationCapture]) -> Option<GpsMs>
+    ensures { result ≡ spec.least_told captures.now }
+{
+    match least_first(captures) {
+        Some(first) => Some(first),
+        None => least_moment(captures),
+    }
+}
+
+impl Base {
+    fn moment(&self) -> GpsMs
+        ensures { result ≡ spec.base_moment self.now }
+    {
+        match self {
+            Base::Given(near) => *near,
+            Base::Told(least) => *least,
+        }
+    }
+
+    // The first epoch of a capture that told this, if that counts.
+    fn told(&self, told: Option<Told>) -> Option<GpsMs>
+        ensures { result ≡ spec.told_by self.now told }
+    {
+        match self {
+            Base::Given(_) => None,
+            Base::Told(_) => moment_told(told),
+        }
+    }
+}
+
+fn placed_with(base: &Base, told: Option<Told>, span: Option<Span>) -> Option<Placed>
+    ensures { result ≡ spec.placed_with base.now told span }
+{
+    let epochs = CaptureEpochs {
+        told: base.told(told),
+        span: span?,
+    };
+    Some(place(base.moment(), &epochs))
+}
+
+/// The epochs of captures with their dates; `None` of a capture without an epoch of the station.
+pub fn place_captures(
+    alloc: Global,
+    base: &Base,
+    captures: &[StationCapture],
+) -> Result<Vec<Option<Placed>>, AllocError>
+    ensures { IfOk result (λ all. all.items ≡ map (spec.placed_if_any base.now) captures.now) }
+{
+    let mut all = Vec::new(alloc);
+    for capture in captures {
+        all.push(placed_with(base, capture.told, capture.span))?;
+    }
+    Ok(all)
+}
+
+fn joined(reach: Placed, more: Placed) -> Placed
+    ensures { result ≡ spec.joined_reach reach more }
+{
+    Placed {
+        first: reach.first.min(more.first),
+        from: reach.from.min(more.from),
+        until: reach.until.max(more.until),
+    }
+}
+
+fn reach_with(reach: Option<Placed>, more: Option<Placed>) -> Option<Placed>
+    ensures { result ≡ spec.reach_with reach more }
+{
+    let Some(more) = more else {
+        return reach;
+    };
+    match reach {
+        Some(reach) => Some(joined(reach, more)),
+        None => Some(more),
+    }
+}
+
+/// The least first epoch, the least epoch and the greatest one of all captures; `None` if no capture has
+/// one.
+pub fn reach_of(placed: &[Option<Placed>]) -> Option<Placed>
+    ensures { result ≡ spec.reach_after None placed.now }
+{
+    let mut reach = None;
+    for capture in placed {
+        reach = reach_with(reach, *capture);
+    }
+    reach
+}
+
+/// The moment near which a conversion dates captures of this reach, in ms: the whole second of the least
+/// first epoch.
+pub fn near_of(reach: &Placed) -> u64
+    ensures { result ≡ spec.second_of reach.now.first }
+{
+    reach.first - reach.first % 1000
+}
+
+fn is_wide_if_any(span: Option<Span>) -> bool
+    ensures { result ≡ spec.is_wide_if_any span }
+{
+    match span {
+        Some(span) => span.is_wide,
+        None => false,
+    }
+}
+
+/// Would a conversion near this moment date an epoch of the capture otherwise? Its epochs are more than
+/// half a week from the moment, or more than a week from its first one.
+pub fn is_out_of_reach(near: GpsMs, capture: &StationCapture, placed: Option<Placed>) -> bool
+    ensures { result ≡ spec.is_out_of_reach near capture.now placed }
+{
+    let is_far = match placed {
+        Some(placed) => !is_dated_near(near, &placed),
+        None => false,
+    };
+    is_wide_if_any(capture.span) || is_far
+}

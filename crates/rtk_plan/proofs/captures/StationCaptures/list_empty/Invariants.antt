@@ -1,9 +1,0 @@
-use Rattle.std.proofs.Common.{◌≡◌, ◌++◌, drop}
-use Rattle.rtk_plan.specs.CaptureNames.{capture_name, lines_by}
-use Rattle.rtk_plan.specs.RefusalLists.{empty_line_if}
-use Rattle.rtk_plan.proofs.captures.StationCaptures.list_empty.Given as goal
-
--- the lines so far and those of the captures that are left are those of all
-abbrev pub invariant-loop-place : goal.invariant-loop-place
-invariant-loop-place l =
-    l.lines.items ++ lines_by (λ at c. empty_line_if c (capture_name l.self.all.names.now at)) l.place (drop l.place l.self.captures.now) ≡ lines_by (λ at c. empty_line_if c (capture_name l.self.all.names.now at)) 0 l.self.captures.now

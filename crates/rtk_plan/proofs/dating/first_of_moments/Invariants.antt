@@ -1,6 +1,0 @@
-use Rattle.std.proofs.Common.{◌≡◌, drop}
-use Rattle.rtk_plan.specs.Sources.{first_of_moments}
-use Rattle.rtk_plan.proofs.dating.first_of_moments.Given as goal
-
-abbrev pub invariant-loop-capture : goal.invariant-loop-capture
-invariant-loop-capture l = first_of_moments l.found l.least (drop l.capture-index l.captures) ≡ first_of_moments l.fn.first l.least l.captures

@@ -1,9 +1,0 @@
-use Rattle.std.proofs.Common.{◌≡◌, take}
-use Rattle.std.specs.List.{sum_by}
-use Rattle.rtk_survey.specs.Counting.{shown_count}
-use Rattle.rtk_plan.specs.StationCaptures.{station_in}
-use Rattle.rtk_plan.specs.Values.{messages_of_station}
-use Rattle.rtk_plan.proofs.held_messages.messages_in_captures.Given as goal
-
-abbrev pub invariant-loop-survey : goal.invariant-loop-survey
-invariant-loop-survey l = l.count ≡ shown_count (sum_by (λ s. messages_of_station l.kind (station_in l.station s)) (take l.survey-index l.surveys))

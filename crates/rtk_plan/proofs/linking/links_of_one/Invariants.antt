@@ -1,6 +1,0 @@
-use Rattle.std.proofs.Common.{◌≡◌, map, take}
-use Rattle.rtk_plan.specs.Linking.{places_of, one_place}
-use Rattle.rtk_plan.proofs.linking.links_of_one.Given as goal
-
-abbrev pub invariant-loop-place : goal.invariant-loop-place
-invariant-loop-place l = places_of l.links.items ≡ map one_place (take l.place-index l.places)

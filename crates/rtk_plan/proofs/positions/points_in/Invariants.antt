@@ -1,6 +1,0 @@
-use Rattle.std.proofs.Common.{◌≡◌, take}
-use Rattle.rtk_plan.specs.Positions.{points_in}
-use Rattle.rtk_plan.proofs.positions.points_in.Given as goal
-
-abbrev pub invariant-loop-capture : goal.invariant-loop-capture
-invariant-loop-capture l = l.points.items ≡ points_in (take l.capture-index l.captures)

@@ -1,6 +1,0 @@
-use Rattle.std.proofs.Common.{◌≡◌, None, drop}
-use Rattle.rtk_plan.specs.Reach.{least_of_captures}
-use Rattle.rtk_plan.proofs.reach.least_first.Given as goal
-
-abbrev pub invariant-loop-capture : goal.invariant-loop-capture
-invariant-loop-capture l = least_of_captures l.least (drop l.capture-index l.captures) ≡ least_of_captures None l.captures

@@ -1,5 +1,0 @@
-use Rattle.rtk_obs.proofs.PublicLaws.{reading_is}
-use Rattle.rtk_plan.proofs.said_command.reading.Goals as goal
-
-pub returns : goal.returns
-returns c = reading_is c.args.moment c.civil.result c.civil.ensures.reading

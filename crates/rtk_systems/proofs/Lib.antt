@@ -1,0 +1,4 @@
+mod ChannelLemmas
+mod CodeLemmas
+mod MessageLineLemmas
+pub mod PublicLaws

@@ -1,0 +1,12 @@
+pub mod AlikeChannels
+pub mod ChannelWords
+pub mod ClockOffsets
+pub mod FoundSeconds
+pub mod MessageLines
+pub mod SlotChannels
+pub mod Steps
+pub mod SystemFlags
+pub mod SystemMsms
+pub mod ToldChannels
+pub mod UncheckedSystems
+pub mod Values

@@ -1,0 +1,101 @@
+//! The lines of systems whose clocks differ from those of their chains.
+//!
+//! If memory is refused, a first part of what is put may stand there.
+
+ghost use Rattle.std.specs.Prelude.{◌≡◌, ◌++◌, flat_map, OnOk};
+ghost use Rattle.rtk_systems.specs.ClockOffsets as spec;
+
+use crate::clock_offsets::{behind_of, clock_told, clocks_compared};
+use crate::system_flags::SystemFlags;
+use crate::system_msms::system_letter;
+use rtk_message::System;
+use rtk_survey::{CaptureSurvey, put_clock_line};
+use std::alloc::{AllocError, Global};
+
+/// The systems whose clocks are compared with those of GPS, in the order of a file.
+const COMPARED: [System; 6] = [
+    System::Glonass,
+    System::Galileo,
+    System::Beidou,
+    System::Qzss,
+    System::Sbas,
+    System::Navic,
+];
+
+// Appends the line of a system, if its clocks differ from those of their chains.
+fn put_told_clock(
+    alloc: Global,
+    lines: &mut Vec<u8>,
+    surveys: &[CaptureSurvey],
+    station: u16,
+    behind: u32,
+    system: System,
+) -> Result<(), AllocError>
+    ensures { OnOk result (lines.new.items ≡ lines.old.items ++ spec.told_clock_line surveys.now station behind system) }
+{
+    let told = clock_told(alloc, surveys, station, system, behind)?;
+    let compared = clocks_compared(surveys, station, system);
+    put_clock_line(lines, system_letter(system), compared, told)?;
+    Ok(())
+}
+
+// The same of a system, if it is asked for.
+fn put_asked_clock(
+    alloc: Global,
+    lines: &mut Vec<u8>,
+    asked: SystemFlags,
+    surveys: &[CaptureSurvey],
+    station: u16,
+    leap_seconds: u8,
+    system: System,
+) -> Result<(), AllocError>
+    ensures { OnOk result (lines.new.items ≡ lines.old.items ++ spec.asked_clock_line asked surveys.now station leap_seconds system) }
+{
+    if !asked.has(system) {
+        return Ok(());
+    }
+    let behind = behind_of(leap_seconds, system);
+    put_told_clock(alloc, lines, surveys, station, behind, system)?;
+    Ok(())
+}
+
+fn put_clocks_among(
+    alloc: Global,
+    lines: &mut Vec<u8>,
+    asked: SystemFlags,
+    surveys: &[CaptureSurvey],
+    station: u16,
+    leap_seconds: u8,
+    systems: &[System],
+) -> Result<(), AllocError>
+    ensures { OnOk result (lines.new.items ≡ lines.old.items
+        ++ flat_map (spec.asked_clock_line asked surveys.now station leap_seconds) systems.now) }
+{
+    for system in systems {
+        put_asked_clock(alloc, lines, asked, surveys, station, leap_seconds, *system)?;
+    }
+    Ok(())
+}
+
+/// Appends the lines of the systems among those that are asked for whose clocks differ from those of their chains.
+#[tactic(auto, unfolding(crate::specs::ClockOffsets::told_clock_lines))]
+pub fn put_told_clocks(
+    alloc: Global,
+    lines: &mut Vec<u8>,
+    asked: SystemFlags,
+    surveys: &[CaptureSurvey],
+    station: u16,
+    leap_seconds: u8,
+) -> Result<(), AllocError>
+    ensures { OnOk result (lines.new.items ≡ lines.old.items ++ spec.told_clock_lines asked surveys.now station leap_seconds) }
+{
+    put_clocks_among(
+        alloc,
+        lines,
+        asked,
+        surveys,
+        station,
+        leap_seconds,
+        &COMPARED,
+    )
+}
