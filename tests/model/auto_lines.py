@@ -219,7 +219,7 @@ def date_lines(found: Found, asked: Asked, texts: list[bytes]) -> list[str]:
     kept, station = kept_places(found, texts), found.station
     tellings = {at: finding.tellings(asked.now, capture, station) for at, capture in enumerate(asked.captures(texts)) if at in kept}
     told = {at: distinct(finding.counting(it, station)) for at, it in tellings.items()}
-    passed = {at: distinct(finding.passed_over(it, station)) for at, it in tellings.items()}
+    passed = {at: [first for of in finding.passed_over(it, station) for first in distinct(of)] for at, it in tellings.items()}
     lines = []
     if asked.wanted.near is None:
         lines += [f" undated {name_of(at)}: dated near the others" for at, epochs in zip(kept, found.epochs) if epochs and not told[at]]

@@ -240,10 +240,12 @@ def second_begins(capture: Capture, told: list[Told], station: int) -> int | Non
     return capture.places[min(second, max(breaks, default=(0, second))[1])]
 
 
-def passed_over(told: list[Told], station: int) -> list[Told]:
-    """Those by 1019, if the station tells its own date, which counts."""
+def passed_over(told: list[Told], station: int) -> tuple[list[Told], list[Told]]:
+    """Those by 1019, if the station tells its own date, which counts; and those of other stations, if it or a 1019 tells one."""
     own = [it for it in told if it.fields.get("station") == station]
-    return [it for it in told if "week" in it.fields] if own else []
+    weeks = [it for it in told if "week" in it.fields]
+    others = [it for it in told if "station" in it.fields and it not in own]
+    return weeks if own else [], others if own or weeks else []
 
 
 def chain(first: int, times: list[int]) -> list[int]:

@@ -176,7 +176,10 @@ finds one.nmea "$two 1013" "$one_command one.nmea" "$counts" 0 one.rnx
 finds '"a b"' "$two 1013" "$one_command 'a b'" "$counts" 0 one.rnx
 finds '-- -5' "$two 1013" "$one_command ./-5" "$counts" 0 one.rnx
 finds '--station 2003 stations' "$two 1013" "$one_command stations" '4 1 0 1 2 0 0 0 2' 0 one.rnx
-finds foreign "$two 1013" "$one_command foreign" '5 2 0 1 2 0 0 0 2' 0 one.rnx
+# The 1013 of another station does not count, and its week, that of 2023-02-25, is told, also where --near agrees with the own one.
+finds foreign "$two 1013" "$one_command foreign" '5 2 0 1 2 0 0 0 2' 0 one.rnx ' other-date 2023-02-24T12:00:00 by 1013 of station 7 in foreign'
+finds '--near 2024-05-17T12:00:00 foreign' "$two --near" "$one_command foreign" '5 2 0 1 2 0 0 0 2' 0 one.rnx \
+    ' other-date 2023-02-24T12:00:00 by 1013 of station 7 in foreign'
 # pins: marker_chosen, station_words, convert_words
 finds '--station 7 stations' "$noon until $noon by 1013 of station 2003" \
     "$(echo "$one_command" | sed 's/2003/0007/g; s/station 0007/station 7/') stations" '4 1 0 2 1 0 0 0 1' 0 ''

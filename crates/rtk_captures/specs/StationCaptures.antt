@@ -11,6 +11,7 @@ use Rattle.rtk_survey.specs.declared.reference_point.ReferencePoint.{ReferencePo
 use Rattle.rtk_survey.specs.declared.station.StationSurvey.{StationSurvey}
 use Rattle.rtk_survey.specs.declared.survey.CaptureSurvey.{CaptureSurvey}
 use Rattle.rtk_survey.specs.declared.target.TargetSurvey.{TargetSurvey}
+use Rattle.rtk_survey.specs.declared.tellings.Tellings.{Tellings}
 use Rattle.rtk_survey.specs.declared.tellings.Told.{Told}
 use Rattle.rtk_captures.specs.declared.station_capture.StationCapture.{StationCapture}
 
@@ -75,9 +76,18 @@ abbrev pub beside_own : List Told → List Told → List Told
 beside_own [] weeks = []
 beside_own (x ∷ xs) weeks = weeks
 
--- the first epochs that messages tell and that do not count
-abbrev pub passed_over_in : ℕ → CaptureSurvey → List Told
-passed_over_in n s = beside_own (dates_in n s).told.own.items (dates_in n s).told.weeks.items
+-- the first epochs that other stations tell, if messages of the station or ephemerides tell some, which count
+abbrev pub beside_others : List Told → List Told → List Told → List Told
+beside_others [] [] others = []
+beside_others [] (x ∷ xs) others = others
+beside_others (x ∷ xs) weeks others = others
+
+-- the first epochs that ephemerides, and those that other stations tell and that do not count
+abbrev pub weeks_passed_over : Tellings → List Told
+weeks_passed_over t = beside_own t.own.items t.weeks.items
+
+abbrev pub others_passed_over : Tellings → List Told
+others_passed_over t = beside_others t.own.items t.weeks.items t.others.items
 
 abbrev pub first_told : List Told → Option Told
 first_told [] = None

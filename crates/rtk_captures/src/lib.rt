@@ -70,6 +70,7 @@ pub use reach::{Base, is_out_of_reach, least_told, near_of, place_captures, reac
 pub use refusal::{PlanFault, Refusal, refused};
 pub use span_line::{DateSource, DatedSpan, put_span};
 pub use station_capture::{
-    StationCapture, captures_of, is_station, passed_over_in, span_in, told_in,
+    StationCapture, captures_of, is_station, others_passed_over, span_in, told_in,
+    weeks_passed_over,
 };
 pub use times::put_time;

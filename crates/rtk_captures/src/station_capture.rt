@@ -128,9 +128,9 @@ pub fn told_in(station: u16, survey: &CaptureSurvey) -> &[Told]
     }
 }
 
-// The first epochs that 1019 tell, if 1013 or 1029 of the station tell some, which count.
-fn beside_own(told: &Tellings) -> &[Told]
-    ensures { result.now ≡ spec.beside_own told.now.own.items told.now.weeks.items }
+/// The first epochs that 1019 tell and that do not count, since 1013 or 1029 of the station tell some.
+pub fn weeks_passed_over(told: &Tellings) -> &[Told]
+    ensures { result.now ≡ spec.weeks_passed_over told.now }
 {
     if told.own.is_empty() {
         return &[];
@@ -138,17 +138,18 @@ fn beside_own(told: &Tellings) -> &[Told]
     told.weeks.as_slice()
 }
 
-/// The first epochs that messages of a capture told of the station and that do not count: those by 1019
-/// beside 1013 or 1029 of the station.
-pub fn passed_over_in(station: u16, survey: &CaptureSurvey) -> &[Told]
-    ensures { result.now ≡ spec.passed_over_in station survey.now }
+/// The first epochs that 1013 and 1029 of other stations tell and that do not count, since 1013 or 1029 of the
+/// station or 1019 tell some.
+pub fn others_passed_over(told: &Tellings) -> &[Told]
+    ensures { result.now ≡ spec.others_passed_over told.now }
 {
-    match &survey.contents.target {
-        Some(target) if is_station(station, target.dates.station) => {
-            beside_own(&target.dates.capture.told)
-        }
-        _ => &[],
+    if !told.own.is_empty() {
+        return told.others.as_slice();
     }
+    if !told.weeks.is_empty() {
+        return told.others.as_slice();
+    }
+    &[]
 }
 
 fn first_told(told: &[Told]) -> Option<Told>

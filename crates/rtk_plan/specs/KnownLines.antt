@@ -12,11 +12,14 @@ use Rattle.rtk_obs.specs.Code.{name_of, all_codes}
 use Rattle.rtk_obs.specs.declared.any_code.AnyCode.{AnyCode}
 use Rattle.rtk_obs.specs.declared.code.Code.{Code}
 use Rattle.rtk_setup.specs.Setup.{SetupView, taken_by, takes_1004, lists_system}
+use Rattle.rtk_survey.specs.CaptureDates.{counting}
 use Rattle.rtk_survey.specs.Counting.{shown_count}
 use Rattle.rtk_survey.specs.Placing.{placed}
+use Rattle.rtk_survey.specs.declared.capture_dates.CaptureDates.{CaptureDates}
 use Rattle.rtk_survey.specs.declared.equipment.Equipment.{Equipment}
 use Rattle.rtk_survey.specs.declared.span.Span.{Span}
 use Rattle.rtk_survey.specs.declared.survey.CaptureSurvey.{CaptureSurvey}
+use Rattle.rtk_survey.specs.declared.tellings.Tellings.{Tellings}
 use Rattle.rtk_survey.specs.declared.tellings.Told.{Told}
 use Rattle.rtk_captures.specs.CaptureNames.{capture_name, lines_by}
 use Rattle.rtk_systems.specs.ClockOffsets.{told_clock_lines}
@@ -28,7 +31,7 @@ use Rattle.rtk_systems.specs.MessageLines.{obs_1004_line, msm_lines, doppler_lin
 use Rattle.rtk_captures.specs.Positions.{no_position_line}
 use Rattle.rtk_plan.specs.Reported.{late_of}
 use Rattle.rtk_captures.specs.SpanLine.{span_line}
-use Rattle.rtk_captures.specs.StationCaptures.{dates_in, told_in, passed_over_in}
+use Rattle.rtk_captures.specs.StationCaptures.{dates_in, weeks_passed_over, others_passed_over}
 use Rattle.rtk_plan.specs.TextsLeftOut.{texts_left_out}
 use Rattle.rtk_systems.specs.ToldChannels.{told_channel_lines}
 use Rattle.rtk_systems.specs.UncheckedSystems.{unchecked_system_lines}
@@ -56,20 +59,26 @@ other_date_line near s name t = if is_told_otherwise near s t then codes " other
 abbrev pub other_date_lines : ℕ → Span → List ℕ → List Told → List ℕ
 other_date_lines near s name ts = flat_map (other_date_line near s name) ts
 
--- the dates of a capture with these epochs that do not count in a conversion of a station near this moment:
--- those of the messages that date, and those of ephemerides beside them
-abbrev pub other_dates : ℕ → ℕ → Span → CaptureSurvey → List ℕ → List ℕ
-other_dates station near s survey name =
-    other_date_lines near s name (told_in station survey) ++ other_date_lines near s name (passed_over_in station survey)
+-- the dates that messages told of these epochs and that do not count in a conversion near this moment: those of the
+-- messages that date, and beside them those of ephemerides and of other stations
+unfoldable pub other_dates : ℕ → Span → List ℕ → Tellings → List ℕ
+other_dates near s name t =
+    other_date_lines near s name (counting t) ++ other_date_lines near s name (weeks_passed_over t) ++ other_date_lines near s name (others_passed_over t)
 
-abbrev pub other_dates_if_any : ℕ → ℕ → Option Span → CaptureSurvey → List ℕ → List ℕ
-other_dates_if_any station near None survey name = []
-other_dates_if_any station near (Some s) survey name = other_dates station near s survey name
+abbrev pub other_dates_if_any : ℕ → List ℕ → Tellings → Option Span → List ℕ
+other_dates_if_any near name t None = []
+other_dates_if_any near name t (Some s) = other_dates near s name t
+
+-- those of a capture, if it has epochs
+abbrev pub other_dates_of : ℕ → List ℕ → CaptureDates → List ℕ
+other_dates_of near name d = other_dates_if_any near name d.told d.span
+
+abbrev pub other_dates_at : ℕ → ℕ → CaptureSurvey → List ℕ → List ℕ
+other_dates_at station near s name = other_dates_of near name (dates_in station s)
 
 -- those of captures with these names
 abbrev pub all_other_dates : List (Bor (List ℕ)) → ℕ → ℕ → List CaptureSurvey → List ℕ
-all_other_dates names station near ss =
-    lines_by (λ at s. other_dates_if_any station near (dates_in station s).span s (capture_name names at)) 0 ss
+all_other_dates names station near ss = lines_by (λ at s. other_dates_at station near s (capture_name names at)) 0 ss
 
 -- a capture has epochs, and tells no date
 abbrev pub is_undated : StationCapture → Bool

@@ -6,16 +6,15 @@
 ghost use Rattle.std.specs.Prelude.{◌≡◌, ◌++◌, OnOk};
 ghost use Rattle.rtk_plan.specs.KnownLines as spec;
 ghost use Rattle.rtk_survey.specs.Surveys.{places_of};
-ghost use Rattle.rtk_captures.specs.StationCaptures.{dates_in};
 
 use crate::planning::Plan;
 use rtk_captures::{
-    Captures, DateSource, StationCapture, passed_over_in, put_capture_line, put_date_line,
-    put_name_line, put_stray_line, put_undated_line, span_in, told_in,
+    Captures, DateSource, StationCapture, is_station, others_passed_over, put_capture_line,
+    put_date_line, put_name_line, put_stray_line, put_undated_line, weeks_passed_over,
 };
 use rtk_obs::GpsMs;
 use rtk_setup::Setup;
-use rtk_survey::{CaptureEpochs, CaptureSurvey, Span, Told, place};
+use rtk_survey::{CaptureDates, CaptureEpochs, CaptureSurvey, Span, Tellings, Told, place};
 use std::alloc::AllocError;
 
 // Is this another first epoch than a conversion near this moment gives a capture with these epochs?
@@ -61,24 +60,57 @@ fn put_those_of(
     Ok(())
 }
 
-// Appends the dates of a capture that tell another first epoch than the conversion gives it: those by the
-// messages that date, and those by 1019 beside them.
-fn put_other_dates_of(
+// Appends the dates that messages told of these epochs, if they tell another first one than the conversion gives: those
+// by the messages that date, and those by 1019 and by other stations beside them.
+fn put_tellings(
     lines: &mut Vec<u8>,
-    survey: &CaptureSurvey,
-    setup: &Setup,
+    near: GpsMs,
     span: &Span,
     name: &str,
+    told: &Tellings,
 ) -> Result<(), AllocError>
-    ensures { OnOk result (lines.new.items ≡ lines.old.items
-        ++ spec.other_dates setup.now.station setup.now.near span.now survey.now name.now) }
+    ensures { OnOk result (lines.new.items ≡ lines.old.items ++ spec.other_dates near span.now name.now told.now) }
 {
-    let (station, near) = (setup.station(), setup.near());
-    put_those_of(lines, near, span, name, told_in(station, survey))?;
-    put_those_of(lines, near, span, name, passed_over_in(station, survey))
+    put_those_of(lines, near, span, name, told.counting())?;
+    put_those_of(lines, near, span, name, weeks_passed_over(told))?;
+    put_those_of(lines, near, span, name, others_passed_over(told))?;
+    Ok(())
 }
 
 // Appends such dates of a capture, if it has epochs.
+fn put_other_dates_of(
+    lines: &mut Vec<u8>,
+    near: GpsMs,
+    name: &str,
+    dates: &CaptureDates,
+) -> Result<(), AllocError>
+    ensures { OnOk result (lines.new.items ≡ lines.old.items ++ spec.other_dates_of near name.now dates.now) }
+{
+    match &dates.span {
+        Some(span) => put_tellings(lines, near, span, name, &dates.told),
+        None => Ok(()),
+    }
+}
+
+// Appends such dates of a capture, if it was surveyed for this station.
+fn put_other_dates_near(
+    lines: &mut Vec<u8>,
+    survey: &CaptureSurvey,
+    station: u16,
+    near: GpsMs,
+    name: &str,
+) -> Result<(), AllocError>
+    ensures { OnOk result (lines.new.items ≡ lines.old.items ++ spec.other_dates_at station near survey.now name.now) }
+{
+    match &survey.contents.target {
+        Some(target) if is_station(station, target.dates.station) => {
+            put_other_dates_of(lines, near, name, &target.dates.capture)
+        }
+        _ => Ok(()),
+    }
+}
+
+// Appends such dates of a capture.
 fn put_other_dates_at(
     lines: &mut Vec<u8>,
     survey: &CaptureSurvey,
@@ -86,12 +118,10 @@ fn put_other_dates_at(
     name: &str,
 ) -> Result<(), AllocError>
     ensures { OnOk result (lines.new.items ≡ lines.old.items
-        ++ spec.other_dates_if_any setup.now.station setup.now.near (dates_in setup.now.station survey.now).span survey.now name.now) }
+        ++ spec.other_dates_at setup.now.station setup.now.near survey.now name.now) }
 {
-    match span_in(setup.station(), survey) {
-        Some(span) => put_other_dates_of(lines, survey, setup, &span, name),
-        None => Ok(()),
-    }
+    let (station, near) = (setup.station(), setup.near());
+    put_other_dates_near(lines, survey, station, near, name)
 }
 
 /// Appends the dates of all captures that tell another first epoch than the conversion gives them.
