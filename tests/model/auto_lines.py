@@ -218,12 +218,16 @@ def date_lines(found: Found, asked: Asked, texts: list[bytes]) -> list[str]:
     """The captures that tell no date, and the dates that a capture tells and does not have."""
     kept, station = kept_places(found, texts), found.station
     tellings = {at: finding.tellings(asked.now, capture, station) for at, capture in enumerate(asked.captures(texts)) if at in kept}
+    for at, epochs in zip(kept, found.epochs):
+        if not epochs:
+            tellings[at] = finding.tellings_near(asked.now, asked.captures(texts)[at], found.near)
     told = {at: distinct(finding.counting(it, station)) for at, it in tellings.items()}
     passed = {at: [first for of in finding.passed_over(it, station) for first in distinct(of)] for at, it in tellings.items()}
     lines = []
     if asked.wanted.near is None:
         lines += [f" undated {name_of(at)}: dated near the others" for at, epochs in zip(kept, found.epochs) if epochs and not told[at]]
-    others = [(at, it) for at, epochs in zip(kept, found.epochs) for it in told[at] + passed[at] if it.first != epochs[0]]
+    firsts = [epochs[0] if epochs else found.near for epochs in found.epochs]
+    others = [(at, it) for at, first in zip(kept, firsts) for it in told[at] + passed[at] if it.first != first]
     return lines + [f" other-date{date_text(it.fields, it.first, name_of(at))}" for at, it in others]
 
 

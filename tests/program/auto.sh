@@ -295,7 +295,18 @@ finds 'undated dated_place' "$noon until $noon by 1013" "cat dated_place undated
 finds 'undated week_place' "$noon until $noon by 1019 (or 2004-10-01, 2044-01-01)" "cat week_place undated | $one_command stdin" '3 1 0 0 2 0 0 0 1' 0 '' ' undated undated: dated near the others\n no-epoch week_place'
 cp week_place a_place # which names the moment of the first epoch too
 finds 'a_place one' "$two 1013" "cat a_place one | $one_command stdin" '5 2 0 0 3 0 0 0 2' 0 '' ' no-epoch a_place'
-finds 'old_place later one' "$noon until 2024-05-17T12:00:03 by 1013" "cat old_place one later | $one_command stdin" '7 2 0 0 5 0 0 0 4' 0 '' ' undated later: dated near the others\n no-epoch old_place'
+finds 'old_place later one' "$noon until 2024-05-17T12:00:03 by 1013" "cat old_place one later | $one_command stdin" '7 2 0 0 5 0 0 0 4' 0 '' ' undated later: dated near the others\n other-date 2023-12-22T12:00:00 by 1013 of station 2003 in old_place\n no-epoch old_place'
+# Of such dates those of the station count first, then those of 1019, and of these the earliest. A date of another week is told,
+# also beside --near.
+finds 'other_place dated_place undated' "$noon until $noon by 1013" "cat dated_place other_place undated | $one_command stdin" '5 2 0 0 2 1 0 0 1' 0 '' \
+    ' undated undated: dated near the others\n other-date 2024-05-10T12:00:00 by 1013 of station 7 in other_place\n no-epoch dated_place\n no-epoch other_place'
+finds 'other_place week_place undated' "$noon until $noon by 1019 (or 2004-10-01, 2044-01-01)" "cat other_place week_place undated | $one_command stdin" '5 2 0 0 2 1 0 0 1' 0 '' \
+    ' undated undated: dated near the others\n other-date 2024-05-10T12:00:00 by 1013 of station 7 in other_place\n no-epoch other_place\n no-epoch week_place'
+finds 'two_places undated' "$noon until $noon by 1013" "cat two_places undated | $one_command stdin" '4 2 0 0 2 0 0 0 1' 0 '' \
+    ' undated undated: dated near the others\n other-date 2024-05-24T12:00:00 by 1013 of station 2003 in two_places\n no-epoch two_places'
+# pins: dates_without_epoch
+finds '--near 2024-05-24T12:00:00 dated_place undated' "2024-05-24T12:00:00 until 2024-05-24T12:00:00 by --near" "cat dated_place undated | $(command 2024-05-24T12:00:00) stdin" '3 1 0 0 2 0 0 0 1' 0 '' \
+    ' other-date 2024-05-17T12:00:00 by 1013 of station 2003 in dated_place\n no-epoch dated_place'
 position=$no_position
 # What was told last counts by its time, and not by the order of the captures or of their begins.
 # pins: time_or_first, CaptureEquipment.moment_told

@@ -117,6 +117,9 @@ CAPTURES = {
     "dated_place": date(43_260) + place(),
     "old_place": date(43_200, 60_300) + place(),
     "week_place": week(2314 % 1024, NOON) + place(),
+    # a date of another station a week before; and two dates of the station, of which the earlier one comes last
+    "other_place": date(43_200, 60_440, 7) + place(),
+    "two_places": date(43_200, 60_454) + date(43_200) + place(),
     "stray": date(43_200) + epochs(NOON) + cell_of(NOON, 1077) + cell_of(NOON, 1074) + cell_of(NOON + 1, 1074),
     "of_1077": date(43_200) + cell_of(NOON, 1077) + cell_of(NOON + 1, 1077),
     # three epochs of 1074 at the time of these two, and two of 1077 after them

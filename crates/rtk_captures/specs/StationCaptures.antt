@@ -1,7 +1,7 @@
 -- What a capture tells of a station, by its survey (this project's rule).
 use Rattle.std.specs.Prelude.{ℕ, ◌+◌, ◌==◌, Bool, false, is_some, min, List, [], ◌∷◌, length, Option, None, Some, unwrap_or, if◌then◌else◌}
 use Rattle.rtk_survey.specs.Contents.{station_in}
-use Rattle.rtk_survey.specs.CaptureDates.{no_dates, counting, own_moment_of}
+use Rattle.rtk_survey.specs.CaptureDates.{no_dates, counting, is_own, own_moment_of}
 use Rattle.rtk_survey.specs.Parting.{parted_frame}
 use Rattle.rtk_survey.specs.Targets.{all_dating, has_dated_observation}
 use Rattle.rtk_survey.specs.declared.capture_dates.CaptureDates.{CaptureDates}
@@ -105,6 +105,11 @@ moment_in n s = moment_for n s.contents.target
 abbrev pub moment_if_heard : Bool → Option Told → Option Told
 moment_if_heard heard moment = if heard then moment else None
 
+-- a 1013 or a 1029 of the station names this moment
+abbrev pub is_named_by_own : ℕ → Option Told → Bool
+is_named_by_own n None = false
+is_named_by_own n (Some t) = is_own n t.message
+
 -- how many frames come before the place at which a second date of the station begins
 abbrev pub parting_for : ℕ → Option TargetSurvey → Option ℕ
 parting_for n None = None
@@ -133,5 +138,6 @@ capture_of n s = record {
   told = first_told (told_in n s);
   dates = length (told_in n s);
   moment = moment_if_heard (is_heard (station_in n s)) (moment_in n s);
+  is_own_moment = is_named_by_own n (moment_if_heard (is_heard (station_in n s)) (moment_in n s));
   parting = parting_in n s;
 }

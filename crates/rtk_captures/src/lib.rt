@@ -54,6 +54,7 @@ mod span_line;
 mod station_capture;
 mod stray;
 mod times;
+mod waiting_dates;
 
 pub use capture_equipment::equipment_in_captures;
 pub use captures::{Captures, StationCaptures};
@@ -74,3 +75,4 @@ pub use station_capture::{
     weeks_passed_over,
 };
 pub use times::put_time;
+pub use waiting_dates::dates_without_epoch;

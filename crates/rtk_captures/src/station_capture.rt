@@ -3,10 +3,11 @@
 ghost use Rattle.std.specs.Prelude.{◌≡◌, ◌==◌, map, IfOk};
 ghost use Rattle.std.specs.Option.{option_copied};
 ghost use Rattle.rtk_captures.specs.StationCaptures as spec;
+ghost use Rattle.rtk_survey.specs.CaptureDates.{is_own};
 
 use rtk_survey::{
-    CaptureSurvey, DatingSystems, Look, ReferencePoint, Span, StationSurvey, TargetSurvey,
-    Tellings, Told, UtcDate,
+    CaptureSurvey, DateMessage, DatingSystems, Look, ReferencePoint, Span, StationSurvey,
+    TargetSurvey, Tellings, Told, UtcDate,
 };
 use std::alloc::{AllocError, Global};
 
@@ -30,12 +31,15 @@ pub struct StationCapture {
     pub dates: usize,
     /// The moment that a message names, if the capture has a message of the station and no epoch.
     pub moment: Option<Told>,
+    /// A 1013 or a 1029 of the station names this moment.
+    pub is_own_moment: bool,
     /// How many frames come before the place at which a second date begins, if 1013 or 1029 of the
     /// station tell one.
     pub parting: Option<u64>,
 }
 
-fn is_heard(station: Option<&StationSurvey>) -> bool
+/// Does a capture have something of a station?
+pub(crate) fn is_heard(station: Option<&StationSurvey>) -> bool
     ensures { result ≡ spec.is_heard (option_copied station.entry) }
 {
     match station {
@@ -176,6 +180,26 @@ fn moment_if_heard(is_heard: bool, moment: Option<Told>) -> Option<Told>
     if is_heard { moment } else { None }
 }
 
+// Is it a 1013 or a 1029 of this station?
+fn is_own(station: u16, message: DateMessage) -> bool
+    ensures { result ≡ is_own station message }
+{
+    match message {
+        DateMessage::Utc(date) => date.station == station,
+        DateMessage::Ephemeris(_) => false,
+    }
+}
+
+// Does a 1013 or a 1029 of the station name this moment?
+fn is_named_by_own(station: u16, moment: Option<Told>) -> bool
+    ensures { result ≡ spec.is_named_by_own station moment }
+{
+    match moment {
+        Some(told) => is_own(station, told.message),
+        None => false,
+    }
+}
+
 // How many frames come before the place at which a second date of the station begins.
 fn parting_in(station: u16, survey: &CaptureSurvey) -> Option<u64>
     ensures { result ≡ spec.parting_in station survey.now }
@@ -199,6 +223,7 @@ pub(crate) fn capture_of(station: u16, survey: &CaptureSurvey) -> StationCapture
 {
     let heard = survey.contents.stations.get(&station);
     let told = told_in(station, survey);
+    let moment = moment_if_heard(is_heard(heard), moment_in(station, survey));
     StationCapture {
         look: survey.look,
         is_heard: is_heard(heard),
@@ -207,7 +232,8 @@ pub(crate) fn capture_of(station: u16, survey: &CaptureSurvey) -> StationCapture
         span: span_in(station, survey),
         told: first_told(told),
         dates: told.len(),
-        moment: moment_if_heard(is_heard(heard), moment_in(station, survey)),
+        moment,
+        is_own_moment: is_named_by_own(station, moment),
         parting: parting_in(station, survey),
     }
 }

@@ -32,6 +32,7 @@ use Rattle.rtk_captures.specs.Positions.{no_position_line}
 use Rattle.rtk_plan.specs.Reported.{late_of}
 use Rattle.rtk_captures.specs.SpanLine.{span_line}
 use Rattle.rtk_captures.specs.StationCaptures.{dates_in, weeks_passed_over, others_passed_over}
+use Rattle.rtk_captures.specs.WaitingDates.{dates_without_epoch}
 use Rattle.rtk_plan.specs.TextsLeftOut.{texts_left_out}
 use Rattle.rtk_systems.specs.ToldChannels.{told_channel_lines}
 use Rattle.rtk_systems.specs.UncheckedSystems.{unchecked_system_lines}
@@ -73,8 +74,10 @@ other_dates_if_any near name t (Some s) = other_dates near s name t
 abbrev pub other_dates_of : ℕ → List ℕ → CaptureDates → List ℕ
 other_dates_of near name d = other_dates_if_any near name d.told d.span
 
+-- those of a capture: of its epochs; or if it has none, of an epoch at this moment
 abbrev pub other_dates_at : ℕ → ℕ → CaptureSurvey → List ℕ → List ℕ
-other_dates_at station near s name = other_dates_of near name (dates_in station s)
+other_dates_at station near s name =
+    other_dates_of near name (dates_in station s) ++ other_dates_of near name (dates_without_epoch station near s)
 
 -- those of captures with these names
 abbrev pub all_other_dates : List (Bor (List ℕ)) → ℕ → ℕ → List CaptureSurvey → List ℕ

@@ -6,11 +6,13 @@
 ghost use Rattle.std.specs.Prelude.{◌≡◌, ◌++◌, OnOk};
 ghost use Rattle.rtk_plan.specs.KnownLines as spec;
 ghost use Rattle.rtk_survey.specs.Surveys.{places_of};
+ghost use Rattle.rtk_captures.specs.StationCaptures.{dates_in};
 
 use crate::planning::Plan;
 use rtk_captures::{
-    Captures, DateSource, StationCapture, is_station, others_passed_over, put_capture_line,
-    put_date_line, put_name_line, put_stray_line, put_undated_line, weeks_passed_over,
+    Captures, DateSource, StationCapture, dates_without_epoch, is_station, others_passed_over,
+    put_capture_line, put_date_line, put_name_line, put_stray_line, put_undated_line,
+    weeks_passed_over,
 };
 use rtk_obs::GpsMs;
 use rtk_setup::Setup;
@@ -92,7 +94,25 @@ fn put_other_dates_of(
     }
 }
 
-// Appends such dates of a capture, if it was surveyed for this station.
+// Appends such dates of the epochs of a capture, if it was surveyed for this station.
+fn put_dates_of_epochs(
+    lines: &mut Vec<u8>,
+    survey: &CaptureSurvey,
+    station: u16,
+    near: GpsMs,
+    name: &str,
+) -> Result<(), AllocError>
+    ensures { OnOk result (lines.new.items ≡ lines.old.items ++ spec.other_dates_of near name.now (dates_in station survey.now)) }
+{
+    match &survey.contents.target {
+        Some(target) if is_station(station, target.dates.station) => {
+            put_other_dates_of(lines, near, name, &target.dates.capture)
+        }
+        _ => Ok(()),
+    }
+}
+
+// Appends such dates of a capture: of its epochs; or if it has none, of an epoch at this moment.
 fn put_other_dates_near(
     lines: &mut Vec<u8>,
     survey: &CaptureSurvey,
@@ -102,12 +122,10 @@ fn put_other_dates_near(
 ) -> Result<(), AllocError>
     ensures { OnOk result (lines.new.items ≡ lines.old.items ++ spec.other_dates_at station near survey.now name.now) }
 {
-    match &survey.contents.target {
-        Some(target) if is_station(station, target.dates.station) => {
-            put_other_dates_of(lines, near, name, &target.dates.capture)
-        }
-        _ => Ok(()),
-    }
+    put_dates_of_epochs(lines, survey, station, near, name)?;
+    let dates = dates_without_epoch(station, near, survey);
+    put_other_dates_of(lines, near, name, &dates)?;
+    Ok(())
 }
 
 // Appends such dates of a capture.
