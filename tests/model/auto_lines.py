@@ -262,12 +262,15 @@ UNPACKED = {"unknown": "", "empty": " is empty", "gzip": " looks like gzip; unpa
 
 
 def capture_lines(found: Found, texts: list[bytes]) -> list[str]:
-    """The captures that are skipped, and those without an epoch or with times that fall."""
+    """The captures that are skipped, those without an epoch or with times that fall, and those with bytes in no frame."""
     looks = {at: look_of(texts[at]) for at in found.skipped if not frames_of(texts[at])}
     lines = [f" skipped {name_of(at)}{UNPACKED.get(looks.get(at), '').replace('NAME', name_of(at))}" for at in found.skipped]
     falls = [at for at, of in zip(kept_places(found, texts), found.epochs) if of != sorted(of)]
-    return lines + [f" {'no-epoch' if at in found.without else 'time-falls'} {name_of(at)}" for link in found.links for at in link
-                    if at in found.without + falls]
+    for at in (it for link in found.links for it in link):
+        outside = len(texts[at]) - sum(6 + len(it.payload) for it in frames_of(texts[at]))
+        lines += [f" {'no-epoch' if at in found.without else 'time-falls'} {name_of(at)}"] * (at in found.without + falls)
+        lines += [f" outside-frames {outside} in {name_of(at)}"] * (outside > 0)
+    return lines
 
 
 # ---------------------------------------------------------------- what is not in the file

@@ -171,7 +171,13 @@ finds() {
     as_said "$name" "${6:-any}"
 }
 counts='3 1 0 0 2 0 0 0 2'
-finds one.nmea "$two 1013" "$one_command one.nmea" "$counts" 0 one.rnx
+# pins: outside_line
+finds one.nmea "$two 1013" "$one_command one.nmea" "$counts" 0 one.rnx ' outside-frames 96 in one.nmea'
+# The frame of the second epoch has a bad checksum, and the last one of a capture without an epoch is cut.
+finds bad_frame "$noon until $noon by 1013" "$one_command bad_frame" '2 1 0 0 1 0 0 0 1' 0 '' ' outside-frames 46 in bad_frame'
+position=
+finds 'cut_place one' "$two 1013" "cat cut_place one | $one_command stdin" '4 1 0 0 3 0 0 0 2' 0 '' ' no-epoch cut_place\n outside-frames 20 in cut_place'
+position=$no_position
 # pins: name_after_blank
 finds '"a b"' "$two 1013" "$one_command 'a b'" "$counts" 0 one.rnx
 finds '-- -5' "$two 1013" "$one_command ./-5" "$counts" 0 one.rnx

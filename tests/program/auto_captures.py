@@ -56,6 +56,9 @@ CAPTURES = {
     "one": ONE,
     "one.nmea": b"$GPGGA,120000,,,,,0*4A\r\n".join((b"", date(43_200), epochs(NOON), epochs(NOON + 1), b"")),
     "nmea": b"$GPGGA,120000,,,,,0*4A\r\n",
+    # a frame of 46 bytes whose last byte is another one, and one of 25 bytes without its last five
+    "bad_frame": ONE[:-1] + bytes([ONE[-1] ^ 1]),
+    "cut_place": capture(point(1005)) + capture(point(1005))[:-5],
     "empty": b"",
     "zip": b"PK\3\4",
     "sbf": b"$@\x12\x34\xAB\x0F",

@@ -1,5 +1,5 @@
 -- What a capture tells of a station, by its survey (this project's rule).
-use Rattle.std.specs.Prelude.{ℕ, ◌+◌, ◌==◌, Bool, false, is_some, min, List, [], ◌∷◌, length, Option, None, Some, unwrap_or, if◌then◌else◌}
+use Rattle.std.specs.Prelude.{ℕ, ◌+◌, ◌-◌, ◌==◌, Bool, false, is_some, min, List, [], ◌∷◌, length, Option, None, Some, unwrap_or, if◌then◌else◌}
 use Rattle.rtk_survey.specs.Contents.{station_in}
 use Rattle.rtk_survey.specs.CaptureDates.{no_dates, counting, is_own, own_moment_of}
 use Rattle.rtk_survey.specs.Parting.{parted_frame}
@@ -140,4 +140,5 @@ capture_of n s = record {
   moment = moment_if_heard (is_heard (station_in n s)) (moment_in n s);
   is_own_moment = is_named_by_own n (moment_if_heard (is_heard (station_in n s)) (moment_in n s));
   parting = parting_in n s;
+  outside = s.bytes - s.contents.framed;
 }

@@ -11,7 +11,7 @@ use rtk_survey::{
 };
 use std::alloc::{AllocError, Global};
 
-/// What a capture tells of a station. It has at most 240 bytes.
+/// What a capture tells of a station. It has at most 256 bytes.
 #[derive(Clone, Copy, Debug, PartialEq, Eq)]
 pub struct StationCapture {
     /// What the capture looks like, if it has no frame.
@@ -36,6 +36,8 @@ pub struct StationCapture {
     /// How many frames come before the place at which a second date begins, if 1013 or 1029 of the
     /// station tell one.
     pub parting: Option<u64>,
+    /// How many of its bytes are in no frame.
+    pub outside: u64,
 }
 
 /// Does a capture have something of a station?
@@ -235,6 +237,7 @@ pub(crate) fn capture_of(station: u16, survey: &CaptureSurvey) -> StationCapture
         moment,
         is_own_moment: is_named_by_own(station, moment),
         parting: parting_in(station, survey),
+        outside: survey.bytes.saturating_sub(survey.contents.framed),
     }
 }
 

@@ -172,9 +172,20 @@ abbrev pub epochs_line : Option Span → List ℕ → List ℕ
 epochs_line None name = name_line (codes " no-epoch ") name
 epochs_line (Some s) name = if s.falls then name_line (codes " time-falls ") name else []
 
+-- formula
+-- the bytes of a capture that are in no frame, if there are some: a survey does not know where they lie, so the line counts
+-- those before the first frame and behind the last one, as of a stream that was cut anywhere, with those between frames, where
+-- a message may be lost
+abbrev pub outside_line : ℕ → List ℕ → List ℕ
+outside_line outside name = if outside == 0 then [] else codes " outside-frames " ++ decimal outside ++ name_line (codes " in ") name
+
+-- both lines of a capture
+abbrev pub capture_notes : StationCapture → List ℕ → List ℕ
+capture_notes c name = epochs_line c.span name ++ outside_line c.outside name
+
 abbrev pub epochs_line_of : Option StationCapture → List ℕ → List ℕ
 epochs_line_of None name = []
-epochs_line_of (Some c) name = epochs_line c.span name
+epochs_line_of (Some c) name = capture_notes c name
 
 abbrev pub epochs_line_at : List (Bor (List ℕ)) → List StationCapture → ℕ → List ℕ
 epochs_line_at names cs place = epochs_line_of (slice_get cs place) (capture_name names place)

@@ -1,5 +1,5 @@
 //! The lines of captures that a person should know of: whose dates do not count, that are dated near the others,
-//! that have a stray epoch, that are left out, or whose epochs are missing or fall.
+//! that have a stray epoch, that are left out, whose epochs are missing or fall, or that have bytes outside frames.
 //!
 //! If memory is refused, a first part of what is put may stand there.
 
@@ -14,6 +14,7 @@ use rtk_captures::{
     put_capture_line, put_date_line, put_name_line, put_stray_line, put_undated_line,
     weeks_passed_over,
 };
+use rtk_message::put_named;
 use rtk_obs::GpsMs;
 use rtk_setup::Setup;
 use rtk_survey::{CaptureDates, CaptureEpochs, CaptureSurvey, Span, Tellings, Told, place};
@@ -268,6 +269,31 @@ fn put_epochs_of(lines: &mut Vec<u8>, span: Option<Span>, name: &str) -> Result<
     }
 }
 
+// Appends how many bytes of a capture are in no frame, if there are some.
+fn put_outside(lines: &mut Vec<u8>, outside: u64, name: &str) -> Result<(), AllocError>
+    ensures { OnOk result (lines.new.items ≡ lines.old.items ++ spec.outside_line outside name.now) }
+{
+    if outside == 0 {
+        return Ok(());
+    }
+    put_named(lines, b" outside-frames ", outside)?;
+    put_name_line(lines, b" in ", name)?;
+    Ok(())
+}
+
+// Appends both lines of a capture.
+fn put_capture_notes(
+    lines: &mut Vec<u8>,
+    capture: &StationCapture,
+    name: &str,
+) -> Result<(), AllocError>
+    ensures { OnOk result (lines.new.items ≡ lines.old.items ++ spec.capture_notes capture.now name.now) }
+{
+    put_epochs_of(lines, capture.span, name)?;
+    put_outside(lines, capture.outside, name)?;
+    Ok(())
+}
+
 fn put_epochs_at(
     lines: &mut Vec<u8>,
     captures: &Captures<'_, '_>,
@@ -277,7 +303,7 @@ fn put_epochs_at(
     ensures { OnOk result (lines.new.items ≡ lines.old.items ++ spec.epochs_line_at captures.now.names.now told.now place) }
 {
     match told.get(place) {
-        Some(capture) => put_epochs_of(lines, capture.span, captures.name(place)),
+        Some(capture) => put_capture_notes(lines, capture, captures.name(place)),
         None => Ok(()),
     }
 }
