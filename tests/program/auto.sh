@@ -270,7 +270,8 @@ finds '--skip-empty --station 7 one stations' "$noon until $noon by 1013 of stat
 # labelled OPTIONS: the command of `label` for FILE
 labelled() { printf '\nrtcm2rinex label%s FILE' "$1"; }
 # pins: option_words, label_words, file_word, command_with, field_if_fits, antenna_field, label_told, is_null_antenna, fits_field, ToldLabel.is_printed
-finds equipped "$two 1013" "$one_command equipped$(labelled " --antenna-type 'TRM55971.00     NONE' --antenna-number 1440911917 --receiver-type 'TRIMBLE NETR9' --receiver-version 4.48 --receiver-number 5148K72868")" '6 4 0 0 2 0 0 0 2' 0 one.rnx
+finds equipped "$two 1013" "$one_command equipped$(labelled " --antenna-type 'TRM55971.00     NONE' --antenna-number 1440911917 --receiver-type 'TRIMBLE NETR9' --receiver-version 4.48 --receiver-number 5148K72868")" '6 4 0 0 2 0 0 0 2' 0 one.rnx \
+    ' changes-of-antenna-type 1 in equipped'
 finds null_antenna "$two 1013" "$one_command null_antenna$(labelled " --receiver-type 'LEICA GRX1200+GNSS' --receiver-version 9.20 --receiver-number 496710")" '4 2 0 0 2 0 0 0 2' 0 one.rnx \
     ' not-in-label antenna-type names no antenna: ADVNULLANTENNA  NONE\n not-in-label antenna-serial is of no antenna: 12'
 # pins: TextsLeftOut.reason, left_out_line, antenna_left_out, receiver_left_out, ToldLabel.is_blank, without_leading
@@ -315,11 +316,15 @@ finds '--near 2024-05-24T12:00:00 dated_place undated' "2024-05-24T12:00:00 unti
     ' other-date 2024-05-17T12:00:00 by 1013 of station 2003 in dated_place\n no-epoch dated_place'
 position=$no_position
 # What was told last counts by its time, and not by the order of the captures or of their begins.
-# pins: time_or_first, CaptureEquipment.moment_told
-finds 'antenna_2 antenna_1' "$noon until 2024-05-17T12:00:03 by 1013" "cat antenna_1 antenna_2 | $one_command stdin$(labelled ' --antenna-type B')" '8 4 0 0 4 0 0 0 4' 0 ''
+# A text beside it, and how often a text changes within a capture, have a line.
+# pins: time_or_first, CaptureEquipment.moment_told, field_after, other_named_line, changes_line
+finds 'antenna_2 antenna_1' "$noon until 2024-05-17T12:00:03 by 1013" "cat antenna_1 antenna_2 | $one_command stdin$(labelled ' --antenna-type B')" '8 4 0 0 4 0 0 0 4' 0 '' \
+    ' other-antenna-type A in antenna_1\n other-antenna-serial 1 in antenna_1'
 finds 'antenna_3 antenna_1' "$noon until 2024-05-17T12:00:04 by 1013" "cat antenna_1 antenna_3 | $one_command stdin$(labelled ' --antenna-type A --antenna-number 1')" '7 4 0 0 3 0 0 0 3' 0 ''
-finds 'antenna_3 antenna_2 antenna_1' "$noon until 2024-05-17T12:00:04 by 1013" "cat antenna_1 antenna_2 antenna_3 | $one_command stdin$(labelled ' --antenna-type A')" '11 6 0 0 5 0 0 0 5' 0 ''
-finds 'long short' "$noon until 2024-05-17T12:00:09 by 1013" "$one_command long short$(labelled ' --antenna-type NEW --antenna-number 2 --receiver-type R2')" '9 5 0 0 4 0 0 0 4' 0 ''
+finds 'antenna_3 antenna_2 antenna_1' "$noon until 2024-05-17T12:00:04 by 1013" "cat antenna_1 antenna_2 antenna_3 | $one_command stdin$(labelled ' --antenna-type A')" '11 6 0 0 5 0 0 0 5' 0 '' \
+    ' other-antenna-serial 1 in antenna_1\n other-antenna-type B in antenna_2'
+finds 'long short' "$noon until 2024-05-17T12:00:09 by 1013" "$one_command long short$(labelled ' --antenna-type NEW --antenna-number 2 --receiver-type R2')" '9 5 0 0 4 0 0 0 4' 0 '' \
+    ' changes-of-antenna-type 1 in long\n changes-of-antenna-serial 1 in long\n changes-of-receiver-type 1 in long\n other-antenna-type OLD in short\n other-antenna-serial 1 in short\n other-receiver-type R1 in short'
 # A capture that tells an antenna alone is of the station, and is not left out.
 finds 'equipment_alone one' "$two 1013" "cat equipment_alone one | $one_command stdin$(labelled " --antenna-type 'TRM55971.00     NONE' --antenna-number 144 --receiver-type 'TRIMBLE NETR9' --receiver-version 4.48 --receiver-number 5148")" '5 3 0 0 2 0 0 0 2' 0 one.rnx ' no-epoch equipment_alone'
 auto -o 'a file' equipped; cp err equipped.err; grep '^rtcm2rinex label' err >said

@@ -33,7 +33,7 @@ use Rattle.rtk_plan.specs.Reported.{late_of}
 use Rattle.rtk_captures.specs.SpanLine.{span_line}
 use Rattle.rtk_captures.specs.StationCaptures.{dates_in, weeks_passed_over, others_passed_over}
 use Rattle.rtk_captures.specs.WaitingDates.{dates_without_epoch}
-use Rattle.rtk_plan.specs.TextsLeftOut.{texts_left_out}
+use Rattle.rtk_plan.specs.OtherEquipment.{equipment_notes}
 use Rattle.rtk_systems.specs.ToldChannels.{told_channel_lines}
 use Rattle.rtk_systems.specs.UncheckedSystems.{unchecked_system_lines}
 use Rattle.rtk_plan.specs.WrittenFile.{written_span, gap_lines}
@@ -149,7 +149,7 @@ lines_before_late names ss plan told =
     ++ clock_lines_of names ss plan
     ++ few_phases_lines ss plan.setup.station plan.setup.kinds.gps plan.setup.head.listed
     ++ told_channel_lines ss plan.setup.station plan.setup.kinds.glonass plan.own_channels plan.setup.head.glonass
-    ++ texts_left_out told
+    ++ equipment_notes names ss plan.setup.station told
     ++ stray_lines names plan.span.until plan.strays.items
 
 -- ---- behind the line of late messages

@@ -4,6 +4,7 @@ pub mod KnownLines
 pub mod LabelCommand
 pub mod Laws
 pub mod LeapLines
+pub mod OtherEquipment
 pub mod Plan
 pub mod Reported
 pub mod SaidCommand
