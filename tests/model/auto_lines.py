@@ -292,6 +292,7 @@ def left_out_lines(found: Found, texts: list[bytes]) -> list[str]:
     others = Counter(it.number for it in read if isinstance(it, Refusal) and it.fault == "M2")
     gps = {LEGACY, *MSMS} if stages.TELLS_1004 else {*MSMS}
     others.update(it.header["number"] for it in own if it.header["number"] in gps)
+    others.update(it.number for it in read if isinstance(it, Refusal) and it.number in MSMS)  # they tell no station
     told = {*gps, *UNTAKEN, *range(1009, 1013), *(it for it in range(1081, 1138) if 1 <= it % 10 <= 7)}
     numbers = sorted((set(others) & told) - chosen.numbers, key=lambda it: (system_text(it) != "GPS", it))
     of_gps = [it for it in numbers if it in gps]

@@ -56,6 +56,7 @@ done 3<<'ROWS'
 3|unread|the captures have no GPS observations that are read\n holds GPS 1001, 1 messages\n holds GPS 1003, 12 messages\n holds GLONASS 1009, 1 messages\n holds GLONASS 1012, 1 messages\n holds GPS 1072, 1 messages\n holds GLONASS 1081, 1 messages\n holds GLONASS 1087, 1 messages\n holds Galileo 1091, 1 messages\n holds Galileo 1097, 1 messages\n holds SBAS 1101, 1 messages\n holds SBAS 1107, 1 messages\n holds QZSS 1111, 1 messages\n holds QZSS 1117, 1 messages\n holds BeiDou 1121, 1 messages\n holds BeiDou 1127, 1 messages\n holds NavIC 1131, 1 messages\n holds NavIC 1137, 1 messages
 3|one.bz2 "one 2.xz" sbf novatel jps|the captures have no frame of RTCM 3\n jps looks like JPS\n novatel looks like NovAtel\n 'one 2.xz' looks like xz; unpack it: xz -dc 'one 2.xz' >'one 2.xz'.rtcm\n one.bz2 looks like bzip2; unpack it: bzip2 -dc one.bz2 >one.bz2.rtcm\n sbf looks like SBF
 3|reserved|the captures have no GPS observations that are read\n holds 1080, 1 messages\n holds 1088, 1 messages\n holds 1089, 1 messages\n holds 1090, 1 messages\n holds 1098, 1 messages\n holds 1099, 1 messages\n holds 1100, 1 messages\n holds 1108, 1 messages\n holds 1109, 1 messages\n holds 1110, 1 messages\n holds 1118, 1 messages\n holds 1119, 1 messages\n holds 1120, 1 messages\n holds 1128, 1 messages\n holds 1129, 1 messages\n holds 1130, 1 messages\n holds 1138, 1 messages
+3|only_short|the captures have no GPS observations that are read\n holds GPS 1004, 1 messages\n holds GPS 1077, 2 messages
 3|no_value position|the captures have no GPS observations that are read\n holds GPS 1004, 1 messages\n holds 1005, 1 messages\n holds 1013, 1 messages
 3|--station 7 one|station 7 has no GPS observations that are read\n station 2003 in one: 2 epochs
 3|--station 7 foreign|station 7 has no GPS observations that are read\n station 2003 in foreign: 2 epochs
@@ -260,6 +261,8 @@ $(command $noon 1C ' --msm 7') joined/1.rtcm of_1074" '10 6 0 0 4 0 0 0 4' 0 '' 
 rm -r joined
 finds with_others "$two 1013" "$one_command with_others" '7 5 0 0 2 0 0 0 2' 0 one.rnx \
     ' not in the file: GPS 1003, 1 messages\n not in the file: GLONASS 1012, 2 messages\n not in the file: GLONASS 1087, 1 messages'
+finds short_msm "$two 1013" "$one_command short_msm" '6 4 0 0 2 0 0 0 2' 0 one.rnx \
+    ' not in the file: GPS 1076, 1 messages\n not in the file: GPS 1077, 2 messages'
 finds '--codes 5X one' "$two 1013" "$(command $noon 5X) one" '3 1 0 0 2 0 0 0 0' 3 '' \
     'rtcm2rinex: no record came; the file is a header alone'
 # pins: skipped_line

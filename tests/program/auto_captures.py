@@ -82,6 +82,9 @@ CAPTURES = {
     "unread": b"".join(
         unread(it)
         for it in (1001, *[1003] * 12, 1072, 1009, 1012, *range(1081, 1132, 10), *range(1087, 1138, 10))),
+    # a 1004 and MSM of GPS that end behind their numbers
+    "short_msm": ONE + unread(1077) + unread(1076) + unread(1077),
+    "only_short": unread(1004) + unread(1077) + unread(1077),
     # numbers that no message has
     "reserved": b"".join(frame_of((it << 4).to_bytes(2, "big")) for it in range(1080, 1139) if it % 10 in (8, 9, 0)),
     "differ": ONE + date(43_202, 60_440) + week(10, NOON),
