@@ -124,9 +124,16 @@ def two_dates_text(now: int, captures: list[finding.Capture], station: int | Non
 
 def to_come_text(now: int, captures: list[finding.Capture]) -> str:
     """The first date of each capture that is passed over since it is to come."""
-    dates = [(at, finding.first_to_come(now, capture)) for at, capture in enumerate(captures)]
-    moments = [(at, it, finding.DAY_MS * (it["day"] - FIRST_DAY) + 1000 * it["second"]) for at, it in dates if it is not None]
-    return "".join(f"{date_text(it, moment, name_of(at))}: it is after the time of making\n" for at, it, moment in moments)
+    return "".join(f"{line}\n" for at in range(len(captures)) for line in to_come_lines(now, captures, at))
+
+
+def to_come_lines(now: int, captures: list[finding.Capture], at: int) -> list[str]:
+    """That of the capture at this place, or nothing."""
+    it = finding.first_to_come(now, captures[at])
+    if it is None:
+        return []
+    moment = finding.DAY_MS * (it["day"] - FIRST_DAY) + 1000 * it["second"]
+    return [f"{date_text(it, moment, name_of(at))}: it is after the time of making"]
 
 
 def distinct(told: list[finding.Told]) -> list[finding.Told]:
@@ -227,8 +234,10 @@ def date_lines(found: Found, asked: Asked, texts: list[bytes]) -> list[str]:
     if asked.wanted.near is None:
         lines += [f" undated {name_of(at)}: dated near the others" for at, epochs in zip(kept, found.epochs) if epochs and not told[at]]
     firsts = [epochs[0] if epochs else found.near for epochs in found.epochs]
-    others = [(at, it) for at, first in zip(kept, firsts) for it in told[at] + passed[at] if it.first != first]
-    return lines + [f" other-date{date_text(it.fields, it.first, name_of(at))}" for at, it in others]
+    for at, first in zip(kept, firsts):
+        lines += [f" other-date{date_text(it.fields, it.first, name_of(at))}" for it in told[at] + passed[at] if it.first != first]
+        lines += [f" other-date{line}" for line in to_come_lines(asked.now, asked.captures(texts), at)]
+    return lines
 
 
 # pins: to_text, greatest_text, leap_words_of

@@ -218,6 +218,10 @@ finds '--near 2024-05-17T12:00:00 later one' "$noon until 2024-05-17T12:00:03 by
 # pins: joined_bytes, cat_words, one_link_text, no_position_line
 # pins: undated_line
 finds 'later one' "$noon until 2024-05-17T12:00:03 by 1013" "cat one later | $one_command stdin" '5 1 0 0 4 0 0 0 4' 0 '' ' undated later: dated near the others'
+# A date after the time of making does not count, and is told.
+# pins: other_to_come
+finds 'one to_come' "$noon until 2024-05-17T12:00:02 by 1013" "cat one to_come | $one_command stdin" '5 2 0 0 3 0 0 0 3' 0 '' \
+    ' undated to_come: dated near the others\n other-date 2024-07-09T12:00:00 by 1013 of station 2003 in to_come: it is after the time of making'
 position=
 finds 'one position' "$two 1013" "cat position one | $one_command stdin" '4 1 0 0 3 0 0 0 2' 0 '' ' no-epoch position'
 # a capture that begins with another station, before the one that tells which station is converted

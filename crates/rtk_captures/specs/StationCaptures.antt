@@ -126,6 +126,13 @@ to_come_for (Some t) = t.to_come
 abbrev pub to_come_in : CaptureSurvey → Option UtcDate
 to_come_in s = to_come_for s.contents.target
 
+abbrev pub to_come_if : Bool → Option UtcDate → Option UtcDate
+to_come_if heard date = if heard then date else None
+
+-- the same of a capture that has something of the station
+abbrev pub to_come_told : ℕ → CaptureSurvey → Option UtcDate
+to_come_told n s = to_come_if (is_heard (station_in n s)) (to_come_in s)
+
 -- ---- all of it
 
 abbrev pub capture_of : ℕ → CaptureSurvey → StationCapture

@@ -170,7 +170,7 @@ pub(crate) fn put_reach_line(
 }
 
 /// Appends the line of a date that is to come.
-pub(crate) fn put_to_come_line(
+pub fn put_to_come_line(
     lines: &mut Vec<u8>,
     date: UtcDate,
     name: &str,

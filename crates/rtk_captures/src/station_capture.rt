@@ -219,6 +219,20 @@ pub(crate) fn to_come_in(survey: &CaptureSurvey) -> Option<UtcDate>
     survey.contents.target.as_ref()?.to_come
 }
 
+fn to_come_if(heard: bool, date: Option<UtcDate>) -> Option<UtcDate>
+    ensures { result ≡ spec.to_come_if heard date }
+{
+    if heard { date } else { None }
+}
+
+/// The same of a capture that has something of the station.
+pub fn to_come_told(station: u16, survey: &CaptureSurvey) -> Option<UtcDate>
+    ensures { result ≡ spec.to_come_told station survey.now }
+{
+    let heard = is_heard(survey.contents.stations.get(&station));
+    to_come_if(heard, to_come_in(survey))
+}
+
 /// What a capture tells of a station.
 pub(crate) fn capture_of(station: u16, survey: &CaptureSurvey) -> StationCapture
     ensures { result ≡ spec.capture_of station survey.now }

@@ -16,6 +16,7 @@ use Rattle.rtk_survey.specs.CaptureDates.{counting}
 use Rattle.rtk_survey.specs.Counting.{shown_count}
 use Rattle.rtk_survey.specs.Placing.{placed}
 use Rattle.rtk_survey.specs.declared.capture_dates.CaptureDates.{CaptureDates}
+use Rattle.rtk_survey.specs.declared.date_message.UtcDate.{UtcDate}
 use Rattle.rtk_survey.specs.declared.equipment.Equipment.{Equipment}
 use Rattle.rtk_survey.specs.declared.span.Span.{Span}
 use Rattle.rtk_survey.specs.declared.survey.CaptureSurvey.{CaptureSurvey}
@@ -26,12 +27,12 @@ use Rattle.rtk_systems.specs.ClockOffsets.{told_clock_lines}
 use Rattle.rtk_plan.specs.FewPhases.{has_few_phases}
 use Rattle.rtk_plan.specs.LeapLines.{other_leap_lines}
 use Rattle.rtk_survey.specs.Surveys.{places_of}
-use Rattle.rtk_captures.specs.Lists.{date_line, undated_line, stray_line, capture_line, name_line}
+use Rattle.rtk_captures.specs.Lists.{date_line, to_come_line, undated_line, stray_line, capture_line, name_line}
 use Rattle.rtk_systems.specs.MessageLines.{obs_1004_line, msm_lines, doppler_line, sbas_line, all_unread}
 use Rattle.rtk_captures.specs.Positions.{no_position_line}
 use Rattle.rtk_plan.specs.Reported.{late_of}
 use Rattle.rtk_captures.specs.SpanLine.{span_line}
-use Rattle.rtk_captures.specs.StationCaptures.{dates_in, weeks_passed_over, others_passed_over}
+use Rattle.rtk_captures.specs.StationCaptures.{dates_in, weeks_passed_over, others_passed_over, to_come_told}
 use Rattle.rtk_captures.specs.WaitingDates.{dates_without_epoch}
 use Rattle.rtk_plan.specs.OtherEquipment.{equipment_notes}
 use Rattle.rtk_systems.specs.ToldChannels.{told_channel_lines}
@@ -74,10 +75,17 @@ other_dates_if_any near name t (Some s) = other_dates near s name t
 abbrev pub other_dates_of : ℕ → List ℕ → CaptureDates → List ℕ
 other_dates_of near name d = other_dates_if_any near name d.told d.span
 
--- those of a capture: of its epochs; or if it has none, of an epoch at this moment
+-- formula
+-- a date that is passed over since it is to come
+abbrev pub other_to_come : Option UtcDate → List ℕ → List ℕ
+other_to_come None name = []
+other_to_come (Some d) name = codes " other-date" ++ to_come_line d name
+
+-- those of a capture: of its epochs; or if it has none, of an epoch at this moment; and one that is to come
 abbrev pub other_dates_at : ℕ → ℕ → CaptureSurvey → List ℕ → List ℕ
 other_dates_at station near s name =
     other_dates_of near name (dates_in station s) ++ other_dates_of near name (dates_without_epoch station near s)
+    ++ other_to_come (to_come_told station s) name
 
 -- those of captures with these names
 abbrev pub all_other_dates : List (Bor (List ℕ)) → ℕ → ℕ → List CaptureSurvey → List ℕ

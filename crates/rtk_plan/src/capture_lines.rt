@@ -11,13 +11,15 @@ ghost use Rattle.rtk_captures.specs.StationCaptures.{dates_in};
 use crate::planning::Plan;
 use rtk_captures::{
     Captures, DateSource, StationCapture, dates_without_epoch, is_station, others_passed_over,
-    put_capture_line, put_date_line, put_name_line, put_stray_line, put_undated_line,
-    weeks_passed_over,
+    put_capture_line, put_date_line, put_name_line, put_stray_line, put_to_come_line,
+    put_undated_line, to_come_told, weeks_passed_over,
 };
 use rtk_message::put_named;
 use rtk_obs::GpsMs;
 use rtk_setup::Setup;
-use rtk_survey::{CaptureDates, CaptureEpochs, CaptureSurvey, Span, Tellings, Told, place};
+use rtk_survey::{
+    CaptureDates, CaptureEpochs, CaptureSurvey, Span, Tellings, Told, UtcDate, place,
+};
 use std::alloc::AllocError;
 
 // Is this another first epoch than a conversion near this moment gives a capture with these epochs?
@@ -113,7 +115,23 @@ fn put_dates_of_epochs(
     }
 }
 
-// Appends such dates of a capture: of its epochs; or if it has none, of an epoch at this moment.
+// Appends a date that is passed over since it is to come.
+fn put_other_to_come(
+    lines: &mut Vec<u8>,
+    date: Option<UtcDate>,
+    name: &str,
+) -> Result<(), AllocError>
+    ensures { OnOk result (lines.new.items ≡ lines.old.items ++ spec.other_to_come date name.now) }
+{
+    let Some(date) = date else {
+        return Ok(());
+    };
+    lines.extend_from_slice(b" other-date")?;
+    put_to_come_line(lines, date, name)
+}
+
+// Appends such dates of a capture: of its epochs; or if it has none, of an epoch at this moment; and one that is to
+// come.
 fn put_other_dates_near(
     lines: &mut Vec<u8>,
     survey: &CaptureSurvey,
@@ -126,6 +144,7 @@ fn put_other_dates_near(
     put_dates_of_epochs(lines, survey, station, near, name)?;
     let dates = dates_without_epoch(station, near, survey);
     put_other_dates_of(lines, near, name, &dates)?;
+    put_other_to_come(lines, to_come_told(station, survey), name)?;
     Ok(())
 }
 
