@@ -71,9 +71,9 @@ class Asked(NamedTuple):
 
 STOPPED = {
     "no frame": "the captures have no frame of RTCM 3",
-    "no observation": "the captures have no GPS observations that are read",
-    "no such station": "station STATION has no GPS observations that are read",
-    "several stations": "several stations have GPS observations; choose one by --station",
+    "no observation": "the captures have no observations that are read",
+    "no such station": "station STATION has no observations that are read",
+    "several stations": "several stations have observations; choose one by --station",
     "nothing of the station": r"captures have nothing of [^;]*; --skip-empty leaves them out",
     "dates differ": "the captures tell dates that differ; choose one by --near",
     "two dates": "a capture tells two dates; part it, or choose one by --near",
@@ -82,7 +82,7 @@ STOPPED = {
     "outside the dates": "the first epoch is not dated from 1980-01-13 to 2099-12-31; choose a date by --near",
     "too many links": "more than 16 captures are of the same time, and 16 links are taken",
     "positions differ": "the station stands at positions that differ; --links-as-given takes them for one",
-    "no code": "neither a 1004 nor the MSM of --msm has a GPS observation; choose another MSM",
+    "no code": "neither a 1004 nor the MSM of --msm has an observation; choose another MSM",
 }
 
 

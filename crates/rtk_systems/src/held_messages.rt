@@ -124,11 +124,7 @@ fn refused_reading(msm: Option<MsmType>, unread: &Unread, number: u16) -> u64
 fn refused_in_capture(number: u16, survey: &CaptureSurvey) -> u64
     ensures { result ≡ spec.refused_in_capture number survey.now }
 {
-    refused_reading(
-        MsmType::of_number(number),
-        &survey.contents.unread,
-        number,
-    )
+    refused_reading(MsmType::of_number(number), &survey.contents.unread, number)
 }
 
 // The same of captures, of all stations.
