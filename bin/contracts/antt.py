@@ -9,7 +9,7 @@ from itertools import takewhile
 
 from .texts import Comment, Definition
 
-SOURCE = re.compile(r"Source: (RTCM 10403[.]3|RINEX 3[.]05|IERS), [^ ]")
+SOURCE = re.compile(r"Source: (RTCM 10403[.]3|RINEX 3[.]05|IERS|ICD GLONASS), [^ ]")
 CHOICE = "this project's"
 # The marks, the kind and the name of what a line begins to define. A law has no mark but `pub`, and a colon behind its name.
 HEAD = re.compile(r"((?:pub )?(?:(abbrev|unfoldable) )?(?:pub )?)(?:(record|data) )?(\S+)( :(?!\S))?")

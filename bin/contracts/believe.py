@@ -12,11 +12,11 @@ The last line is 'N definitions, M lines'. Lines are counted without blank ones 
 it say how many of these restate RTCM 10403.3 or RINEX 3.05, how many of them make a choice of this project there, and how
 many are this project's own.
 
-The mark. `Source: RTCM 10403.3, PLACE`, `Source: RINEX 3.05, PLACE` or `Source: IERS, PLACE` says that the standard's text or
-table at this place has what the definition says. It stands in the comment of a definition, or as a line of the head of a file
-of specs, for all definitions of the file, also for the small ones that its sentences are made of. Own are all others. A
-definition of such a file makes a choice of this project if its comment, or the `-- ----` line above it, has the words "this
-project's".
+The mark. `Source: STANDARD, PLACE` says that the text or the table of a standard at this place has what the definition says.
+The standards are RTCM 10403.3, RINEX 3.05, IERS and ICD GLONASS. It stands in the comment of a definition, or as a line of the
+head of a file of specs, for all definitions of the file, also for the small ones that its sentences are made of. Own are all
+others. A definition of such a file makes a choice of this project if its comment, or the `-- ----` line above it, has the words
+"this project's".
 
 What reaches what, and the order, stand in reach.py.
 """

@@ -148,15 +148,16 @@ def kinds_by_epochs() -> None:
 def channels_of_slots() -> None:
     told = {1: Counter({3: 2, -7: 2, 6: 1}), 2: Counter({1: 3}), 5: Counter({6: 1})}
     orbits = {2: Counter({2: 9}), 3: Counter({-1: 1, -4: 1}), 9: Counter({0: 1})}
-    got = slots_of((4, 3, 2, 1, 1), told, orbits, {}, True)
+    got = slots_of((4, 3, 2, 1, 1), told, orbits, None, True)
     same("channels", (got.channels, got.by_orbits, got.without), ({1: -7, 2: 1, 3: -4}, [3], [4]))
     same("several", got.several, {1: [-7, 3, 6]})
     got = slots_of((1, 4), told, orbits, {4: 6, 7: 1}, True)
-    same("given", (got.channels, got.without), ({4: 6, 7: 1, 1: -7}, []))
+    due = ({4: 6, 7: 1, 1: -7}, []) if stages.JOINS_CHANNELS else ({4: 6, 7: 1}, [1])
+    same("given", (got.channels, got.without), due)
     alike = {slot: Counter({-7: 1}) for slot in (1, 2, 3, 25)}
-    got = slots_of((1, 2, 3, 25), alike, orbits, {}, True)
+    got = slots_of((1, 2, 3, 25), alike, orbits, None, True)
     same("alike", (got.alike, got.channels), ({-7: [1, 2, 3]}, {1: -7, 2: 2, 3: -4, 25: -7}))
-    same("two alike", slots_of((1, 2, 25), alike, orbits, {}, True).alike, {})
+    same("two alike", slots_of((1, 2, 25), alike, orbits, None, True).alike, {})
     same("a 1020", orbit_of(bytes.fromhex("3FC050") + bytes(42)), (1, 1))
     same("one that is short", orbit_of(bytes.fromhex("3FC050") + bytes(41)), None)
 

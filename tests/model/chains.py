@@ -109,16 +109,15 @@ def offset_lines(letter: str, counted: Counter[int]) -> list[str]:
     return [f" clock {letter} {sign}{ms // 1000}.{ms % 1000:03} {counted[told]} of {sum(counted.values())}"]
 
 
-def first_timing(messages: Iterable[Message]) -> str | None:
-    """The first of the systems with which others are compared that is sent."""
-    letters = {letter_of(it) for it in messages}
-    return next((it for it in TIMING if it in letters), None)
+def is_first_timing(letter: str, messages: Iterable[Message]) -> bool:
+    """Whether others are compared with a system, and none that goes before it is sent."""
+    sent = {letter_of(it) for it in messages}
+    return letter in TIMING and not any(it in sent for it in TIMING[: TIMING.index(letter)])
 
 
 def unchecked(messages: list[Message], letters: Iterable[str], offsets: Offsets) -> list[str]:
-    """The systems of these with messages that no chain compares, but for the first one that others are compared with."""
-    sent = {letter_of(it) for it in messages}
-    return [letter for letter in letters if letter in sent and not offsets[letter] and letter != first_timing(messages)]
+    """The systems of these that no chain compares, but for the first one that others are compared with."""
+    return [letter for letter in letters if not offsets[letter] and not is_first_timing(letter, messages)]
 
 
 def clock_lines(messages: list[Message], letters: Iterable[str], near: int | None) -> list[str]:

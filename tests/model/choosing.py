@@ -47,15 +47,13 @@ class Wanted(NamedTuple):
     @property
     def dating(self) -> str:
         """The systems whose observations tell the station, dates and spans: those that are asked for, or else all that can."""
-        asked = LETTERS if self.systems is None else self.systems
-        return "".join(it for it in stages.DATING if it in asked) or stages.DATING
+        return "".join(it for it in stages.DATING if it in self.letters) or stages.DATING
 
 
 class Sent(NamedTuple):
-    """What a capture has of the station: its messages in their order, and what the 1020 of any station and its own 1013 tell."""
+    """What a capture has of the station: its messages in their order, and what its 1013 tell."""
 
     messages: list[Message]
-    orbits: list[tuple[int, int]]
     leap_seconds: list[int]
 
 
@@ -137,7 +135,7 @@ def right_leap_seconds(captures: list[Sent], first: int, last: int, date: Date) 
     offsets = [offsets_of(it.messages, date)[GLONASS.letter] for it in captures]
     told = {told_offset(it) if is_wrong(it) else None for it in offsets if it}
     ahead = told.pop() if len(told) == 1 else None
-    if ahead is None or ahead % 1000 or any(first <= row <= last for row, _ in LEAP_ROWS):
+    if ahead is None or ahead % 1000 or any(first < row <= last for row, _ in LEAP_ROWS):
         return None
     leap = leap_seconds_at(date.near) - signed(ahead) // 1000
     others = {it for capture in captures for it in capture.leap_seconds} - {leap, NOT_TOLD}
@@ -148,7 +146,8 @@ def right_leap_seconds(captures: list[Sent], first: int, last: int, date: Date) 
 
 
 def slots_shown(messages: Iterable[Message], numbers: set[int], names: Iterable[str]) -> list[int]:
-    """The slots of GLONASS with a value of a listed code."""
+    """The slots of GLONASS with a value of a listed code, or of any one."""
+    names = names if stages.LISTED_SLOTS else NAMES
     codes = {name[1:] for name in names if letter_of_name(name) == GLONASS.letter}
     taken = [it for it in messages if it.header["number"] in numbers and letter_of(it) == GLONASS.letter]
     return [int(satellite[1:]) for it in taken for satellite, code in shown_in(it) if code in codes]
@@ -161,15 +160,25 @@ def names_chosen(messages: list[Message], numbers: set[int], letters: Iterable[s
     return tuple(sorted(wanted.names or shown, key=lambda it: LETTERS.index(letter_of_name(it))))
 
 
-def choose(captures: list[Sent], links: list[list[int]], span: tuple[int, int], near: int, with_1012: bool, wanted: Wanted) -> Chosen:
-    """What is converted of these captures, whose places the links have, and which allow that 1012 are converted or not; the first and
-    the last epoch are these."""
+class Allowed(NamedTuple):
+    """The first and the last epoch of captures, the moment near which they are dated, and whether 1012 may be converted."""
+
+    span: tuple[int, int]
+    near: int
+    with_1012: bool
+
+
+def choose(captures: list[Sent], links: list[list[int]], orbits: list[tuple[int, int]], allowed: Allowed, wanted: Wanted) -> Chosen:
+    """What is converted of these captures, whose places the links have. The slots and channels of 1020 name no station, so those of
+    captures that are left out count too."""
+    span, near, with_1012 = allowed
     messages = [it for capture in captures for it in capture.messages]
     of_links = [[it for at in link for it in captures[at].messages] for link in links]
     date = Date(near, wanted.leap, stages.OWN_LEAP_SECONDS)
     offsets = total_offsets(captures, date)
     leap = wanted.leap
-    if stages.SETS_LEAP_SECONDS and leap is None and is_wrong(offsets[GLONASS.letter]):
+    is_asked = stages.SETS_LEAP_SECONDS and leap is None and GLONASS.letter in wanted.letters
+    if is_asked and is_wrong(offsets[GLONASS.letter]):
         leap = right_leap_seconds(captures, *span, date)
         offsets = total_offsets(captures, date._replace(leap=leap))
     compared = [it for it in wanted.letters if it != GPS.letter]
@@ -180,11 +189,11 @@ def choose(captures: list[Sent], links: list[list[int]], span: tuple[int, int], 
     kinds = {it: kind for it, kind in kinds.items() if it in map(letter_of_name, names)}
     lines = [line for it in compared for line in offset_lines(it, offsets[it])]
     alone = unchecked(messages, kinds, offsets) if stages.TELLS_UNCHECKED else []
-    chosen = Chosen(names, kinds, None, leap if GLONASS.letter in kinds else None, lines, wrong, "".join(alone), False)
+    chosen = Chosen(names, kinds, None, leap, lines, wrong, "".join(alone), False)
     if GLONASS.letter not in kinds:
         return chosen
     chosen = chosen._replace(with_1012=with_1012 and any(has_value_of_1012(it) for it in messages))
-    return chosen._replace(slots=slots_chosen(captures, chosen, wanted))
+    return chosen._replace(slots=slots_chosen(messages, orbits, chosen, wanted))
 
 
 def has_value_of_1012(message: Message) -> bool:
@@ -192,9 +201,7 @@ def has_value_of_1012(message: Message) -> bool:
 
 
 # pins: is_slot_in, IsToldChannel, channel_fields
-def slots_chosen(captures: list[Sent], chosen: Chosen, wanted: Wanted) -> Slots:
+def slots_chosen(messages: list[Message], orbits: list[tuple[int, int]], chosen: Chosen, wanted: Wanted) -> Slots:
     """The channels of GLONASS."""
-    messages = [it for capture in captures for it in capture.messages]
-    orbits = told_by_orbits(it for capture in captures for it in capture.orbits)
     shown = slots_shown(messages, chosen.numbers, chosen.names)
-    return slots_of(shown, told_by(messages), orbits, wanted.channels or {}, stages.TELLS_CHANNELS)
+    return slots_of(shown, told_by(messages), told_by_orbits(orbits), wanted.channels, stages.TELLS_CHANNELS)

@@ -18,7 +18,7 @@ from typing import NamedTuple
 
 import stages
 from channels import orbit_of
-from choosing import Chosen, Sent, Wanted, choose, has_value_of_1012
+from choosing import Allowed, Chosen, Sent, Wanted, choose, has_value_of_1012
 from clocks import moment_of, near_of_span
 from equipment import equipment_of
 from messages import Refusal, frames_of
@@ -151,7 +151,7 @@ class Capture(NamedTuple):
     def sent(self, station: int) -> Sent:
         """What it has of the station."""
         own = [it for it in self.read if not isinstance(it, Message) and it["number"] == 1013 and it["station"] == station]
-        return Sent(self.of_station(station), self.orbits, [it["leap_seconds"] for it in own])
+        return Sent(self.of_station(station), [it["leap_seconds"] for it in own])
 
     def is_of_station(self, station: int) -> bool:
         """Whether a message of it came, be it one with observations, with a position, with a date, or with an antenna."""
@@ -409,7 +409,9 @@ def find(texts: list[bytes], now: int, wanted: Wanted = Wanted()) -> Found:
     every = [it for of in epochs for it in of]
     wider = every + [it for capture, of in zip(captures, epochs) for it in moments_of_1012(capture, number, of, wanted.leap)]
     middle = near_of_span(min(wider), max(wider)) if stages.TAKES_1012 else None
-    chosen = choose([it.sent(number) for it in captures], links, (min(every), max(every)), near, middle is not None, wanted)
+    orbits = [it for capture in everything for it in capture.orbits]
+    allowed = Allowed((min(every), max(every)), near, middle is not None)
+    chosen = choose([it.sent(number) for it in captures], links, orbits, allowed, wanted)
     if not chosen.names:
         raise Stopped("no code")
     stop_if_apart(near, links, [] if wanted.as_given else [point for capture in captures for point in capture.points(number)])

@@ -30,5 +30,9 @@ FINDS_SBAS = False
 TAKES_1012 = False
 # 1004 that are not converted have a line.
 TELLS_1004 = True
+# Channels that words give go before those that messages tell of the same slots; else nothing that messages tell is taken.
+JOINS_CHANNELS = False
+# A slot of GLONASS counts if it has a value of a listed code; else if it has a value of any code.
+LISTED_SLOTS = False
 # The words of `auto` beside those that it has for GPS.
 WORDS = ("--msm", "--codes", "--systems", "--channels", "--leap-seconds")

@@ -12,7 +12,7 @@ use Rattle.rtk_survey.specs.BesideGps.{cells_beside, messages_beside, has_index,
 use Rattle.rtk_survey.specs.Chains.{clocks_of, clocks_at}
 use Rattle.rtk_survey.specs.Channels.{CountsChannels}
 use Rattle.rtk_survey.specs.Contents.{HasSystems, IsMsmKept}
-use Rattle.rtk_survey.specs.NextCommand.{number_by, other_taken, more_told, most_told, item_text, slot_item, slot_items}
+use Rattle.rtk_survey.specs.NextCommand.{number_by, other_taken, more_told, most_told, told_of_slot, item_text, slot_item, slot_items}
 use Rattle.rtk_survey.specs.Steps.OtherSystems.{code_in_part, codes_held_by, slot_in_part, slots_held, fields_held, taken_held}
 use Rattle.rtk_survey.specs.Steps.Tables.{system_epochs_held}
 use Rattle.rtk_survey.specs.Summary.{epochs_beside, codes_beside, taken_beside, slots_beside, fields_told}

@@ -263,7 +263,7 @@ def test_sources():
     names = {name for _, name in own}
     compare("the generator restates a standard, and the code of a signal does not", ("generator" in names, "code_of_signal" in names), (False, True))
     marks = [line for path in ROOT.glob("crates/*/specs/**/*.antt") for line in re.findall(r"(?m)^-- Source:.*", path.read_text())]
-    all_are("each source names a standard and a place in it", marks, lambda it: re.match(r"-- Source: (RTCM 10403\.3|RINEX 3\.05|IERS), \S", it))
+    all_are("each source names a standard and a place in it", marks, lambda it: re.match(r"-- Source: (RTCM 10403\.3|RINEX 3\.05|IERS|ICD GLONASS), \S", it))
 
 
 def test_believe():

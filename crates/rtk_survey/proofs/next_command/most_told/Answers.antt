@@ -9,8 +9,8 @@ loop-field-preserved c =
     let field : ℕ = c.loop-field.field in
     let next : suc field ≡ field + 1 = omega arith in
     record {
-      value = c.more_told.ensures.value ∙ ap (λ (o : Option ℕ). more_told counts o field) c.loop-field.invariant.value ∙ ap (λ (n : ℕ). most_told counts n) next;
-      bound = c.more_told.ensures.bound;
+      value = c.more_told-told.ensures.value ∙ ap (λ (o : Option ℕ). more_told counts o field) c.loop-field.invariant.value ∙ ap (λ (n : ℕ). most_told counts n) next;
+      bound = c.more_told-told.ensures.bound;
     }
 
 pub returns-clause-value : goal.returns-clause-value
