@@ -113,10 +113,20 @@ fn put_antenna_notes(
 ) -> Result<(), AllocError>
     ensures { OnOk result (lines.new.items ≡ lines.old.items ++ spec.antenna_notes name.now counts.now told.now) }
 {
-    let (kind, other) = (&counts.antenna_type, &told.antenna_type);
-    put_field_notes(lines, b"antenna-type", name, kind, other)?;
-    let (serial, other) = (&counts.antenna_serial, &told.antenna_serial);
-    put_field_notes(lines, b"antenna-serial", name, serial, other)?;
+    put_field_notes(
+        lines,
+        b"antenna-type",
+        name,
+        &counts.antenna_type,
+        &told.antenna_type,
+    )?;
+    put_field_notes(
+        lines,
+        b"antenna-serial",
+        name,
+        &counts.antenna_serial,
+        &told.antenna_serial,
+    )?;
     Ok(())
 }
 
@@ -128,12 +138,27 @@ fn put_receiver_notes(
 ) -> Result<(), AllocError>
     ensures { OnOk result (lines.new.items ≡ lines.old.items ++ spec.receiver_notes name.now counts.now told.now) }
 {
-    let (kind, other) = (&counts.receiver_type, &told.receiver_type);
-    put_field_notes(lines, b"receiver-type", name, kind, other)?;
-    let (version, other) = (&counts.receiver_version, &told.receiver_version);
-    put_field_notes(lines, b"receiver-version", name, version, other)?;
-    let (serial, other) = (&counts.receiver_serial, &told.receiver_serial);
-    put_field_notes(lines, b"receiver-serial", name, serial, other)?;
+    put_field_notes(
+        lines,
+        b"receiver-type",
+        name,
+        &counts.receiver_type,
+        &told.receiver_type,
+    )?;
+    put_field_notes(
+        lines,
+        b"receiver-version",
+        name,
+        &counts.receiver_version,
+        &told.receiver_version,
+    )?;
+    put_field_notes(
+        lines,
+        b"receiver-serial",
+        name,
+        &counts.receiver_serial,
+        &told.receiver_serial,
+    )?;
     Ok(())
 }
 
