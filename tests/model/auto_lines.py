@@ -236,6 +236,8 @@ def date_lines(found: Found, asked: Asked, texts: list[bytes]) -> list[str]:
     firsts = [epochs[0] if epochs else found.near for epochs in found.epochs]
     for at, first in zip(kept, firsts):
         lines += [f" other-date{date_text(it.fields, it.first, name_of(at))}" for it in told[at] + passed[at] if it.first != first]
+        lists = [finding.counting(tellings[at], station), *finding.passed_over(tellings[at], station)]
+        lines += [f" more-dates in {name_of(at)}"] * any(len(distinct(of)) == 16 for of in lists)
         lines += [f" other-date{line}" for line in to_come_lines(asked.now, asked.captures(texts), at)]
     return lines
 

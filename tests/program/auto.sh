@@ -218,6 +218,12 @@ finds '--near 2024-05-17T12:00:00 later one' "$noon until 2024-05-17T12:00:03 by
 # pins: joined_bytes, cat_words, one_link_text, no_position_line
 # pins: undated_line
 finds 'later one' "$noon until 2024-05-17T12:00:03 by 1013" "cat one later | $one_command stdin" '5 1 0 0 4 0 0 0 4' 0 '' ' undated later: dated near the others'
+# weeks NUMBER NAME: a line for each week before that of the file
+weeks() { for week in $(seq "$1"); do echo " other-date $(date -u -d "2024-05-17 - $((7 * week)) days" +%F)T12:00:00 by 1013 of station 7 in $2"; done; }
+# Sixteen dates of a capture are kept, and then others may have been told.
+finds fifteen_weeks "$two 1013" "$one_command fifteen_weeks" '18 16 0 0 2 0 0 0 2' 0 one.rnx "$(weeks 15 fifteen_weeks)"
+# pins: is_full, more_dates_line
+finds sixteen_weeks "$two 1013" "$one_command sixteen_weeks" '19 17 0 0 2 0 0 0 2' 0 one.rnx "$(weeks 16 sixteen_weeks)\n more-dates in sixteen_weeks"
 # A date after the time of making does not count, and is told.
 # pins: other_to_come
 finds 'one to_come' "$noon until 2024-05-17T12:00:02 by 1013" "cat one to_come | $one_command stdin" '5 2 0 0 3 0 0 0 3' 0 '' \

@@ -111,6 +111,9 @@ CAPTURES = {
     "early_week": week(2, 0) + epochs(60),
     "by_other": date(43_200, station=7) + epochs(NOON),
     "passed_over": date(43_200, 60_500) + date(43_200, 40_000) + date(86_401) + week(10, 604_784) + epochs(10),
+    # dates of another station, each a week before the one that is told before it
+    "fifteen_weeks": ONE + b"".join(date(43_200, 60_440 - 7 * it, 7) for it in range(15)),
+    "sixteen_weeks": ONE + b"".join(date(43_200, 60_440 - 7 * it, 7) for it in range(16)),
     "to_come": date(43_200, 60_500) + epochs(NOON + 2),
     "with_sbas": date(43_200) + epochs(NOON, satellites=(5, 40)) + epochs(NOON + 1, satellites=(58, 5)) + epochs(NOON + 2),
     "without_sbas": date(43_200) + epochs(NOON, satellites=(39, 5, 59)),

@@ -1,5 +1,5 @@
 -- What a person should know of a conversion that is done (this project's rule).
-use Rattle.std.specs.Prelude.{ℕ, ◌+◌, ◌==◌, Bool, not, ◌&&◌, List, [], ◌∷◌, ◌++◌, Option, None, Some, is_some, slice_get, codes, decimal, flat_map, if◌then◌else◌}
+use Rattle.std.specs.Prelude.{ℕ, ◌+◌, ◌==◌, nat_le, Bool, not, ◌&&◌, ◌||◌, length, List, [], ◌∷◌, ◌++◌, Option, None, Some, is_some, slice_get, codes, decimal, flat_map, if◌then◌else◌}
 use Rattle.std.specs.Borrow.{Bor}
 use Rattle.std.specs.List.{list_any, sum_by}
 use Rattle.std.specs.Option.{is_none}
@@ -61,11 +61,24 @@ other_date_line near s name t = if is_told_otherwise near s t then codes " other
 abbrev pub other_date_lines : ℕ → Span → List ℕ → List Told → List ℕ
 other_date_lines near s name ts = flat_map (other_date_line near s name) ts
 
+-- constant
+-- a survey keeps 16 first epochs that differ of each kind of message: if it has so many, others may have been told
+abbrev pub is_full : List Told → Bool
+is_full ts = nat_le 16 (length ts)
+
+abbrev pub may_have_more : Tellings → Bool
+may_have_more t = (is_full t.own.items || is_full t.weeks.items) || is_full t.others.items
+
+-- formula
+abbrev pub more_dates_line : List ℕ → Tellings → List ℕ
+more_dates_line name t = if may_have_more t then name_line (codes " more-dates in ") name else []
+
 -- the dates that messages told of these epochs and that do not count in a conversion near this moment: those of the
--- messages that date, and beside them those of ephemerides and of other stations
+-- messages that date, and beside them those of ephemerides and of other stations; and that there may be others
 unfoldable pub other_dates : ℕ → Span → List ℕ → Tellings → List ℕ
 other_dates near s name t =
     other_date_lines near s name (counting t) ++ other_date_lines near s name (weeks_passed_over t) ++ other_date_lines near s name (others_passed_over t)
+    ++ more_dates_line name t
 
 abbrev pub other_dates_if_any : ℕ → List ℕ → Tellings → Option Span → List ℕ
 other_dates_if_any near name t None = []

@@ -22,6 +22,9 @@ use rtk_survey::{
 };
 use std::alloc::AllocError;
 
+/// How many first epochs that differ a survey keeps of each kind of message.
+const MOST_TOLD: usize = 16;
+
 // Is this another first epoch than a conversion near this moment gives a capture with these epochs?
 fn is_told_otherwise(near: GpsMs, told: &Told, span: &Span) -> bool
     ensures { result ≡ spec.is_told_otherwise near span.now told.now }
@@ -65,8 +68,33 @@ fn put_those_of(
     Ok(())
 }
 
+fn is_full(told: &[Told]) -> bool
+    ensures { result ≡ spec.is_full told.now }
+{
+    MOST_TOLD <= told.len()
+}
+
+fn may_have_more(told: &Tellings) -> bool
+    ensures { result ≡ spec.may_have_more told.now }
+{
+    is_full(told.own.as_slice())
+        || is_full(told.weeks.as_slice())
+        || is_full(told.others.as_slice())
+}
+
+// Appends a line if so many dates are kept of a capture that others may have been told.
+fn put_more_dates(lines: &mut Vec<u8>, name: &str, told: &Tellings) -> Result<(), AllocError>
+    ensures { OnOk result (lines.new.items ≡ lines.old.items ++ spec.more_dates_line name.now told.now) }
+{
+    if may_have_more(told) {
+        put_name_line(lines, b" more-dates in ", name)
+    } else {
+        Ok(())
+    }
+}
+
 // Appends the dates that messages told of these epochs, if they tell another first one than the conversion gives: those
-// by the messages that date, and those by 1019 and by other stations beside them.
+// by the messages that date, and those by 1019 and by other stations beside them; and that there may be others.
 fn put_tellings(
     lines: &mut Vec<u8>,
     near: GpsMs,
@@ -79,6 +107,7 @@ fn put_tellings(
     put_those_of(lines, near, span, name, told.counting())?;
     put_those_of(lines, near, span, name, weeks_passed_over(told))?;
     put_those_of(lines, near, span, name, others_passed_over(told))?;
+    put_more_dates(lines, name, told)?;
     Ok(())
 }
 
