@@ -294,7 +294,7 @@ def system_text(number: int) -> str:
     return SYSTEMS.get(number // 10, "GLONASS") if number > 1080 or 1009 <= number <= 1012 else "GPS"
 
 
-# pins: msm_line_of, doppler_line_of, obs_1004_line, is_gps_system
+# pins: msm_line_of, doppler_line_of, obs_1004_line, is_gps_system, long_line, unread_legacy_glonass
 def left_out_lines(found: Found, texts: list[bytes]) -> list[str]:
     """How many messages are not converted, or without a part: of GPS those of the station, of other systems those of all stations."""
     chosen = found.chosen
@@ -313,7 +313,7 @@ def left_out_lines(found: Found, texts: list[bytes]) -> list[str]:
     lines += [f" not in the file: Doppler of {msm}, {doppler} messages"] * (msm in (1075, 1077) and doppler > 0)
     sbas = 0 if stages.CONVERTS_SBAS and SBAS.letter in chosen.kinds else sum(has_sbas(it) for it in own)
     lines += [f" not in the file: SBAS of 1004, {sbas} messages"] * (sbas > 0)
-    is_long = stages.TAKES_1012 and GLONASS.letter in chosen.kinds  # else its 1012 would be taken
+    is_long = stages.TAKES_1012 and found.is_long
     return lines + [
         f" untaken GLONASS {it} {others[it]}: more than a day" if it == LEGACY_GLONASS and is_long
         else f" not in the file: {system_text(it)} {it}, {others[it]} messages"

@@ -116,8 +116,9 @@ def is_first_timing(letter: str, messages: Iterable[Message]) -> bool:
 
 
 def unchecked(messages: list[Message], letters: Iterable[str], offsets: Offsets) -> list[str]:
-    """The systems of these that no chain compares, but for the first one that others are compared with."""
-    return [letter for letter in letters if not offsets[letter] and not is_first_timing(letter, messages)]
+    """The systems of these that are sent and that no chain compares, but for the first one that others are compared with."""
+    sent = {letter_of(it) for it in messages}
+    return [it for it in letters if it in sent and not offsets[it] and not is_first_timing(it, messages)]
 
 
 def clock_lines(messages: list[Message], letters: Iterable[str], near: int | None) -> list[str]:

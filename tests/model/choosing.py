@@ -119,7 +119,7 @@ def names_shown(messages: Iterable[Message], numbers: set[int]) -> list[str]:
 # ---------------------------------------------------------------- clocks
 
 
-# pins: compared_systems, kinds_in_order, times_chains, timing_before
+# pins: compared_systems, kinds_in_order, times_chains, timing_before, is_glonass_system
 def total_offsets(captures: list[Sent], date: Date) -> Offsets:
     """How often each clock is ahead by each offset, in all captures."""
     totals: Offsets = {letter: Counter() for letter in LETTERS}
@@ -140,6 +140,15 @@ def right_leap_seconds(captures: list[Sent], first: int, last: int, date: Date) 
     leap = leap_seconds_at(date.near) - signed(ahead) // 1000
     others = {it for capture in captures for it in capture.leap_seconds} - {leap, NOT_TOLD}
     return leap if 0 <= leap <= MOST_LEAP_SECONDS and not others else None
+
+
+def leap_of(captures: list[Sent], span: tuple[int, int], near: int, wanted: Wanted) -> int | None:
+    """The leap seconds that are given, or those by which GLONASS is right; nothing if the table has them."""
+    if wanted.leap is not None or not stages.SETS_LEAP_SECONDS or GLONASS.letter not in wanted.letters:
+        return wanted.leap
+    date = Date(near, None, stages.OWN_LEAP_SECONDS)
+    is_off = is_wrong(total_offsets(captures, date)[GLONASS.letter])
+    return right_leap_seconds(captures, *span, date) if is_off else None
 
 
 # ---------------------------------------------------------------- all of it
@@ -174,13 +183,8 @@ def choose(captures: list[Sent], links: list[list[int]], orbits: list[tuple[int,
     span, near, with_1012 = allowed
     messages = [it for capture in captures for it in capture.messages]
     of_links = [[it for at in link for it in captures[at].messages] for link in links]
-    date = Date(near, wanted.leap, stages.OWN_LEAP_SECONDS)
-    offsets = total_offsets(captures, date)
-    leap = wanted.leap
-    is_asked = stages.SETS_LEAP_SECONDS and leap is None and GLONASS.letter in wanted.letters
-    if is_asked and is_wrong(offsets[GLONASS.letter]):
-        leap = right_leap_seconds(captures, *span, date)
-        offsets = total_offsets(captures, date._replace(leap=leap))
+    leap = leap_of(captures, span, near, wanted)
+    offsets = total_offsets(captures, Date(near, leap, stages.OWN_LEAP_SECONDS))
     compared = [it for it in wanted.letters if it != GPS.letter]
     wrong = "".join(it for it in compared if wanted.names is None and is_wrong(offsets[it]))
     letters = [it for it in wanted.letters if it not in wrong]

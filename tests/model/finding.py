@@ -18,8 +18,8 @@ from typing import NamedTuple
 
 import stages
 from channels import orbit_of
-from choosing import Allowed, Chosen, Sent, Wanted, choose, has_value_of_1012
-from clocks import moment_of, near_of_span
+from choosing import Allowed, Chosen, Sent, Wanted, choose, has_value_of_1012, leap_of
+from clocks import glonass_moment, leap_seconds_at, near_of_span
 from equipment import equipment_of
 from messages import Refusal, frames_of
 from model import civil, moment
@@ -280,6 +280,7 @@ class Found(NamedTuple):
     skipped: list[int]  # captures without a message of it
     few: list[str]  # codes with few phases
     stray: tuple[int, list[int]] | None  # an epoch more than a day after all others, and the captures that have it
+    is_long: bool  # GLONASS is asked for, and 1012 with a value are not dated right near any moment
 
 
 def station_of(captures: list[Capture], named: int | None) -> int:
@@ -407,11 +408,11 @@ def find(texts: list[bytes], now: int, wanted: Wanted = Wanted()) -> Found:
     by = min(dating, default=None, key=lambda it: it.first)
     links = links_of(epochs, wanted.as_given)
     every = [it for of in epochs for it in of]
-    wider = every + [it for capture, of in zip(captures, epochs) for it in moments_of_1012(capture, number, of, wanted.leap)]
-    middle = near_of_span(min(wider), max(wider)) if stages.TAKES_1012 else None
+    span, sent = (min(every), max(every)), [it.sent(number) for it in captures]
+    middle = near_with_1012(captures, number, epochs, leap_of(sent, span, near, wanted), near) if stages.TAKES_1012 else None
     orbits = [it for capture in everything for it in capture.orbits]
-    allowed = Allowed((min(every), max(every)), near, middle is not None)
-    chosen = choose([it.sent(number) for it in captures], links, orbits, allowed, wanted)
+    allowed = Allowed(span, near, middle is not None)
+    chosen = choose(sent, links, orbits, allowed, wanted)
     if not chosen.names:
         raise Stopped("no code")
     stop_if_apart(near, links, [] if wanted.as_given else [point for capture in captures for point in capture.points(number)])
@@ -421,17 +422,24 @@ def find(texts: list[bytes], now: int, wanted: Wanted = Wanted()) -> Found:
     return Found(
         number, chosen, near, None if by is None else by.fields, [[places[at] for at in link] for link in links], epochs,
         [places[at] for at, of in enumerate(epochs) if not of], skipped, few_phases(messages, chosen), stray_of(epochs, places),
+        middle is None and GLONASS.letter in wanted.letters and any(has_value_of_1012(it) for it in messages),
     )
 
 
-def moments_of_1012(capture: Capture, station: int, epochs: list[int], leap: int | None) -> list[int]:
-    """The moments of the station's 1012 with a value: each within half a day of the epoch before it, or else of the first one."""
-    moments, seen = [], 0
-    for it in capture.of_station(station) if epochs else []:
-        if has_value_of_1012(it):
-            moments.append(moment_of(GLONASS, it.header["tow"], epochs[max(seen - 1, 0)], leap))
-        seen += capture.observes(station, it)
-    return moments
+def near_with_1012(captures: list[Capture], station: int, epochs: list[list[int]], leap: int | None, near: int) -> int | None:
+    """The moment near which the station's 1012 are dated right, if there is one."""
+    seconds = leap_seconds_at(near) if leap is None else leap
+    every = [it for of in epochs for it in of]
+    every += [it for capture, of in zip(captures, epochs) for it in moments_of_1012(capture, station, of, seconds)]
+    middle = near_of_span(min(every), max(every))
+    return middle if middle is not None and FIRST_NEAR <= middle <= LAST_NEAR else None
+
+
+# pins: day_time, day_time_from, moment_in_day, first_moment_at, middle_up, middle_second, can_date, dates_ends
+def moments_of_1012(capture: Capture, station: int, epochs: list[int], seconds: int) -> list[int]:
+    """The moments of the station's first and last 1012 with a value: within half a day of the first and of the last epoch."""
+    clocks = [it.header["tow"] for it in capture.of_station(station) if has_value_of_1012(it)]
+    return [glonass_moment(clocks[at], epochs[at], seconds) for at in (0, -1) if clocks and epochs]
 
 
 def links_of(epochs: list[list[int]], as_given: bool = False) -> list[list[int]]:

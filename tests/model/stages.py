@@ -27,11 +27,11 @@ CONVERTS_SBAS = True
 FINDS_1012 = True
 FINDS_SBAS = False
 # `auto` converts 1012 where the epochs allow a reference.
-TAKES_1012 = False
+TAKES_1012 = True
 # 1004 that are not converted have a line.
 TELLS_1004 = True
 # Channels that words give go before those that messages tell of the same slots; else nothing that messages tell is taken.
-JOINS_CHANNELS = False
+JOINS_CHANNELS = True
 # A slot of GLONASS counts if it has a value of a listed code; else if it has a value of any code.
 LISTED_SLOTS = False
 # The words of `auto` beside those that it has for GPS.

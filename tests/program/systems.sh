@@ -397,6 +397,29 @@ chain $G05_5X $R10_2P >apart.rtcm
 convert 5X,R2P --msm 7 --channels 10:-5 apart.rtcm; cp out apart.rnx
 # pins: unchecked_system_line
 finds glonass_apart apart.rnx '5X,R2P --msm 7 --window 4096 --channels 10:-5 apart.rtcm' '2 0 0 0 2 0 0 0 1' " unchecked R\n$doppler" apart.rtcm
+# 1012 are converted where they and all epochs lie within a day, near the middle of it.
+# legacy NAME NEAR OPTIONS PAYLOAD..: `auto` says this command, which writes the same file
+legacy() {
+    name=$1 near_=$2 options=$3
+    shift 3
+    python3 "$here/framed.py" "$@" >legacy.rtcm
+    run auto --near 2020-01-25T02:16:00 --made $made --marker BASE legacy.rtcm; cp out file; cp err said
+    echo "rtcm2rinex convert --station 1 --near $near_ --made $made --marker BASE --codes $options legacy.rtcm" >want
+    sed -n 2p said >told; same "auto_$name" told want
+    run $(sed 's/^rtcm2rinex //' told); cp out again; same "auto_${name}_as_said" again file
+}
+R12_1012=3F400124210600818318EAEE800097221CA7FACFF289C97E
+# Of 02:16:00, before other messages; of three seconds later; and of a day later.
+G05_1004=3EC0017D8AAC0210141E848000000291AC08002000000000
+G05_3_S=3EC0017D8ADAE010141E848000000291AC08002000000000
+G05_A_DAY=3EC00101F20C0010141E848000000291AC08002000000000
+# pins: day_time, day_time_from, moment_in_day, first_moment_at, middle_up, middle_second, dates_ends
+legacy with_1012 2020-01-25T02:16:02 '1C,R1C,R2P --window 4096 --channels 12:-1 --with-1012' $G05_1004 $R12_1012 $G05_3_S
+legacy with_1012_too_long 2020-01-25T02:16:00 '1C --window 4096' $G05_1004 $R12_1012 $G05_A_DAY
+# pins: long_line, unread_legacy_glonass
+echo ' untaken GLONASS 1012 1: more than a day' >want; grep 1012 said >told; same auto_with_1012_left_out told want
+# A lone 1012 before the first epoch counts too: a second before it, and not nearly a day after it.
+legacy with_a_lone_1012 2020-01-25T02:16:02 '1C,R1C,R2P --window 4096 --channels 12:-1 --with-1012' $R12_1012 $G05_3_S
 # The example of two links, in either order.
 examples=$root/examples
 for links in "1 2" "2 1"; do

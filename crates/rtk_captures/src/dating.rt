@@ -250,8 +250,8 @@ fn moment(alloc: Global, ms: u64) -> Result<GpsMs, PlanFault>
     }
 }
 
-// Is an epoch of a capture not dated by a conversion near this moment as it is here?
-fn are_out_of_reach(near: GpsMs, captures: &[StationCapture], placed: &[Option<Placed>]) -> bool
+/// Is an epoch of a capture not dated by a conversion near this moment as it is here?
+pub fn are_out_of_reach(near: GpsMs, captures: &[StationCapture], placed: &[Option<Placed>]) -> bool
     ensures { result ≡ some_out_of_reach near captures.now placed.now }
 {
     let count = captures.len().min(placed.len());

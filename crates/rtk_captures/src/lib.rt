@@ -59,7 +59,7 @@ mod waiting_dates;
 pub use capture_equipment::equipment_in_captures;
 pub use captures::{Captures, StationCaptures};
 pub use chosen_station::{OnlyStation, is_observed, only_station};
-pub use dating::{Dating, date_captures};
+pub use dating::{Dating, are_out_of_reach, date_captures};
 pub use joining::{Ordered, in_order, links_of};
 pub use kept::empty_captures;
 pub use linking::{limit_links, links_as_given, links_found};

@@ -1,5 +1,7 @@
 -- Surveys and words have one plan.
-use Rattle.std.proofs.Common.{◌≡◌, ◌-◌, ◌%◌, ℕ, Bool, true, false, List, map, Option, None, Some, sym, ap, subst, ◌∙◌, arith}
+use Rattle.std.proofs.Common.{◌≡◌, ◌+◌, ◌-◌, ◌%◌, ◌&&◌, ◌||◌, ℕ, Bool, true, false, List, map, Option, None, Some, sym, ap, subst, ◌∙◌, arith}
+use Rattle.std.specs.Prelude.{nat_lt, IfSome, if◌then◌else◌}
+use Rattle.rtk_obs.specs.declared.time.TheConstants.{LAST_MS}
 use Rattle.rtk_obs.specs.declared.any_code.AnyCode.{AnyCode}
 use Rattle.rtk_rinex.specs.MixedHead.{GlonassView}
 use Rattle.rtk_setup.specs.Setup.{SetupView}
@@ -11,8 +13,9 @@ use Rattle.rtk_plan.specs.Laws.{OnePlan, NearIsWholeSecond}
 use Rattle.rtk_systems.specs.FoundSeconds.{seconds_found_if, AreSecondsFound, AreSecondsOfSetup, asks_glonass}
 use Rattle.rtk_captures.specs.Linking.{links_found, AreLinksOf}
 use Rattle.rtk_systems.specs.ClockOffsets.{systems_with_clocks}
-use Rattle.rtk_plan.specs.Plan.{IsChosenStation, kinds_found, codes_chosen, AreSystemsTaken, AreCodesChosen, marker_chosen, AreLeapSecondsOf, IsSetupFor}
-use Rattle.rtk_captures.specs.Dating.{captures_of, IsBaseOf, IsReachOf, ArePlaced, IsNearOf, IsSpanOf, AreStrays}
+use Rattle.rtk_plan.specs.Plan.{IsChosenStation, kinds_found, codes_chosen, AreSystemsTaken, AreCodesChosen, marker_chosen, converts_1012, near_chosen, near_in_reach, near_with_1012, codes_taken_from, AreLeapSecondsOf, IsNear1012, IsSetupFor}
+use Rattle.rtk_captures.specs.Dating.{captures_of, some_out_of_reach, IsBaseOf, IsReachOf, ArePlaced, IsNearOf, IsSpanOf, AreStrays}
+use Rattle.rtk_plan.specs.Near1012.{ends_after, middle_up, middle_down, middle_second, dates_ends, can_date, near_of_ends, near_between}
 use Rattle.rtk_captures.specs.Reach.{least_told, placed_if_any, reach_after, second_of}
 use Rattle.rtk_systems.specs.SlotChannels.{IsGlonassFound}
 use Rattle.rtk_captures.specs.Sources.{dated_span_of}
@@ -24,6 +27,8 @@ use Rattle.rtk_captures.specs.declared.reach.Base.TheVariants.{Told}
 use Rattle.rtk_captures.specs.declared.span_line.DatedSpan.{DatedSpan}
 use Rattle.rtk_captures.specs.declared.station_capture.StationCapture.{StationCapture}
 use Rattle.rtk_systems.specs.declared.system_flags.SystemFlags.{SystemFlags}
+use Rattle.rtk_plan.specs.declared.near_1012.Ends.{Ends}
+use Rattle.rtk_systems.specs.declared.values.TakenMessages.{TakenMessages}
 use Rattle.rtk_plan.specs.declared.wanted.Wanted.{Wanted}
 use Rattle.rtk_systems.proofs.PublicLaws.{one-glonass, one-row, one-seconds}
 
@@ -97,10 +102,21 @@ one-systems : (ss : List CaptureSurvey) (station : ℕ) (wanted : SystemFlags) (
 one-systems ss station wanted seconds near a b is also =
     is.2 ∙ ap (λ (n : ℕ). in_both wanted (systems_with_clocks ss station n)) (one-seconds seconds near is.0 also.0 is.1 also.1) ∙ sym also.2
 
-one-list : (w : Wanted) (ss : List CaptureSurvey) (station : ℕ) (seconds : Option ℕ) (near : ℕ) (kinds : SystemKinds) (a b : List AnyCode)
-    → AreCodesChosen w ss station seconds near kinds a → AreCodesChosen w ss station seconds near kinds b → a ≡ b
-one-list w ss station seconds near kinds a b is also =
-    is.2 ∙ ap (λ (systems : SystemFlags). codes_chosen w.codes ss station systems kinds) (one-systems ss station w.systems seconds near is.0 also.0 is.1 also.1) ∙ sym also.2
+one-list : (w : Wanted) (ss : List CaptureSurvey) (station : ℕ) (seconds : Option ℕ) (near : ℕ) (taken : TakenMessages) (a b : List AnyCode)
+    → AreCodesChosen w ss station seconds near taken a → AreCodesChosen w ss station seconds near taken b → a ≡ b
+one-list w ss station seconds near taken a b is also =
+    is.2 ∙ ap (λ (systems : SystemFlags). codes_chosen w.codes ss station systems taken) (one-systems ss station w.systems seconds near is.0 also.0 is.1 also.1) ∙ sym also.2
+
+one-1012 : (ss : List CaptureSurvey) (given : Option ℕ) (station : ℕ) (seconds : Option ℕ) (first : ℕ) (a b : Option ℕ)
+    → IsNear1012 ss given station seconds first a → IsNear1012 ss given station seconds first b → a ≡ b
+one-1012 ss given station seconds first a b is also =
+    let cs : List StationCapture = captures_of ss station in
+    let placed : is.0 ≡ also.0 = one-placed given cs is.0 also.0 is.1 also.1 in
+    let span : is.2.0 ≡ also.2.0 = one-span given cs station is.2.0 also.2.0 is.2.1 also.2.1 in
+    let leap : is.2.2.0 ≡ also.2.2.0 = one-seconds seconds first is.2.2.0 also.2.2.0 is.2.2.1 also.2.2.1 in
+    is.2.2.2 ∙ ap (λ (ps : List (Option Placed)). near_with_1012 ss station is.2.2.0 cs ps is.2.0.from is.2.0.until) placed
+    ∙ ap (λ (x : DatedSpan). near_with_1012 ss station is.2.2.0 cs also.0 x.from x.until) span
+    ∙ ap (λ (n : ℕ). near_with_1012 ss station n cs also.0 also.2.0.from also.2.0.until) leap ∙ sym also.2.2.2
 
 abbrev setup_with : ℕ → ℕ → List ℕ → List AnyCode → Option GlonassView → ℕ → ℕ → SystemKinds → Option ℕ → Bool → SetupView
 setup_with station near marker listed glonass made window kinds leap_seconds takes_1012 =
@@ -114,35 +130,53 @@ setup_with station near marker listed glonass made window kinds leap_seconds tak
       takes_1012 = takes_1012;
     }
 
+abbrev taken_pair : SystemKinds → Bool → TakenMessages
+taken_pair kinds takes = record { kinds = kinds; obs1012 = takes }
+
 one-setup : (ss : List CaptureSurvey) (links : List (List ℕ)) (w : Wanted) (made : ℕ) (s t : SetupView) → IsSetupFor ss links w made s → IsSetupFor ss links w made t → s ≡ t
 one-setup ss links w made s t is also =
+    let found = kinds_found w.msm ss links s.station in
     let station : s.station ≡ t.station = one-station ss w.station s.station t.station is.station also.station in
-    let near : s.near ≡ t.near =
-    one-near w.near (captures_of ss s.station) s.near t.near is.near_by (subst (λ (n : ℕ). IsNearOf w.near (captures_of ss n) t.near) (sym station) also.near_by) in
-    let leap : AreLeapSecondsOf ss w s.station s.near t.leap_seconds =
-    subst (λ (n : ℕ). AreLeapSecondsOf ss w s.station n t.leap_seconds) (sym near)
-    (subst (λ (n : ℕ). AreLeapSecondsOf ss w n t.near t.leap_seconds) (sym station) also.leap_seconds) in
-    let leap_seconds : s.leap_seconds ≡ t.leap_seconds = one-leap ss w s.station s.near s.leap_seconds t.leap_seconds is.leap_seconds leap in
-    let chosen : AreCodesChosen w ss s.station s.leap_seconds s.near (kinds_found w.msm ss links s.station) t.head.listed =
-    subst (λ (n : ℕ). AreCodesChosen w ss s.station s.leap_seconds n (kinds_found w.msm ss links s.station) t.head.listed) (sym near)
-    (subst (λ (o : Option ℕ). AreCodesChosen w ss s.station o t.near (kinds_found w.msm ss links s.station) t.head.listed) (sym leap_seconds)
-    (subst (λ (n : ℕ). AreCodesChosen w ss n t.leap_seconds t.near (kinds_found w.msm ss links n) t.head.listed) (sym station) also.listed)) in
+    let first : is.first ≡ also.first =
+    one-near w.near (captures_of ss s.station) is.first also.first is.first_is (subst (λ (n : ℕ). IsNearOf w.near (captures_of ss n) also.first) (sym station) also.first_is) in
+    let leap : AreLeapSecondsOf ss w s.station is.first t.leap_seconds =
+    subst (λ (n : ℕ). AreLeapSecondsOf ss w s.station n t.leap_seconds) (sym first)
+    (subst (λ (n : ℕ). AreLeapSecondsOf ss w n also.first t.leap_seconds) (sym station) also.leap_seconds) in
+    let leap_seconds : s.leap_seconds ≡ t.leap_seconds = one-leap ss w s.station is.first s.leap_seconds t.leap_seconds is.leap_seconds leap in
+    let dated : IsNear1012 ss w.near s.station s.leap_seconds is.first also.other =
+    subst (λ (n : ℕ). IsNear1012 ss w.near s.station s.leap_seconds n also.other) (sym first)
+    (subst (λ (o : Option ℕ). IsNear1012 ss w.near s.station o also.first also.other) (sym leap_seconds)
+    (subst (λ (n : ℕ). IsNear1012 ss w.near n t.leap_seconds also.first also.other) (sym station) also.other_is)) in
+    let other : is.other ≡ also.other = one-1012 ss w.near s.station s.leap_seconds is.first is.other also.other is.other_is dated in
+    let chosen : AreCodesChosen w ss s.station s.leap_seconds is.first (codes_taken_from found is.other) t.head.listed =
+    subst (λ (o : Option ℕ). AreCodesChosen w ss s.station s.leap_seconds is.first (codes_taken_from found o) t.head.listed) (sym other)
+    (subst (λ (n : ℕ). AreCodesChosen w ss s.station s.leap_seconds n (codes_taken_from found also.other) t.head.listed) (sym first)
+    (subst (λ (o : Option ℕ). AreCodesChosen w ss s.station o also.first (codes_taken_from found also.other) t.head.listed) (sym leap_seconds)
+    (subst (λ (n : ℕ). AreCodesChosen w ss n t.leap_seconds also.first (codes_taken_from (kinds_found w.msm ss links n) also.other) t.head.listed) (sym station) also.listed))) in
     let listed : s.head.listed ≡ t.head.listed =
-    one-list w ss s.station s.leap_seconds s.near (kinds_found w.msm ss links s.station) s.head.listed t.head.listed is.listed chosen in
+    one-list w ss s.station s.leap_seconds is.first (codes_taken_from found is.other) s.head.listed t.head.listed is.listed chosen in
     let kinds : s.kinds ≡ t.kinds =
     is.kinds ∙ ap (λ (n : ℕ). kinds_listed (kinds_found w.msm ss links n) s.head.listed) station
     ∙ ap (λ (cs : List AnyCode). kinds_listed (kinds_found w.msm ss links t.station) cs) listed ∙ sym also.kinds in
     let marker : s.head.marker ≡ t.head.marker = is.marker ∙ ap (λ (n : ℕ). marker_chosen w.marker n) station ∙ sym also.marker in
     let made_at : s.head.made ≡ t.head.made = is.made_at ∙ sym also.made_at in
     let window : s.window ≡ t.window = is.window ∙ sym also.window in
-    let told : IsGlonassFound ss s.station (kinds_found w.msm ss links s.station) s.head.listed w.channels s.leap_seconds s.near t.head.glonass =
-    subst (λ (n : ℕ). IsGlonassFound ss s.station (kinds_found w.msm ss links s.station) s.head.listed w.channels s.leap_seconds n t.head.glonass) (sym near)
-    (subst (λ (o : Option ℕ). IsGlonassFound ss s.station (kinds_found w.msm ss links s.station) s.head.listed w.channels o t.near t.head.glonass) (sym leap_seconds)
-    (subst (λ (cs : List AnyCode). IsGlonassFound ss s.station (kinds_found w.msm ss links s.station) cs w.channels t.leap_seconds t.near t.head.glonass) (sym listed)
-    (subst (λ (n : ℕ). IsGlonassFound ss n (kinds_found w.msm ss links n) t.head.listed w.channels t.leap_seconds t.near t.head.glonass) (sym station) also.glonass))) in
+    let takes : s.takes_1012 ≡ t.takes_1012 =
+    is.with_1012 ∙ ap (λ (n : ℕ). converts_1012 ss n s.head.listed is.other) station
+    ∙ ap (λ (cs : List AnyCode). converts_1012 ss t.station cs is.other) listed
+    ∙ ap (λ (o : Option ℕ). converts_1012 ss t.station t.head.listed o) other ∙ sym also.with_1012 in
+    let near : s.near ≡ t.near =
+    is.near_by ∙ ap (λ (b : Bool). near_chosen b is.first is.other) takes
+    ∙ ap (λ (n : ℕ). near_chosen t.takes_1012 n is.other) first
+    ∙ ap (λ (o : Option ℕ). near_chosen t.takes_1012 also.first o) other ∙ sym also.near_by in
+    let told : IsGlonassFound ss s.station (taken_pair found s.takes_1012) s.head.listed w.channels s.leap_seconds s.near t.head.glonass =
+    subst (λ (b : Bool). IsGlonassFound ss s.station (taken_pair found b) s.head.listed w.channels s.leap_seconds s.near t.head.glonass) (sym takes)
+    (subst (λ (n : ℕ). IsGlonassFound ss s.station (taken_pair found t.takes_1012) s.head.listed w.channels s.leap_seconds n t.head.glonass) (sym near)
+    (subst (λ (o : Option ℕ). IsGlonassFound ss s.station (taken_pair found t.takes_1012) s.head.listed w.channels o t.near t.head.glonass) (sym leap_seconds)
+    (subst (λ (cs : List AnyCode). IsGlonassFound ss s.station (taken_pair found t.takes_1012) cs w.channels t.leap_seconds t.near t.head.glonass) (sym listed)
+    (subst (λ (n : ℕ). IsGlonassFound ss n (taken_pair (kinds_found w.msm ss links n) t.takes_1012) t.head.listed w.channels t.leap_seconds t.near t.head.glonass) (sym station) also.glonass)))) in
     let glonass : s.head.glonass ≡ t.head.glonass =
-    one-glonass ss s.station (kinds_found w.msm ss links s.station) s.head.listed w.channels s.leap_seconds s.near s.head.glonass t.head.glonass is.glonass told in
-    let no_1012 : s.takes_1012 ≡ t.takes_1012 = is.no_1012 ∙ sym also.no_1012 in
+    one-glonass ss s.station (taken_pair found s.takes_1012) s.head.listed w.channels s.leap_seconds s.near s.head.glonass t.head.glonass is.glonass told in
     ap (λ (n : ℕ). setup_with n s.near s.head.marker s.head.listed s.head.glonass s.head.made s.window s.kinds s.leap_seconds s.takes_1012) station
     ∙ ap (λ (n : ℕ). setup_with t.station n s.head.marker s.head.listed s.head.glonass s.head.made s.window s.kinds s.leap_seconds s.takes_1012) near
     ∙ ap (λ (name : List ℕ). setup_with t.station t.near name s.head.listed s.head.glonass s.head.made s.window s.kinds s.leap_seconds s.takes_1012) marker
@@ -152,7 +186,7 @@ one-setup ss links w made s t is also =
     ∙ ap (λ (n : ℕ). setup_with t.station t.near t.head.marker t.head.listed t.head.glonass t.head.made n s.kinds s.leap_seconds s.takes_1012) window
     ∙ ap (λ (ks : SystemKinds). setup_with t.station t.near t.head.marker t.head.listed t.head.glonass t.head.made t.window ks s.leap_seconds s.takes_1012) kinds
     ∙ ap (λ (leap : Option ℕ). setup_with t.station t.near t.head.marker t.head.listed t.head.glonass t.head.made t.window t.kinds leap s.takes_1012) leap_seconds
-    ∙ ap (λ (is_asked : Bool). setup_with t.station t.near t.head.marker t.head.listed t.head.glonass t.head.made t.window t.kinds t.leap_seconds is_asked) no_1012
+    ∙ ap (λ (is_asked : Bool). setup_with t.station t.near t.head.marker t.head.listed t.head.glonass t.head.made t.window t.kinds t.leap_seconds is_asked) takes
 
 pub one-plan : OnePlan
 one-plan ss w made as_given s t links others skipped left strays strayed is also =
@@ -168,5 +202,51 @@ one-plan ss w made as_given s t links others skipped left strays strayed is also
 whole-second : (t : ℕ) → (t - t % 1000) % 1000 ≡ 0
 whole-second t = omega arith
 
+first-whole : (given : Option ℕ) (cs : List StationCapture) (near : ℕ) → IsNearOf given cs near → near % 1000 ≡ 0
+first-whole given cs near is = ap (λ (n : ℕ). n % 1000) is.2.2 ∙ whole-second is.2.0.first
+
+up-whole : (e : Ends) → middle_up e % 1000 ≡ 0
+up-whole e = omega arith
+
+down-whole : (e : Ends) → middle_down e % 1000 ≡ 0
+down-whole e = omega arith
+
+middle-whole : (e : Ends) (b : Bool) → (if b then middle_down e else middle_up e) % 1000 ≡ 0
+middle-whole e true = down-whole e
+middle-whole e false = up-whole e
+
+-- a moment that is kept or left
+kept-whole : (b : Bool) (t : ℕ) → t % 1000 ≡ 0 → IfSome (if b then Some t else None) (λ n. n % 1000 ≡ 0)
+kept-whole true t whole = whole
+kept-whole false t whole = tt
+
+left-whole : (b : Bool) (o : Option ℕ) → IfSome o (λ n. n % 1000 ≡ 0) → IfSome (if b then None else o) (λ n. n % 1000 ≡ 0)
+left-whole true o whole = tt
+left-whole false o whole = whole
+
+between-whole : (e : Ends) → IfSome (near_between e) (λ n. n % 1000 ≡ 0)
+between-whole e =
+    left-whole (nat_lt LAST_MS e.from || nat_lt LAST_MS e.until) (near_of_ends e)
+    (kept-whole (dates_ends e (middle_second e) && can_date (middle_second e)) (middle_second e) (middle-whole e (nat_lt (e.from + 43_200_000) (middle_up e))))
+
+reach-whole : (cs : List StationCapture) (ps : List (Option Placed)) (o : Option ℕ) → IfSome o (λ n. n % 1000 ≡ 0) → IfSome (near_in_reach cs ps o) (λ n. n % 1000 ≡ 0)
+reach-whole cs ps None whole = tt
+reach-whole cs ps (Some near) whole = left-whole (some_out_of_reach near cs ps) (Some near) whole
+
+other-whole : (ss : List CaptureSurvey) (given : Option ℕ) (station : ℕ) (seconds : Option ℕ) (first : ℕ) (other : Option ℕ) → IsNear1012 ss given station seconds first other
+    → IfSome other (λ n. n % 1000 ≡ 0)
+other-whole ss given station seconds first other is =
+    let cs : List StationCapture = captures_of ss station in
+    let e : Ends = ends_after station is.2.2.0 (record { from = is.2.0.from; until = is.2.0.until }) ss is.0 in
+    subst (λ (o : Option ℕ). IfSome o (λ n. n % 1000 ≡ 0)) (sym is.2.2.2) (reach-whole cs is.0 (near_between e) (between-whole e))
+
+chosen-whole : (takes : Bool) (first : ℕ) (other : Option ℕ) → first % 1000 ≡ 0 → IfSome other (λ n. n % 1000 ≡ 0) → near_chosen takes first other % 1000 ≡ 0
+chosen-whole false first other whole also = whole
+chosen-whole true first None whole also = whole
+chosen-whole true first (Some near) whole also = also
+
 pub near-whole : NearIsWholeSecond
-near-whole given cs near is = ap (λ (n : ℕ). n % 1000) is.2.2 ∙ whole-second is.2.0.first
+near-whole ss links w made s is =
+    ap (λ (n : ℕ). n % 1000) is.near_by
+    ∙ chosen-whole s.takes_1012 is.first is.other (first-whole w.near (captures_of ss s.station) is.first is.first_is)
+    (other-whole ss w.near s.station s.leap_seconds is.first is.other is.other_is)

@@ -1,17 +1,17 @@
 -- Why captures have no plan.
 use Rattle.std.proofs.Common.{◌≡◌, ◌∙◌, ℕ, List, [], None, Result, IsErrAnd, IfErr, Option, sym, ap, subst}
 use Rattle.std.proofs.lemmas.Result.{err_from_is_err_and}
-use Rattle.rtk_setup.specs.declared.system_kinds.SystemKinds.{SystemKinds}
 use Rattle.rtk_survey.specs.declared.survey.CaptureSurvey.{CaptureSurvey}
 use Rattle.rtk_captures.specs.CaptureCauses.{IfRefused}
 use Rattle.rtk_plan.specs.Causes.{FindsNoCode, IsSetupCause}
-use Rattle.rtk_plan.specs.Plan.{kinds_found, AreSystemsTaken, AreLeapSecondsOf}
+use Rattle.rtk_plan.specs.Plan.{kinds_found, AreSystemsTaken, AreLeapSecondsOf, IsNear1012, codes_taken_from}
 use Rattle.rtk_systems.specs.Values.{codes_in_captures}
 use Rattle.rtk_captures.specs.declared.refusal.PlanFault.{PlanFault}
 use Rattle.rtk_captures.specs.declared.refusal.PlanFault.TheVariants.{Refused, OutOfMemory}
 use Rattle.rtk_captures.specs.declared.refusal.Refusal.{Refusal}
 use Rattle.rtk_captures.specs.declared.refusal.Refusal.TheVariants.{NoCode}
 use Rattle.rtk_systems.specs.declared.system_flags.SystemFlags.{SystemFlags}
+use Rattle.rtk_systems.specs.declared.values.TakenMessages.{TakenMessages}
 use Rattle.rtk_plan.specs.declared.wanted.Wanted.{Wanted}
 
 -- a cause that is another one too
@@ -27,15 +27,15 @@ exit-also IsCause IsOther told r exits also refused =
     rw p.1 (subst (IfRefused IsOther) (sym p.2) (refused-also IsCause IsOther told also refused))
 
 -- no code of these systems is found
-pub no-code-of : (ss : List CaptureSurvey) (w : Wanted) (station : ℕ) (seconds : Option ℕ) (near : ℕ) (kinds : SystemKinds) (systems : SystemFlags) → AreSystemsTaken ss station w.systems seconds near systems
-    → (refusal : Refusal) → (refusal ≡ NoCode) × (w.codes ≡ None) × (codes_in_captures ss station systems kinds ≡ [])
-    → (refusal ≡ NoCode) × (w.codes ≡ None) × FindsNoCode ss kinds w station seconds near
-no-code-of ss w station seconds near kinds systems are refusal (is, none, empty) = (is, none, (systems, are, empty))
+pub no-code-of : (ss : List CaptureSurvey) (w : Wanted) (station : ℕ) (seconds : Option ℕ) (near : ℕ) (taken : TakenMessages) (systems : SystemFlags) → AreSystemsTaken ss station w.systems seconds near systems
+    → (refusal : Refusal) → (refusal ≡ NoCode) × (w.codes ≡ None) × (codes_in_captures ss station systems taken ≡ [])
+    → (refusal ≡ NoCode) × (w.codes ≡ None) × FindsNoCode ss taken w station seconds near
+no-code-of ss w station seconds near taken systems are refusal (is, none, empty) = (is, none, (systems, are, empty))
 
--- no code is found in the MSM of these kinds
-pub no-code-found : (ss : List CaptureSurvey) (links : List (List ℕ)) (w : Wanted) (station : ℕ) (seconds : Option ℕ) (near : ℕ) (kinds : SystemKinds) → kinds ≡ kinds_found w.msm ss links station
-    → AreLeapSecondsOf ss w station near seconds
-    → (refusal : Refusal) → (refusal ≡ NoCode) × (w.codes ≡ None) × FindsNoCode ss kinds w station seconds near → IsSetupCause ss links w station near refusal
-no-code-found ss links w station seconds near kinds same are refusal (is, none, found) =
+-- no code is found in the messages that are taken
+pub no-code-found : (ss : List CaptureSurvey) (links : List (List ℕ)) (w : Wanted) (station : ℕ) (seconds : Option ℕ) (near : ℕ) (other : Option ℕ) (taken : TakenMessages)
+    → taken ≡ codes_taken_from (kinds_found w.msm ss links station) other → AreLeapSecondsOf ss w station near seconds → IsNear1012 ss w.near station seconds near other
+    → (refusal : Refusal) → (refusal ≡ NoCode) × (w.codes ≡ None) × FindsNoCode ss taken w station seconds near → IsSetupCause ss links w station near refusal
+no-code-found ss links w station seconds near other taken same are dated refusal (is, none, found) =
     subst (λ (r : Refusal). IsSetupCause ss links w station near r) (sym is)
-    (none, (seconds, are, subst (λ (ks : SystemKinds). FindsNoCode ss ks w station seconds near) same found))
+    (none, (seconds, are, (other, dated, subst (λ (m : TakenMessages). FindsNoCode ss m w station seconds near) same found)))

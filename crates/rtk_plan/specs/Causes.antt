@@ -5,29 +5,30 @@ use Rattle.rtk_obs.specs.Dating.{IsReference}
 use Rattle.rtk_survey.specs.declared.survey.CaptureSurvey.{CaptureSurvey}
 use Rattle.rtk_captures.specs.declared.station_capture.StationCapture.{StationCapture}
 use Rattle.rtk_captures.specs.Linking.{AreLinksOf}
-use Rattle.rtk_plan.specs.Plan.{IsChosenStation, kinds_found, AreSystemsTaken, AreLeapSecondsOf}
+use Rattle.rtk_plan.specs.Plan.{IsChosenStation, kinds_found, AreSystemsTaken, AreLeapSecondsOf, IsNear1012, codes_taken_from}
 use Rattle.rtk_captures.specs.Dating.{captures_of, IsNearOf}
 use Rattle.rtk_captures.specs.Positions.{some_are_far}
 use Rattle.rtk_systems.specs.Values.{codes_in_captures}
 use Rattle.rtk_systems.specs.declared.system_flags.SystemFlags.{SystemFlags}
-use Rattle.rtk_setup.specs.declared.system_kinds.SystemKinds.{SystemKinds}
 use Rattle.rtk_captures.specs.declared.refusal.Refusal.{Refusal}
 use Rattle.rtk_captures.specs.declared.refusal.Refusal.TheVariants.{NoFrame, NoObservation, NoStation, SeveralStations, Empty, OutsideDates, NoCode, TooManyLinks, PositionsDiffer}
+use Rattle.rtk_systems.specs.declared.values.TakenMessages.{TakenMessages}
 use Rattle.rtk_plan.specs.declared.wanted.Wanted.{Wanted}
 use Rattle.rtk_captures.specs.CaptureCauses.{IsStationCause, IsEmptyCause, IsDatingCause}
 
 -- ---- the values of the conversion of a station
 
--- no code is found in the MSM of these kinds, of the systems that are taken with these leap seconds
-abbrev pub FindsNoCode : List CaptureSurvey → SystemKinds → Wanted → ℕ → Option ℕ → ℕ → Type 0
-FindsNoCode ss kinds w station seconds near =
-    (systems : SystemFlags) × AreSystemsTaken ss station w.systems seconds near systems × (codes_in_captures ss station systems kinds ≡ [])
+-- no code is found in messages that are taken, of the systems that are taken with these leap seconds
+abbrev pub FindsNoCode : List CaptureSurvey → TakenMessages → Wanted → ℕ → Option ℕ → ℕ → Type 0
+FindsNoCode ss taken w station seconds near =
+    (systems : SystemFlags) × AreSystemsTaken ss station w.systems seconds near systems × (codes_in_captures ss station systems taken ≡ [])
 
--- no codes are named, and none is found in the MSM of these links, near this moment
+-- no codes are named, and none is found in the MSM of these links, and in 1012 if these can be dated, near this moment
 abbrev pub HasNoCode : List CaptureSurvey → List (List ℕ) → Wanted → ℕ → ℕ → Type 0
 HasNoCode ss links w station near =
     (w.codes ≡ None) × ((seconds : Option ℕ) × AreLeapSecondsOf ss w station near seconds
-    × FindsNoCode ss (kinds_found w.msm ss links station) w station seconds near)
+    × ((other : Option ℕ) × IsNear1012 ss w.near station seconds near other
+    × FindsNoCode ss (codes_taken_from (kinds_found w.msm ss links station) other) w station seconds near))
 
 -- the same near the moment near which captures are dated
 abbrev pub HasNoCodeNear : List CaptureSurvey → List (List ℕ) → Wanted → ℕ → List StationCapture → Type 0

@@ -26,6 +26,7 @@ use Rattle.rtk_captures.specs.CaptureNames.{capture_name, lines_by}
 use Rattle.rtk_systems.specs.ClockOffsets.{told_clock_lines}
 use Rattle.rtk_plan.specs.FewPhases.{has_few_phases}
 use Rattle.rtk_plan.specs.LeapLines.{other_leap_lines}
+use Rattle.rtk_plan.specs.Plan.{taken_messages}
 use Rattle.rtk_survey.specs.Surveys.{places_of}
 use Rattle.rtk_captures.specs.Lists.{date_line, to_come_line, undated_line, stray_line, capture_line, name_line}
 use Rattle.rtk_systems.specs.MessageLines.{obs_1004_line, msm_lines, doppler_line, sbas_line, all_unread}
@@ -37,6 +38,7 @@ use Rattle.rtk_captures.specs.WaitingDates.{dates_without_epoch}
 use Rattle.rtk_plan.specs.OtherEquipment.{equipment_notes}
 use Rattle.rtk_systems.specs.ToldChannels.{told_channel_lines}
 use Rattle.rtk_systems.specs.UncheckedSystems.{unchecked_system_lines}
+use Rattle.rtk_systems.specs.Values.{is_1012_given}
 use Rattle.rtk_plan.specs.WrittenFile.{written_span, gap_lines}
 use Rattle.rtk_plan.specs.declared.known_lines.Known.{Known}
 use Rattle.rtk_plan.specs.declared.planning.Plan.{Plan}
@@ -169,7 +171,7 @@ lines_before_late names ss plan told =
     ++ all_other_dates names plan.setup.station plan.setup.near ss
     ++ clock_lines_of names ss plan
     ++ few_phases_lines ss plan.setup.station plan.setup.kinds.gps plan.setup.head.listed
-    ++ told_channel_lines ss plan.setup.station plan.setup.kinds.glonass plan.own_channels plan.setup.head.glonass
+    ++ told_channel_lines ss plan.setup.station (taken_messages plan.setup) plan.own_channels plan.setup.head.glonass
     ++ equipment_notes names ss plan.setup.station told
     ++ stray_lines names plan.span.until plan.strays.items
 
@@ -219,21 +221,25 @@ abbrev pub epochs_lines : List (Bor (List ℕ)) → List StationCapture → List
 epochs_lines names cs links = flat_map (epochs_lines_of names cs) links
 
 -- the observations of a station that are not taken, if these messages are; the flags say whether 1004 are, and
--- satellites of SBAS in them
-unfoldable pub not_taken_by : Accepted → Bool → Bool → List CaptureSurvey → ℕ → List ℕ
-not_taken_by taken has_1004 has_sbas ss station =
+-- satellites of SBAS in them, and whether 1012 are left out since they can't be dated
+unfoldable pub not_taken_by : Accepted → Bool → Bool → Bool → List CaptureSurvey → ℕ → List ℕ
+not_taken_by taken has_1004 has_sbas is_long ss station =
     obs_1004_line has_1004 ss station ++ msm_lines taken ss station ++ doppler_line taken ss station ++ sbas_line has_sbas ss station
-    ++ all_unread taken ss
+    ++ all_unread is_long taken ss
 
--- those that a conversion does not take
-abbrev pub not_taken : List CaptureSurvey → SetupView → List ℕ
-not_taken ss s = not_taken_by (taken_by s) (takes_1004 s) (lists_system s.head.listed Sbas) ss s.station
+-- GLONASS is asked for and a 1012 of the station has a value, but there is no moment near which 1012 are dated right
+abbrev pub leaves_long : List CaptureSurvey → Plan → Bool
+leaves_long ss plan = plan.asked.glonass && (not plan.has_near_1012 && is_1012_given ss plan.setup.station)
+
+-- those that a conversion does not take; 1012 may be left out since they can't be dated
+abbrev pub not_taken : List CaptureSurvey → Bool → SetupView → List ℕ
+not_taken ss is_long s = not_taken_by (taken_by s) (takes_1004 s) (lists_system s.head.listed Sbas) is_long ss s.station
 
 unfoldable pub lines_behind_late : List (Bor (List ℕ)) → List CaptureSurvey → Plan → List ℕ
 lines_behind_late names ss plan =
     skipped_lines names plan.captures.items plan.skipped.items
     ++ epochs_lines names plan.captures.items (places_of plan.links.items)
-    ++ not_taken ss plan.setup
+    ++ not_taken ss (leaves_long ss plan) plan.setup
 
 -- ---- the links with a stray epoch
 

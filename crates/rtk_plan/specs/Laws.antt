@@ -6,7 +6,7 @@ use Rattle.rtk_survey.specs.declared.survey.CaptureSurvey.{CaptureSurvey}
 use Rattle.rtk_plan.specs.KnownLines.{skipped_line, lines_behind_late, known_lines}
 use Rattle.rtk_captures.specs.Kept.{is_heard_at, empty_captures}
 use Rattle.rtk_captures.specs.Linking.{AreLinksOf}
-use Rattle.rtk_captures.specs.Dating.{captures_of, IsNearOf, AreStrays}
+use Rattle.rtk_captures.specs.Dating.{captures_of, AreStrays}
 use Rattle.rtk_plan.specs.Plan.{IsSetupFor}
 use Rattle.rtk_plan.specs.declared.known_lines.Known.{Known}
 use Rattle.rtk_plan.specs.declared.planning.Plan.{Plan}
@@ -31,7 +31,7 @@ OnePlan = (ss : List CaptureSurvey) (w : Wanted) (made : ℕ) (as_given : Bool) 
 -- the moment near which a plan dates is a whole second, so the command that is said, which tells seconds, tells
 -- all of it
 abbrev pub NearIsWholeSecond : Type 0
-NearIsWholeSecond = (given : Option ℕ) (cs : List StationCapture) (near : ℕ) → IsNearOf given cs near → near % 1000 ≡ 0
+NearIsWholeSecond = (ss : List CaptureSurvey) (links : List (List ℕ)) (w : Wanted) (made : ℕ) (s : SetupView) → IsSetupFor ss links w made s → s.near % 1000 ≡ 0
 
 -- ---- which captures are taken
 

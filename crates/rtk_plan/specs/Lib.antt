@@ -4,11 +4,13 @@ pub mod KnownLines
 pub mod LabelCommand
 pub mod Laws
 pub mod LeapLines
+pub mod Near1012
 pub mod OtherEquipment
 pub mod Plan
 pub mod Reported
 pub mod SaidCommand
 pub mod SatelliteMarks
+pub mod Steps
 pub mod TextsLeftOut
 pub mod ToldLabel
 pub mod WrittenFile

@@ -1,9 +1,10 @@
 -- What a conversion is told, by the surveys of captures and by what words say (this project's rule).
-use Rattle.std.specs.Prelude.{◌≡◌, ℕ, false, List, Option, None, Some}
+use Rattle.std.specs.Prelude.{◌≡◌, ℕ, Bool, ◌&&◌, is_some, List, Option, None, Some, unwrap_or, if◌then◌else◌}
 use Rattle.std.specs.declared.vec.Vec.{Vec}
 use Rattle.rtk_message.specs.declared.msm_kind.MsmKind.{MsmKind}
 use Rattle.rtk_obs.specs.declared.any_code.AnyCode.{AnyCode}
 use Rattle.rtk_obs.specs.CivilText.{last_digits}
+use Rattle.rtk_rinex.specs.MixedHead.{has_glonass}
 use Rattle.rtk_setup.specs.Setup.{SetupView, all_of}
 use Rattle.rtk_setup.specs.declared.system_kinds.SystemKinds.{SystemKinds}
 use Rattle.rtk_survey.specs.declared.survey.CaptureSurvey.{CaptureSurvey}
@@ -12,10 +13,12 @@ use Rattle.rtk_systems.specs.declared.system_flags.SystemFlags.{SystemFlags}
 use Rattle.rtk_captures.specs.declared.span_line.DatedSpan.{DatedSpan}
 use Rattle.rtk_systems.specs.ClockOffsets.{systems_with_clocks}
 use Rattle.rtk_systems.specs.FoundSeconds.{asks_glonass, AreSecondsOfSetup}
+use Rattle.rtk_plan.specs.Near1012.{ends_after, near_between}
 use Rattle.rtk_systems.specs.SlotChannels.{AreSecondsChosen, IsGlonassFound}
 use Rattle.rtk_systems.specs.SystemFlags.{in_both, flags_listed}
 use Rattle.rtk_systems.specs.SystemMsms.{kinds_listed}
-use Rattle.rtk_systems.specs.Values.{kinds_in_links, codes_in_captures}
+use Rattle.rtk_systems.specs.Values.{kinds_in_links, codes_in_captures, is_1012_given}
+use Rattle.rtk_systems.specs.declared.values.TakenMessages.{TakenMessages}
 use Rattle.rtk_plan.specs.declared.wanted.Wanted.{Wanted}
 use Rattle.rtk_captures.specs.Dating.{IsNearOf, IsSpanOf, captures_of}
 
@@ -30,10 +33,10 @@ abbrev pub kinds_found : Option MsmKind → List CaptureSurvey → List (List �
 kinds_found None ss links station = kinds_in_links ss links station
 kinds_found (Some named) ss links station = all_of named
 
--- the codes that are named; else all of these systems of which the station has a value in the MSM of these kinds
-abbrev pub codes_chosen : {A : Type 0} → Option (Vec AnyCode A) → List CaptureSurvey → ℕ → SystemFlags → SystemKinds → List AnyCode
-codes_chosen None ss station systems kinds = codes_in_captures ss station systems kinds
-codes_chosen (Some named) ss station systems kinds = named.items
+-- the codes that are named; else all of these systems of which the station has a value in the messages that are taken
+abbrev pub codes_chosen : {A : Type 0} → Option (Vec AnyCode A) → List CaptureSurvey → ℕ → SystemFlags → TakenMessages → List AnyCode
+codes_chosen None ss station systems taken = codes_in_captures ss station systems taken
+codes_chosen (Some named) ss station systems taken = named.items
 
 -- the systems that are wanted, but for those whose clocks are wrong by these leap seconds, or else by those of the table
 -- at this moment
@@ -42,9 +45,9 @@ AreSystemsTaken ss station wanted seconds near systems =
     (n : ℕ) × AreSecondsChosen seconds near n × (systems ≡ in_both wanted (systems_with_clocks ss station n))
 
 -- the codes that are named; else those of the systems that are taken
-abbrev pub AreCodesChosen : Wanted → List CaptureSurvey → ℕ → Option ℕ → ℕ → SystemKinds → List AnyCode → Type 0
-AreCodesChosen w ss station seconds near kinds listed =
-    (systems : SystemFlags) × AreSystemsTaken ss station w.systems seconds near systems × (listed ≡ codes_chosen w.codes ss station systems kinds)
+abbrev pub AreCodesChosen : Wanted → List CaptureSurvey → ℕ → Option ℕ → ℕ → TakenMessages → List AnyCode → Type 0
+AreCodesChosen w ss station seconds near taken listed =
+    (systems : SystemFlags) × AreSystemsTaken ss station w.systems seconds near systems × (listed ≡ codes_chosen w.codes ss station systems taken)
 
 -- the systems that are asked for: those that are wanted; if codes are named those of the codes that are listed
 abbrev pub systems_asked : {A : Type 0} → Option (Vec AnyCode A) → SystemFlags → List AnyCode → SystemFlags
@@ -63,16 +66,70 @@ AreLeapSecondsOf ss w station near seconds =
     (span : DatedSpan) × IsSpanOf w.near (captures_of ss station) station span
     × AreSecondsOfSetup w.leap_seconds (asks_glonass w.codes w.systems) ss station near span.from span.until seconds
 
+-- the leap seconds by which clocks are compared: those of the setup, else those of the table at the first moment
+abbrev pub AreSecondsCompared : Option ℕ → List StationCapture → Option ℕ → ℕ → Type 0
+AreSecondsCompared given cs seconds n = (first : ℕ) × IsNearOf given cs first × AreSecondsChosen seconds first n
+
+-- ---- 1012
+
+-- the moment, if a conversion near it dates all epochs of the captures as they are dated here
+abbrev pub near_in_reach : List StationCapture → List (Option Placed) → Option ℕ → Option ℕ
+near_in_reach cs ps None = None
+near_in_reach cs ps (Some near) = if some_out_of_reach near cs ps then None else Some near
+
+-- the moment near which 1012 of captures that are dated so are dated right, with so many leap seconds, if there is one; the
+-- first and the last epoch are these
+abbrev pub near_with_1012 : List CaptureSurvey → ℕ → ℕ → List StationCapture → List (Option Placed) → ℕ → ℕ → Option ℕ
+near_with_1012 ss station seconds cs ps from until =
+    near_in_reach cs ps (near_between (ends_after station seconds (record { from = from; until = until }) ss ps))
+
+-- the same of captures that are dated near a moment that is given, or by what they tell; with these leap seconds, else with
+-- those of the table at this moment, the first one
+abbrev pub IsNear1012 : List CaptureSurvey → Option ℕ → ℕ → Option ℕ → ℕ → Option ℕ → Type 0
+IsNear1012 ss given station seconds first near =
+    (placed : List (Option Placed)) × ArePlaced given (captures_of ss station) placed
+    × ((span : DatedSpan) × IsSpanOf given (captures_of ss station) station span
+    × ((n : ℕ) × AreSecondsChosen seconds first n
+    × (near ≡ near_with_1012 ss station n (captures_of ss station) placed span.from span.until)))
+
+-- the messages of which a setup takes values
+abbrev pub taken_messages : SetupView → TakenMessages
+taken_messages s = record { kinds = s.kinds; obs1012 = s.takes_1012 }
+
+-- those of which codes are taken: 1012 too, if there is such a moment
+abbrev pub codes_taken_from : SystemKinds → Option ℕ → TakenMessages
+codes_taken_from kinds near = record { kinds = kinds; obs1012 = is_some near }
+
+-- 1012 are converted: there is such a moment, a code of GLONASS is listed, and some 1012 of the station has a value
+abbrev pub converts_1012 : List CaptureSurvey → ℕ → List AnyCode → Option ℕ → Bool
+converts_1012 ss station listed near = is_some near && (has_glonass listed && is_1012_given ss station)
+
+-- the moment near which a conversion dates: with 1012 that one, else the first one
+abbrev pub near_chosen : Bool → ℕ → Option ℕ → ℕ
+near_chosen is_taken first near = if is_taken then unwrap_or near first else first
+
+-- whether there is such a moment
+abbrev pub HasNear1012 : List CaptureSurvey → Option ℕ → ℕ → Option ℕ → Bool → Type 0
+HasNear1012 ss given station seconds has =
+    (first : ℕ) × IsNearOf given (captures_of ss station) first
+    × ((near : Option ℕ) × IsNear1012 ss given station seconds first near × (has ≡ is_some near))
+
+-- ---- all of it
+
 -- the setup of a conversion of captures with these surveys on these links, by these words and at this time of
--- making: each value is named or found
+-- making: each value is named or found. The moment of the first epoch dates all but 1012, which may have another one
 pub record IsSetupFor (ss : List CaptureSurvey) (links : List (List ℕ)) (w : Wanted) (made : ℕ) (s : SetupView) : Type 0 where
+  pub first : ℕ
+  pub first_is : IsNearOf w.near (captures_of ss s.station) first
+  pub other : Option ℕ
+  pub other_is : IsNear1012 ss w.near s.station s.leap_seconds first other
   pub station : IsChosenStation ss w.station s.station
   pub kinds : s.kinds ≡ kinds_listed (kinds_found w.msm ss links s.station) s.head.listed
-  pub listed : AreCodesChosen w ss s.station s.leap_seconds s.near (kinds_found w.msm ss links s.station) s.head.listed
+  pub listed : AreCodesChosen w ss s.station s.leap_seconds first (codes_taken_from (kinds_found w.msm ss links s.station) other) s.head.listed
   pub marker : s.head.marker ≡ marker_chosen w.marker s.station
   pub made_at : s.head.made ≡ made
   pub window : s.window ≡ w.window
-  pub glonass : IsGlonassFound ss s.station (kinds_found w.msm ss links s.station) s.head.listed w.channels s.leap_seconds s.near s.head.glonass
-  pub leap_seconds : AreLeapSecondsOf ss w s.station s.near s.leap_seconds
-  pub no_1012 : s.takes_1012 ≡ false
-  pub near_by : IsNearOf w.near (captures_of ss s.station) s.near
+  pub glonass : IsGlonassFound ss s.station (record { kinds = kinds_found w.msm ss links s.station; obs1012 = s.takes_1012 }) s.head.listed w.channels s.leap_seconds s.near s.head.glonass
+  pub leap_seconds : AreLeapSecondsOf ss w s.station first s.leap_seconds
+  pub with_1012 : s.takes_1012 ≡ converts_1012 ss s.station s.head.listed other
+  pub near_by : s.near ≡ near_chosen s.takes_1012 first other

@@ -4,6 +4,7 @@
 
 ghost use Rattle.std.specs.Prelude.{◌≡◌, ◌++◌, IfOk, OnOk};
 ghost use Rattle.rtk_plan.specs.KnownLines as spec;
+ghost use Rattle.rtk_plan.specs.Plan.{taken_messages};
 ghost use Rattle.rtk_survey.specs.Surveys.{places_of};
 ghost use Rattle.rtk_systems.specs.ToldChannels.{told_channel_lines};
 
@@ -13,14 +14,15 @@ use crate::other_equipment::put_equipment_notes;
 use crate::phase_lines::put_few_phases_in;
 use crate::planning::Plan;
 use crate::reported::Reported;
+use crate::station_setup::taken_by_setup;
 use crate::written_file::{Step, WrittenFile};
 use rtk_captures::{Captures, DateSource, DatedSpan, put_no_position, put_span};
 use rtk_message::{Accepted, put_named};
 use rtk_setup::{Counts, Setup};
 use rtk_survey::{CaptureSurvey, Equipment};
 use rtk_systems::{
-    put_channel_lines, put_doppler, put_msms, put_obs_1004, put_sbas, put_told_clocks,
-    put_unchecked, put_unread,
+    is_1012_given, put_channel_lines, put_doppler, put_msms, put_obs_1004, put_sbas,
+    put_told_clocks, put_unchecked, put_unread,
 };
 use std::alloc::{AllocError, Global};
 
@@ -149,16 +151,16 @@ fn put_channels_in(
     plan: &Plan,
 ) -> Result<(), AllocError>
     ensures { OnOk result (lines.new.items ≡ lines.old.items
-        ++ told_channel_lines surveys.now plan.now.setup.station plan.now.setup.kinds.glonass plan.now.own_channels plan.now.setup.head.glonass) }
+        ++ told_channel_lines surveys.now plan.now.setup.station (taken_messages plan.now.setup) plan.now.own_channels plan.now.setup.head.glonass) }
 {
     let setup = &plan.setup;
-    let kind = setup.kinds().glonass;
+    let taken = taken_by_setup(setup);
     let own = &plan.own_channels;
     put_channel_lines(
         lines,
         surveys,
         setup.station(),
-        kind,
+        taken,
         own,
         setup.head().glonass(),
     )?;
@@ -196,29 +198,46 @@ fn put_not_taken(
     taken: Accepted,
     has_1004: bool,
     has_sbas: bool,
+    is_long: bool,
 ) -> Result<(), AllocError>
-    ensures { OnOk result (lines.new.items ≡ lines.old.items ++ spec.not_taken_by taken has_1004 has_sbas surveys.now station) }
+    ensures { OnOk result (lines.new.items ≡ lines.old.items ++ spec.not_taken_by taken has_1004 has_sbas is_long surveys.now station) }
 {
     put_obs_1004(lines, surveys, station, has_1004)?;
     put_msms(lines, surveys, station, taken)?;
     put_doppler(lines, surveys, station, taken)?;
     put_sbas(lines, surveys, station, has_sbas)?;
-    put_unread(lines, surveys, taken)?;
+    put_unread(lines, surveys, is_long, taken)?;
     Ok(())
 }
 
-// Appends the observations that a conversion does not take.
+// Are 1012 of the station left out, since there is no moment near which they are dated right?
+fn leaves_long(surveys: &[CaptureSurvey], plan: &Plan) -> bool
+    ensures { result ≡ spec.leaves_long surveys.now plan.now }
+{
+    plan.asked.glonass && (!plan.has_near_1012 && is_1012_given(surveys, plan.setup.station()))
+}
+
+// Appends the observations that a conversion does not take; 1012 may be left out since they can't be dated.
 fn put_not_taken_in(
     lines: &mut Vec<u8>,
     surveys: &[CaptureSurvey],
+    is_long: bool,
     setup: &Setup,
 ) -> Result<(), AllocError>
-    ensures { OnOk result (lines.new.items ≡ lines.old.items ++ spec.not_taken surveys.now setup.now) }
+    ensures { OnOk result (lines.new.items ≡ lines.old.items ++ spec.not_taken surveys.now is_long setup.now) }
 {
     let taken = setup.accepted();
     let has_1004 = setup.takes_1004();
     let has_sbas = setup.takes_sbas();
-    put_not_taken(lines, surveys, setup.station(), taken, has_1004, has_sbas)?;
+    put_not_taken(
+        lines,
+        surveys,
+        setup.station(),
+        taken,
+        has_1004,
+        has_sbas,
+        is_long,
+    )?;
     Ok(())
 }
 
@@ -249,7 +268,8 @@ fn put_last_lines(
         ++ spec.lines_behind_late captures.now.names.now captures.now.surveys.now plan.now) }
 {
     put_captures_in(lines, captures, plan)?;
-    put_not_taken_in(lines, captures.surveys, &plan.setup)?;
+    let is_long = leaves_long(captures.surveys, plan);
+    put_not_taken_in(lines, captures.surveys, is_long, &plan.setup)?;
     Ok(())
 }
 

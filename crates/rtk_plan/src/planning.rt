@@ -8,11 +8,12 @@ ghost use Rattle.rtk_captures.specs.Kept.{empty_captures};
 ghost use Rattle.rtk_survey.specs.Surveys.{places_of};
 ghost use Rattle.rtk_captures.specs.Linking.{AreLinksOf};
 ghost use Rattle.rtk_captures.specs.Positions.{some_are_far};
-ghost use Rattle.rtk_plan.specs.Plan.{IsChosenStation, IsSetupFor, systems_asked};
+ghost use Rattle.rtk_plan.specs.Plan.{IsChosenStation, AreSecondsCompared, HasNear1012, IsSetupFor, systems_asked, taken_messages};
 ghost use Rattle.rtk_captures.specs.Dating.{captures_of, ArePlaced, AreStrays, IsSpanOf, IsInReach};
-ghost use Rattle.rtk_systems.specs.SlotChannels.{AreSecondsChosen, AreOwnChannels};
+ghost use Rattle.rtk_systems.specs.SlotChannels.{AreOwnChannels};
 
-use crate::setup_seconds::seconds_of;
+use crate::near_1012::near_1012;
+use crate::setup_seconds::{seconds_chosen, seconds_of_setup};
 use crate::station_setup::{own_channels_in, setup_near, systems_asked};
 use crate::wanted::Wanted;
 use rtk_captures::{
@@ -47,6 +48,8 @@ pub struct Plan {
     pub leap_seconds: u8,
     /// The channels of slots of GLONASS that messages of the station tell.
     pub own_channels: Channels,
+    /// Is there a moment near which 1012 are dated right? They tell no day, so the epochs have to lie within a day.
+    pub has_near_1012: bool,
 }
 
 // The plan of a station, but for what its captures tell.
@@ -57,6 +60,8 @@ struct Planned {
     links: Vec<Vec<usize>>,
     skipped: Vec<usize>,
     strays: Vec<usize>,
+    leap_seconds: u8,
+    has_near_1012: bool,
 }
 
 // The station that is named, if it has observations.
@@ -188,6 +193,8 @@ fn plan_of_station(
     ensures none_skipped { IfOk result (λ plan. skip_empty ≡ false → plan.skipped.items ≡ []) }
     ensures strays { IfOk result (λ plan. AreStrays wanted.now.near captured.now.captures.now plan.strays.items) }
     ensures span { IfOk result (λ plan. IsSpanOf wanted.now.near captured.now.captures.now captured.now.station plan.span) }
+    ensures leap_seconds { IfOk result (λ plan. AreSecondsCompared wanted.now.near captured.now.captures.now plan.setup.leap_seconds plan.leap_seconds) }
+    ensures has_near_1012 { IfOk result (λ plan. HasNear1012 captured.now.all.surveys.now wanted.now.near captured.now.station plan.setup.leap_seconds plan.has_near_1012) }
     ensures refused { IfErr result (IfRefused (IsCaptureCause captured.now.all.surveys.now wanted.now skip_empty as_given
         captured.now.station captured.now.captures.now)) }
 {
@@ -201,15 +208,19 @@ fn plan_of_station(
         dating.placed.as_slice(),
         as_given,
     )?;
+    let (station, near, span) = (captured.station, dating.near, &dating.span);
+    let seconds = seconds_of_setup(alloc, surveys, station, wanted, near, span)?;
+    let other = near_1012(captured, wanted.near, &dating, &seconds);
     let setup = setup_near(
         alloc,
         surveys,
         links.as_slice(),
         wanted,
         made,
-        captured.station,
-        dating.near,
-        &dating.span,
+        station,
+        near,
+        &seconds,
+        &other,
     )?;
     limit_links(alloc, captured, links.as_slice())?;
     agree_unless(alloc, captured, as_given)?;
@@ -219,6 +230,8 @@ fn plan_of_station(
         links,
         skipped,
         strays: dating.strays,
+        leap_seconds: seconds_chosen(&seconds, near),
+        has_near_1012: other.is_some(),
     })
 }
 
@@ -236,8 +249,9 @@ pub fn plan_of(
     ensures setup { IfOk result (λ plan. IsSetupFor captures.now.surveys.now (places_of plan.links.items) wanted.now made plan.setup) }
     ensures captures { IfOk result (λ plan. plan.captures.items ≡ captures_of captures.now.surveys.now plan.setup.station) }
     ensures asked { IfOk result (λ plan. plan.asked ≡ systems_asked wanted.now.codes wanted.now.systems plan.setup.head.listed) }
-    ensures own_channels { IfOk result (λ plan. AreOwnChannels captures.now.surveys.now plan.setup.station plan.setup.kinds.glonass plan.own_channels) }
-    ensures leap_seconds { IfOk result (λ plan. AreSecondsChosen plan.setup.leap_seconds plan.setup.near plan.leap_seconds) }
+    ensures own_channels { IfOk result (λ plan. AreOwnChannels captures.now.surveys.now plan.setup.station (taken_messages plan.setup) plan.own_channels) }
+    ensures leap_seconds { IfOk result (λ plan. AreSecondsCompared wanted.now.near plan.captures.items plan.setup.leap_seconds plan.leap_seconds) }
+    ensures has_near_1012 { IfOk result (λ plan. HasNear1012 captures.now.surveys.now wanted.now.near plan.setup.station plan.setup.leap_seconds plan.has_near_1012) }
     ensures in_reach { IfOk result (λ plan. IsInReach wanted.now.near plan.captures.items plan.setup.near) }
     ensures links { IfOk result (λ plan. AreLinksOf as_given wanted.now.near plan.captures.items (places_of plan.links.items)) }
     ensures few_links { IfOk result (λ plan. length plan.links.items ≤ 16) }
@@ -262,7 +276,6 @@ pub fn plan_of(
     };
     let plan = plan_of_station(alloc, &captured, wanted, made, skip_empty, as_given)?;
     let asked = systems_asked(wanted, &plan.setup);
-    let leap_seconds = seconds_of(&plan.setup);
     let own_channels = own_channels_in(captures.surveys, &plan.setup);
     Ok(Plan {
         setup: plan.setup,
@@ -272,7 +285,8 @@ pub fn plan_of(
         strays: plan.strays,
         captures: of_station,
         asked,
-        leap_seconds,
+        leap_seconds: plan.leap_seconds,
         own_channels,
+        has_near_1012: plan.has_near_1012,
     })
 }

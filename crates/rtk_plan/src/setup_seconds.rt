@@ -10,7 +10,7 @@ ghost use Rattle.rtk_systems.specs.SlotChannels.{AreSecondsChosen};
 use crate::wanted::Wanted;
 use rtk_captures::DatedSpan;
 use rtk_obs::{AnyCode, GpsMs, leap_seconds_at};
-use rtk_setup::{LeapSeconds, Setup};
+use rtk_setup::LeapSeconds;
 use rtk_survey::CaptureSurvey;
 use rtk_systems::seconds_in_captures;
 use std::alloc::{AllocError, Global};
@@ -24,22 +24,6 @@ pub(crate) fn seconds_chosen(given: &Option<LeapSeconds>, near: GpsMs) -> u8
         Some(given) => given.number(),
         None => leap_seconds_at(near),
     }
-}
-
-fn seconds_at(given: Option<u8>, near: GpsMs) -> u8
-    ensures { AreSecondsChosen given near result }
-{
-    match given {
-        Some(given) => given,
-        None => leap_seconds_at(near),
-    }
-}
-
-/// The leap seconds of a setup, else those of the table at the moment near which it dates.
-pub(crate) fn seconds_of(setup: &Setup) -> u8
-    ensures { AreSecondsChosen setup.now.leap_seconds setup.now.near result }
-{
-    seconds_at(setup.leap_seconds(), setup.near())
 }
 
 /// Is a listed code of GLONASS?

@@ -1,30 +1,31 @@
 //! What the conversion of a station is told: the MSM and the codes of each system, and the head of the file.
 
-ghost use Rattle.std.specs.Prelude.{◌≡◌, ◌<◌, ◌≤◌, None, [], false, IfOk, IfErr};
+ghost use Rattle.std.specs.Prelude.{◌≡◌, ◌<◌, ◌≤◌, None, [], false, IfOk, IfErr, IfSome};
 ghost use Rattle.std.specs.Option.{ForSome};
 ghost use Rattle.rtk_obs.specs.CivilText.{last_digits};
 ghost use Rattle.rtk_rinex.specs.MixedHead.{IsGlonassView, IsMixedList, TellsGlonass, has_glonass};
 ghost use Rattle.rtk_captures.specs.CaptureCauses.{IfRefused};
 ghost use Rattle.rtk_plan.specs.Causes.{FindsNoCode, IsSetupCause};
 ghost use Rattle.rtk_survey.specs.Surveys.{places_of};
-ghost use Rattle.rtk_plan.specs.Plan.{IsChosenStation, kinds_found, AreSystemsTaken, AreCodesChosen, systems_asked, marker_chosen, IsSetupFor};
-ghost use Rattle.rtk_captures.specs.Dating.{captures_of, IsNearOf, IsSpanOf};
+ghost use Rattle.rtk_plan.specs.Plan.{IsChosenStation, kinds_found, AreSystemsTaken, AreCodesChosen, AreLeapSecondsOf, systems_asked, marker_chosen, converts_1012, near_chosen, taken_messages, codes_taken_from, IsNear1012, IsSetupFor};
+ghost use Rattle.rtk_captures.specs.Dating.{captures_of, IsInReach, IsNearOf};
 ghost use Rattle.rtk_systems.specs.SlotChannels.{AreChannelsChosen, AreOwnChannels, AreSecondsChosen, IsGlonassOf, IsGlonassFound};
 ghost use Rattle.rtk_systems.specs.SystemMsms as msms;
+ghost use Rattle.rtk_plan.specs.Steps.SetupParts.{HasSetupParts};
 ghost use Rattle.rtk_plan.specs.Plan.{codes_chosen};
 ghost use Rattle.rtk_systems.specs.Values.{codes_in_captures};
 
-use crate::setup_seconds::{has_glonass, seconds_chosen, seconds_of_setup};
+use crate::setup_seconds::{has_glonass, seconds_chosen};
 use crate::wanted::Wanted;
-use rtk_captures::{DatedSpan, PlanFault, Refusal, refused};
+use rtk_captures::{PlanFault, Refusal, refused};
 use rtk_message::{MsmKind, System};
 use rtk_obs::{AnyCode, Channels, GpsMs};
 use rtk_rinex::{CreationTime, Glonass, Marker, MixedHead};
 use rtk_setup::{LeapSeconds, Reference, Setup, Station, SystemKinds, Window};
 use rtk_survey::CaptureSurvey;
 use rtk_systems::{
-    SystemFlags, channels_found, codes_in_captures, kinds_in_links, kinds_listed, list_held,
-    own_channels, systems_with_clocks,
+    SystemFlags, TakenMessages, channels_found, channels_joined, codes_in_captures, is_1012_given,
+    kinds_in_links, kinds_listed, list_held, own_channels, systems_with_clocks,
 };
 use std::alloc::{AllocError, Global};
 
@@ -64,19 +65,19 @@ fn codes_of_systems(
     surveys: &[CaptureSurvey],
     station: u16,
     systems: SystemFlags,
-    kinds: SystemKinds,
+    taken: TakenMessages,
     wanted: &Option<Vec<AnyCode>>,
 ) -> Result<Vec<AnyCode>, PlanFault>
     requires { ForSome wanted.now (λ codes. IsMixedList codes.items) }
-    ensures codes { IfOk result (λ codes. codes.items ≡ codes_chosen wanted.now surveys.now station systems kinds) }
+    ensures codes { IfOk result (λ codes. codes.items ≡ codes_chosen wanted.now surveys.now station systems taken) }
     ensures good { IfOk result (λ codes. IsMixedList codes.items) }
     ensures refused { IfErr result (IfRefused (λ refusal. (refusal ≡ Refusal.NoCode) × (wanted.now ≡ None)
-        × (codes_in_captures surveys.now station systems kinds ≡ []))) }
+        × (codes_in_captures surveys.now station systems taken ≡ []))) }
 {
     if let Some(codes) = wanted {
         return Ok(Vec::from_slice(alloc, codes.as_slice())?);
     }
-    let codes = codes_in_captures(alloc, surveys, station, systems, kinds)?;
+    let codes = codes_in_captures(alloc, surveys, station, systems, taken)?;
     if codes.is_empty() {
         return refused(Refusal::NoCode, list_held(alloc, surveys)?);
     }
@@ -88,18 +89,18 @@ fn codes_to_convert(
     alloc: Global,
     surveys: &[CaptureSurvey],
     station: u16,
-    kinds: SystemKinds,
+    taken: TakenMessages,
     wanted: &Wanted,
     seconds: &Option<LeapSeconds>,
     near: GpsMs,
 ) -> Result<Vec<AnyCode>, PlanFault>
-    ensures codes { IfOk result (λ codes. AreCodesChosen wanted.now surveys.now station seconds.now near kinds codes.items) }
+    ensures codes { IfOk result (λ codes. AreCodesChosen wanted.now surveys.now station seconds.now near taken codes.items) }
     ensures good { IfOk result (λ codes. IsMixedList codes.items) }
     ensures refused { IfErr result (IfRefused (λ refusal. (refusal ≡ Refusal.NoCode) × (wanted.now.codes ≡ None)
-        × FindsNoCode surveys.now kinds wanted.now station seconds.now near)) }
+        × FindsNoCode surveys.now taken wanted.now station seconds.now near)) }
 {
     let systems = systems_taken(alloc, surveys, station, wanted.systems, seconds, near)?;
-    let codes = codes_of_systems(alloc, surveys, station, systems, kinds, &wanted.codes)?;
+    let codes = codes_of_systems(alloc, surveys, station, systems, taken, &wanted.codes)?;
     Ok(codes)
 }
 
@@ -133,41 +134,53 @@ fn marker_of(station: u16, marker: &Option<Marker>) -> Marker
     marker
 }
 
-// The channels that are given, else those that messages tell.
+// The channels that are given, and of each other slot the one that messages tell.
 fn channels_chosen(
     given: &Option<Channels>,
     surveys: &[CaptureSurvey],
     station: u16,
-    kind: MsmKind,
+    taken: TakenMessages,
 ) -> Channels
-    ensures { AreChannelsChosen given.now surveys.now station kind result }
+    ensures { AreChannelsChosen given.now surveys.now station taken result }
 {
+    let found = channels_found(surveys, station, taken);
     match given {
-        Some(given) => *given,
-        None => channels_found(surveys, station, kind),
+        Some(given) => channels_joined(given, &found),
+        None => found,
     }
 }
 
-/// The channels of slots that messages of the station tell, by the MSM of GLONASS of a setup.
-pub(crate) fn own_channels_in(surveys: &[CaptureSurvey], setup: &Setup) -> Channels
-    ensures { AreOwnChannels surveys.now setup.now.station setup.now.kinds.glonass result }
+/// The messages of which a setup takes values.
+pub(crate) fn taken_by_setup(setup: &Setup) -> TakenMessages
+    ensures { result ≡ taken_messages setup.now }
 {
-    own_channels(surveys, setup.station(), setup.kinds().glonass)
+    TakenMessages {
+        kinds: setup.kinds(),
+        obs1012: setup.takes_1012(),
+    }
+}
+
+/// The channels of slots that messages of the station tell, by the messages of GLONASS that a setup takes.
+pub(crate) fn own_channels_in(surveys: &[CaptureSurvey], setup: &Setup) -> Channels
+    ensures { AreOwnChannels surveys.now setup.now.station (taken_messages setup.now) result }
+{
+    let taken = taken_by_setup(setup);
+    own_channels(surveys, setup.station(), taken)
 }
 
 // What the file tells of GLONASS.
 fn glonass_of(
     surveys: &[CaptureSurvey],
     station: u16,
-    kind: MsmKind,
+    taken: TakenMessages,
     channels: &Option<Channels>,
     seconds: &Option<LeapSeconds>,
     near: GpsMs,
 ) -> Glonass
-    ensures found { IsGlonassOf surveys.now station kind channels.now seconds.now near result }
+    ensures found { IsGlonassOf surveys.now station taken channels.now seconds.now near result }
     ensures good { IsGlonassView result }
 {
-    let channels = channels_chosen(channels, surveys, station, kind);
+    let channels = channels_chosen(channels, surveys, station, taken);
     let seconds = seconds_chosen(seconds, near);
     let Some(glonass) = Glonass::new(channels, seconds) else {
         unreachable!();
@@ -179,17 +192,17 @@ fn glonass_of(
 fn glonass_found(
     surveys: &[CaptureSurvey],
     station: u16,
-    kinds: SystemKinds,
+    taken: TakenMessages,
     listed: &[AnyCode],
     channels: &Option<Channels>,
     seconds: &Option<LeapSeconds>,
     near: GpsMs,
 ) -> Option<Glonass>
-    ensures found { IsGlonassFound surveys.now station kinds listed.now channels.now seconds.now near result }
+    ensures found { IsGlonassFound surveys.now station taken listed.now channels.now seconds.now near result }
     ensures due { TellsGlonass listed.now result }
 {
     if has_glonass(listed) {
-        Some(glonass_of(surveys, station, kinds.glonass, channels, seconds, near))
+        Some(glonass_of(surveys, station, taken, channels, seconds, near))
     } else {
         None
     }
@@ -262,6 +275,14 @@ fn with_seconds(setup: Setup, given: &Option<LeapSeconds>) -> Setup
     }
 }
 
+// The setup with 1012, if they are converted.
+fn with_1012_if(setup: Setup, is_taken: bool) -> Setup
+    requires { setup.takes_1012 ≡ false }
+    ensures { result ≡ record setup { takes_1012 = is_taken } }
+{
+    if is_taken { setup.with_1012() } else { setup }
+}
+
 // The setup of these parts, in which systems without a listed code have the MSM of the first one that has.
 fn setup_of(
     station: Station,
@@ -270,16 +291,72 @@ fn setup_of(
     window: Window,
     kinds: SystemKinds,
     seconds: &Option<LeapSeconds>,
+    takes_1012: bool,
 ) -> Setup
-    ensures { result ≡ record { station = station; near = near; head = head; window = window; kinds = msms.kinds_listed kinds head.listed; leap_seconds = seconds.now; takes_1012 = false } }
+    ensures { result ≡ record { station = station; near = near; head = head; window = window; kinds = msms.kinds_listed kinds head.listed; leap_seconds = seconds.now; takes_1012 = takes_1012 } }
 {
     let setup = with_kinds_listed(Setup::mixed(station, near, head, window), kinds);
-    with_seconds(setup, seconds)
+    with_1012_if(with_seconds(setup, seconds), takes_1012)
+}
+
+// The setup of a station with these codes near a moment, by these messages.
+fn setup_with(
+    surveys: &[CaptureSurvey],
+    wanted: &Wanted,
+    made: CreationTime,
+    station: Station,
+    near: Reference,
+    taken: TakenMessages,
+    listed: &[AnyCode],
+    seconds: &Option<LeapSeconds>,
+) -> Setup
+    requires { IsMixedList listed.now }
+    ensures { HasSetupParts surveys.now wanted.now made station near taken listed.now seconds.now result }
+{
+    let number = station.number();
+    let channels = &wanted.channels;
+    let moment = near.moment();
+    let glonass = glonass_found(surveys, number, taken, listed, channels, seconds, moment);
+    let head = head_of(marker_of(number, &wanted.marker), listed, glonass, made);
+    let (kinds, takes_1012) = (taken.kinds, taken.obs1012);
+    setup_of(
+        station,
+        near,
+        head,
+        wanted.window,
+        kinds,
+        seconds,
+        takes_1012,
+    )
+}
+
+// ---- 1012
+
+// Are 1012 converted, if there is such a moment near which they are dated?
+fn converts_1012(
+    surveys: &[CaptureSurvey],
+    station: u16,
+    listed: &[AnyCode],
+    near: &Option<Reference>,
+) -> bool
+    ensures { result ≡ converts_1012 surveys.now station listed.now near.now }
+{
+    near.is_some() && (has_glonass(listed) && is_1012_given(surveys, station))
+}
+
+// The moment near which a conversion dates: with 1012 the other one, else the first one.
+fn near_chosen(is_taken: bool, first: Reference, other: &Option<Reference>) -> Reference
+    ensures { result ≡ near_chosen is_taken first other.now }
+{
+    match other {
+        Some(other) if is_taken => *other,
+        _ => first,
+    }
 }
 
 // ---- all of it
 
-/// What the conversion of a station near this moment is told.
+/// What the conversion of a station near this moment is told, or near another one, near which 1012 are dated.
 pub(crate) fn setup_near(
     alloc: Global,
     surveys: &[CaptureSurvey],
@@ -288,35 +365,40 @@ pub(crate) fn setup_near(
     made: CreationTime,
     station: u16,
     near: GpsMs,
-    span: &DatedSpan,
+    seconds: &Option<LeapSeconds>,
+    other: &Option<Reference>,
 ) -> Result<Setup, PlanFault>
     requires bound { station < 4096 }
     requires chosen { IsChosenStation surveys.now wanted.now.station station }
     requires near { IsNearOf wanted.now.near (captures_of surveys.now station) near }
-    requires span { IsSpanOf wanted.now.near (captures_of surveys.now station) station span.now }
+    requires reach { IsInReach wanted.now.near (captures_of surveys.now station) near }
+    requires seconds { AreLeapSecondsOf surveys.now wanted.now station near seconds.now }
+    requires other { IsNear1012 surveys.now wanted.now.near station seconds.now near other.now }
+    requires other_reach { IfSome other.now (IsInReach wanted.now.near (captures_of surveys.now station)) }
     ensures setup { IfOk result (IsSetupFor surveys.now (places_of links.now) wanted.now made) }
-    ensures station { IfOk result (λ setup. (setup.station ≡ station) × (setup.near ≡ near)) }
+    ensures station { IfOk result (λ setup. setup.station ≡ station) }
+    ensures seconds { IfOk result (λ setup. setup.leap_seconds ≡ seconds.now) }
+    ensures in_reach { IfOk result (λ setup. IsInReach wanted.now.near (captures_of surveys.now station) setup.near) }
     ensures refused { IfErr result (IfRefused (IsSetupCause surveys.now (places_of links.now) wanted.now station near)) }
 {
     let kinds = kinds_to_convert(surveys, links, wanted.msm, station);
-    let seconds = seconds_of_setup(alloc, surveys, station, wanted, near, span)?;
-    let codes = codes_to_convert(alloc, surveys, station, kinds, wanted, &seconds, near)?;
-    let listed = codes.as_slice();
-    let glonass = glonass_found(
-        surveys,
-        station,
+    let with_1012 = other.is_some();
+    let taken = TakenMessages {
         kinds,
-        listed,
-        &wanted.channels,
-        &seconds,
-        near,
-    );
-    let head = head_of(marker_of(station, &wanted.marker), listed, glonass, made);
-    let Ok(station) = Station::new(station) else {
+        obs1012: with_1012,
+    };
+    let codes = codes_to_convert(alloc, surveys, station, taken, wanted, seconds, near)?;
+    let listed = codes.as_slice();
+    let obs1012 = converts_1012(surveys, station, listed, other);
+    let Ok(of_station) = Station::new(station) else {
         unreachable!();
     };
-    let Ok(near) = Reference::new(near) else {
+    let Ok(first) = Reference::new(near) else {
         return refused(Refusal::OutsideDates, Vec::new(alloc));
     };
-    Ok(setup_of(station, near, head, wanted.window, kinds, &seconds))
+    let reference = near_chosen(obs1012, first, other);
+    let converted = TakenMessages { kinds, obs1012 };
+    Ok(setup_with(
+        surveys, wanted, made, of_station, reference, converted, listed, seconds,
+    ))
 }

@@ -30,8 +30,8 @@ use Rattle.rtk_survey.specs.FrameEquipment.{equipment_among, is_mentioned, told_
 use Rattle.rtk_survey.specs.NumberLaws.{IsHeld}
 use Rattle.rtk_survey.specs.Proposal.{epochs_in, times_with_value, epochs_with_value, entries_with}
 use Rattle.rtk_survey.specs.ReadFrames.{messages_read, ReadFrame, ReadsFrames, read_frame, with_message, with_fault, bytes_in, messages_in, faults_in, messages_from}
-use Rattle.rtk_survey.specs.NextCommand.{slot_items, station_proposal}
-use Rattle.rtk_survey.specs.Summary.{all_numbers, size_lines, epochs_beside, taken_beside, slots_beside, fields_told, station_lines, lines_if_any, stations_text, weeks_text, system_weeks_text, unread_lines, summary_text}
+use Rattle.rtk_survey.specs.NextCommand.{station_proposal}
+use Rattle.rtk_survey.specs.Summary.{all_numbers, size_lines, epochs_beside, taken_beside, glonass_beside, station_lines, lines_if_any, stations_text, weeks_text, system_weeks_text, unread_lines, summary_text}
 use Rattle.rtk_survey.specs.SummaryText.{number_line, counted_line, numbered_line, message_numbers, message_lines, system_epoch_lines, channel_line, time_lines, look_line, near_text, signal_lines, all_codes_text, nothing_line, untaken_numbers}
 use Rattle.rtk_survey.specs.SystemTellings.{system_messages_in}
 use Rattle.rtk_survey.specs.declared.station_dates.StationDates.{StationDates}
@@ -207,7 +207,7 @@ epochs-are ms held = fun_ext (λ kind. let few = held kind in omega (arith, few)
 pub proposals-stand : ProposalsStand
 unfolding station_lines
 proposals-stand name station ms d e held =
-    let proposal : (MsmKind → ℕ) → List ℕ = λ epochs. station_proposal name (near_text (proposed_date d)) station epochs (λ kind. has_code (entries_with kind ms)) (epochs_beside ms) (taken_beside (proposed_date d) ms) (slot_items (slots_beside ms) (fields_told ms)) in
+    let proposal : (MsmKind → ℕ) → List ℕ = λ epochs. station_proposal name (near_text (proposed_date d)) station epochs (λ kind. has_code (entries_with kind ms)) (epochs_beside ms) (taken_beside (proposed_date d) ms) (glonass_beside (proposed_date d) ms) in
     let lines : List ℕ =
     number_line (codes "station ") station
     ++ message_lines (λ n. count_of (is_numbered n) ms)

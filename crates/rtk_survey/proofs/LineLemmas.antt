@@ -20,12 +20,12 @@ use Rattle.rtk_survey.specs.declared.equipment.Equipment.{Equipment}
 use Rattle.rtk_survey.specs.FrameDates.{proposed_date}
 use Rattle.rtk_survey.specs.FrameEquipment.{told_lines}
 use Rattle.rtk_survey.specs.Proposal.{epochs_with_value, entries_with}
-use Rattle.rtk_survey.specs.NextCommand.{slot_items, station_proposal}
-use Rattle.rtk_survey.specs.Steps.OtherSystems.{slots_held, fields_held, taken_held}
-use Rattle.rtk_survey.specs.Summary.{all_numbers, epochs_beside, taken_beside, slots_beside, fields_told, station_lines}
+use Rattle.rtk_survey.specs.NextCommand.{station_proposal}
+use Rattle.rtk_survey.specs.Steps.OtherSystems.{glonass_held, taken_held}
+use Rattle.rtk_survey.specs.Summary.{all_numbers, epochs_beside, taken_beside, glonass_beside, station_lines}
 use Rattle.rtk_survey.specs.SummaryText.{look_line, number_line, numbered_line, message_numbers, message_lines, system_epoch_lines, channel_line, list_line, time_lines, near_text, untaken_numbers, listed_satellite, satellites_text, listed_index, indices_text, joined_names, joined_texts, all_codes_text, words_text, auto_line, next_lines, signal_lines}
 use Rattle.std.specs.BTreeMap.{BTreeMap}
-use Rattle.rtk_survey.specs.Contents.{count_at, HasCodes, HasSignals, HasSystemSignals, HasSystems, IsStationOf, HasMsms, equipment_at, epochs_held, codes_held}
+use Rattle.rtk_survey.specs.Contents.{count_at, HasCodes, HasSignals, HasSystemSignals, HasSystems, IsStationOf, HasMsms, equipment_at, epochs_held, codes_held, times_of}
 use Rattle.rtk_survey.specs.Steps.Tables.{counts_text, untaken_text, look_lines, messages_held, system_epochs_held, place_is_counted}
 use Rattle.rtk_survey.specs.Tracing.{is_numbered, entries_in, has_satellite, has_code, times_of_week}
 use Rattle.rtk_survey.specs.UncheckedClocks.{systems_sent, all_clock_lines}
@@ -39,7 +39,7 @@ use Rattle.rtk_survey.specs.declared.system_signals.SystemSignals.{SystemSignals
 use Rattle.rtk_survey.specs.declared.systems_sent.SystemsSent.{SystemsSent}
 use Rattle.rtk_survey.proofs.ChannelLineLemmas.{channel-line-is}
 use Rattle.rtk_survey.proofs.ListLemmas.{lines-agree}
-use Rattle.rtk_survey.proofs.NextLemmas.{taken-is, items-are}
+use Rattle.rtk_survey.proofs.NextLemmas.{taken-is, glonass-is}
 use Rattle.rtk_survey.proofs.MsmLemmas.{codes-marked, epochs-are, codes-held-are}
 use Rattle.rtk_survey.proofs.SystemLemmas.{any_codes_held, any-codes-marked, epochs-beside-are, counts-held}
 
@@ -193,19 +193,19 @@ sent-are c s ms has others =
 
 -- the command by what is held is that by the messages
 pub proposal-is : (name near : List ℕ) (number : ℕ) (date : Option UtcDate) (s : StationSurvey) (ms : List AnyMessage) → HasMsms s.msm ms → HasSystems s.system_msm ms
-    → CountsChannels s.channels.items ms → clocks_at s.clocks ≡ clocks_of ms
-    → station_proposal name near number (epochs_held s.msm) (codes_held s.msm) (system_epochs_held s) (taken_held date s) (slot_items (slots_held s) (fields_held s))
-    ≡ station_proposal name near number (λ kind. epochs_with_value kind ms) (λ kind. has_code (entries_with kind ms)) (epochs_beside ms) (taken_beside date ms) (slot_items (slots_beside ms) (fields_told ms))
-proposal-is name near number date s ms own beside channels clocks =
+    → CountsChannels s.channels.items ms → clocks_at s.clocks ≡ clocks_of ms → s.times ≡ times_of (times_of_week ms)
+    → station_proposal name near number (epochs_held s.msm) (codes_held s.msm) (system_epochs_held s) (taken_held date s) (glonass_held date s)
+    ≡ station_proposal name near number (λ kind. epochs_with_value kind ms) (λ kind. has_code (entries_with kind ms)) (epochs_beside ms) (taken_beside date ms) (glonass_beside date ms)
+proposal-is name near number date s ms own beside channels clocks times =
     let epochs : MsmKind → ℕ = λ kind. epochs_with_value kind ms in
     let code : MsmKind → Code → Bool = λ kind. has_code (entries_with kind ms) in
     let taken : AnyCode → Bool = taken_held date s in
-    let items : List ℕ = slot_items (slots_held s) (fields_held s) in
+    let items : List ℕ = glonass_held date s in
     ap (λ (e : MsmKind → ℕ). station_proposal name near number e (codes_held s.msm) (system_epochs_held s) taken items) (epochs-are s.msm ms own)
     ∙ ap (λ (t : MsmKind → Code → Bool). station_proposal name near number epochs t (system_epochs_held s) taken items) (codes-held-are s.msm ms own)
     ∙ ap (λ (e : ℕ → ℕ). station_proposal name near number epochs code e taken items) (epochs-beside-are s ms beside)
-    ∙ ap (λ (t : AnyCode → Bool). station_proposal name near number epochs code (epochs_beside ms) t items) (taken-is date s ms beside clocks)
-    ∙ ap (λ (t : List ℕ). station_proposal name near number epochs code (epochs_beside ms) (taken_beside date ms) t) (items-are s ms beside channels)
+    ∙ ap (λ (t : AnyCode → Bool). station_proposal name near number epochs code (epochs_beside ms) t items) (taken-is date s ms beside clocks times)
+    ∙ ap (λ (t : List ℕ). station_proposal name near number epochs code (epochs_beside ms) (taken_beside date ms) t) (glonass-is date s ms beside channels times)
 
 -- a survey has its own dates, antenna and receiver
 pub own-survey : (ms : List AnyMessage) (d : StationDates) (e : Equipment) (s : StationSurvey) → IsStationOf ms d e s → IsStationOf ms s.dates (equipment_at s.equipment) s
@@ -235,7 +235,7 @@ lines_held name number s d e times =
     ++ system_epoch_lines (system_epochs_held s)
     ++ channel_line (place_is_counted s.channels.items)
     ++ all_clock_lines (proposed_date d) (systems_sent (λ c. get_or s.signals.codes.marks (place_of c) false) (λ c. get_or s.system_signals.codes (number_of c) false)) (clocks_at s.clocks).offsets
-    ++ station_proposal name (near_text (proposed_date d)) number (epochs_held s.msm) (codes_held s.msm) (system_epochs_held s) (taken_held (proposed_date d) s) (slot_items (slots_held s) (fields_held s))
+    ++ station_proposal name (near_text (proposed_date d)) number (epochs_held s.msm) (codes_held s.msm) (system_epochs_held s) (taken_held (proposed_date d) s) (glonass_held (proposed_date d) s)
 
 -- the lines of the counts of messages
 messages-agree : (s : StationSurvey) (ms : List AnyMessage) (d : StationDates) (e : Equipment) → IsStationOf ms d e s → message_lines (messages_held s) ≡ message_lines (λ n. count_of (is_numbered n) ms)
@@ -255,7 +255,7 @@ station-lines-are name number s d e ms stands =
     let dates : List ℕ = told_lines d e in
     let near : List ℕ = near_text (proposed_date d) in
     let signals : List ℕ = signal_lines (has_satellite (entries_in ms)) (has_code (entries_in ms)) (has_index (cells_beside ms)) (has_any_code (cells_beside ms)) in
-    let proposal : List ℕ = station_proposal name near number (λ kind. epochs_with_value kind ms) (λ kind. has_code (entries_with kind ms)) (epochs_beside ms) (taken_beside (proposed_date d) ms) (slot_items (slots_beside ms) (fields_told ms)) in
+    let proposal : List ℕ = station_proposal name near number (λ kind. epochs_with_value kind ms) (λ kind. has_code (entries_with kind ms)) (epochs_beside ms) (taken_beside (proposed_date d) ms) (glonass_beside (proposed_date d) ms) in
     let messages' : List ℕ = message_lines (messages_held s) in
     let signals' : List ℕ = signal_lines (λ n. get_or s.signals.satellites n false) (λ c. get_or s.signals.codes.marks (place_of c) false) (λ n. get_or s.system_signals.satellites n false) (λ c. get_or s.system_signals.codes (number_of c) false) in
     let channels : List ℕ = channel_line (place_is_told ms) in
@@ -271,7 +271,7 @@ station-lines-are name number s d e ms stands =
     ∙ ap (λ (t : List ℕ). head ++ messages' ++ times ++ dates ++ signals' ++ epochs' ++ t ++ clocks ++ proposal) (sym (channel-line-is s.channels.items ms stands.channels))
     ∙ ap (λ (x : ClockSurvey). head ++ messages' ++ times ++ dates ++ signals' ++ epochs' ++ channels' ++ all_clock_lines date sent x.offsets ++ proposal) (sym stands.clocks)
     ∙ ap (λ (x : SystemsSent). head ++ messages' ++ times ++ dates ++ signals' ++ epochs' ++ channels' ++ all_clock_lines date x (clocks_at s.clocks).offsets ++ proposal) (sym (sent-are s.signals.codes s.system_signals ms stands.signals.codes stands.system_signals))
-    ∙ ap (λ (t : List ℕ). head ++ messages' ++ times ++ dates ++ signals' ++ epochs' ++ channels' ++ all_clock_lines date sent' (clocks_at s.clocks).offsets ++ t) (sym (proposal-is name near number (proposed_date d) s ms stands.msm stands.system_msm stands.channels stands.clocks))
+    ∙ ap (λ (t : List ℕ). head ++ messages' ++ times ++ dates ++ signals' ++ epochs' ++ channels' ++ all_clock_lines date sent' (clocks_at s.clocks).offsets ++ t) (sym (proposal-is name near number (proposed_date d) s ms stands.msm stands.system_msm stands.channels stands.clocks stands.times))
 
 -- ---- a file without a frame
 

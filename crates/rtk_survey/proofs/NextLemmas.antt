@@ -1,5 +1,5 @@
 -- What the command of a station takes of other systems, by what is held and by the messages.
-use Rattle.std.proofs.Common.{◌≡◌, ◌<◌, ◌≤◌, ◌+◌, ◌∙◌, ◌++◌, ℕ, zero, suc, Bool, true, false, cond, nat_lt, List, [], ◌∷◌, Option, None, Some, get_or, refl, sym, ap, arith}
+use Rattle.std.proofs.Common.{◌≡◌, ◌<◌, ◌≤◌, ◌+◌, ◌&&◌, ◌||◌, ◌∙◌, ◌++◌, ℕ, zero, suc, Bool, true, false, cond, nat_lt, List, [], ◌∷◌, Option, None, Some, get_or, refl, sym, ap, arith}
 use Rattle.std.specs.Prelude.{flat_map}
 use Rattle.std.specs.BTreeMap.{get}
 use Rattle.std.specs.List.{range_with_len}
@@ -11,15 +11,17 @@ use Rattle.rtk_obs.specs.declared.any_code.AnyCode.{AnyCode}
 use Rattle.rtk_survey.specs.BesideGps.{cells_beside, messages_beside, has_index, has_any_code}
 use Rattle.rtk_survey.specs.Chains.{clocks_of, clocks_at}
 use Rattle.rtk_survey.specs.Channels.{CountsChannels}
-use Rattle.rtk_survey.specs.Contents.{HasSystems, IsMsmKept}
-use Rattle.rtk_survey.specs.NextCommand.{number_by, other_taken, more_told, most_told, told_of_slot, item_text, slot_item, slot_items}
-use Rattle.rtk_survey.specs.Steps.OtherSystems.{code_in_part, codes_held_by, slot_in_part, slots_held, fields_held, taken_held}
+use Rattle.rtk_survey.specs.Contents.{HasSystems, IsMsmKept, times_of}
+use Rattle.rtk_survey.specs.NextCommand.{number_by, next_takes_1012, other_taken, glonass_options, more_told, most_told, told_of_slot, item_text, slot_item, slot_items}
+use Rattle.rtk_survey.specs.Steps.OtherSystems.{code_in_part, codes_held_by, slot_in_part, slot_held, slots_held, fields_held, legacy_held, glonass_held, taken_held}
 use Rattle.rtk_survey.specs.Steps.Tables.{system_epochs_held}
-use Rattle.rtk_survey.specs.Summary.{epochs_beside, codes_beside, taken_beside, slots_beside, fields_told}
+use Rattle.rtk_survey.specs.Summary.{epochs_beside, codes_beside, legacy_beside, taken_beside, slot_numbered, slots_beside, fields_told, glonass_beside}
 use Rattle.rtk_survey.specs.declared.clock_chains.ClockSurvey.{ClockSurvey}
 use Rattle.rtk_survey.specs.declared.date_message.UtcDate.{UtcDate}
 use Rattle.rtk_survey.specs.declared.station.StationSurvey.{StationSurvey}
+use Rattle.rtk_survey.specs.Tracing.{times_of_week, newest_time, oldest_time}
 use Rattle.rtk_survey.specs.declared.system_msm.SystemMsm.{SystemMsm}
+use Rattle.rtk_survey.specs.declared.times_of_week.Times.{Times}
 use Rattle.rtk_survey.proofs.ChannelLineLemmas.{counted-as}
 use Rattle.rtk_survey.proofs.SystemLemmas.{any-codes-marked, epochs-beside-are}
 
@@ -32,11 +34,19 @@ codes-of-part (Some p) own is c = ap (λ (t : AnyCode → Bool). t c) (any-codes
 codes-are : (s : StationSurvey) (ms : List AnyMessage) → HasSystems s.system_msm ms → codes_held_by s ≡ codes_beside ms
 codes-are s ms has = fun_ext (λ n. fun_ext (λ c. codes-of-part (get nat_cmp s.system_msm n) (messages_beside n ms) (has n) c))
 
-pub taken-is : (date : Option UtcDate) (s : StationSurvey) (ms : List AnyMessage) → HasSystems s.system_msm ms → clocks_at s.clocks ≡ clocks_of ms → taken_held date s ≡ taken_beside date ms
-taken-is date s ms has clocks =
-    ap (λ (x : ClockSurvey). other_taken date x.offsets (system_epochs_held s) (codes_held_by s)) clocks
-    ∙ ap (λ (e : ℕ → ℕ). other_taken date (clocks_of ms).offsets e (codes_held_by s)) (epochs-beside-are s ms has)
-    ∙ ap (λ (t : ℕ → AnyCode → Bool). other_taken date (clocks_of ms).offsets (epochs_beside ms) t) (codes-are s ms has)
+-- 1012 are taken by what is held, and by the messages
+legacy-is : (date : Option UtcDate) (s : StationSurvey) (ms : List AnyMessage) → HasSystems s.system_msm ms → s.times ≡ times_of (times_of_week ms) → legacy_held date s ≡ legacy_beside date ms
+legacy-is date s ms has times =
+    ap (λ (t : Times). next_takes_1012 date t.first t.last (system_epochs_held s)) times
+    ∙ ap (λ (e : ℕ → ℕ). next_takes_1012 date (oldest_time (times_of_week ms)) (newest_time (times_of_week ms)) e) (epochs-beside-are s ms has)
+
+pub taken-is : (date : Option UtcDate) (s : StationSurvey) (ms : List AnyMessage) → HasSystems s.system_msm ms → clocks_at s.clocks ≡ clocks_of ms → s.times ≡ times_of (times_of_week ms)
+    → taken_held date s ≡ taken_beside date ms
+taken-is date s ms has clocks times =
+    ap (λ (x : ClockSurvey). other_taken date x.offsets (system_epochs_held s) (codes_held_by s) (legacy_held date s)) clocks
+    ∙ ap (λ (e : ℕ → ℕ). other_taken date (clocks_of ms).offsets e (codes_held_by s) (legacy_held date s)) (epochs-beside-are s ms has)
+    ∙ ap (λ (t : ℕ → AnyCode → Bool). other_taken date (clocks_of ms).offsets (epochs_beside ms) t (legacy_held date s)) (codes-are s ms has)
+    ∙ ap (λ (b : Bool). other_taken date (clocks_of ms).offsets (epochs_beside ms) (codes_beside ms) b) (legacy-is date s ms has times)
 
 -- ---- channels
 
@@ -44,11 +54,14 @@ slot-of-part : (o : Option SystemMsm) (own : List AnyMessage) (slot : ℕ) → s
 slot-of-part None own slot within nothing = ap (λ (ms : List AnyMessage). has_index (cells_beside ms) (32 + slot)) (sym nothing)
 slot-of-part (Some p) own slot within is = is.signals.satellites (32 + slot) (let size = is.signals.satellites_size in omega (arith, within, size))
 
-slots-are : (s : StationSurvey) (ms : List AnyMessage) (slot : ℕ) → slot < 28 → HasSystems s.system_msm ms → slots_held s slot ≡ slots_beside ms slot
-slots-are s ms slot within has =
-    ap (λ (e : ℕ → ℕ). slot_in_part (get nat_cmp s.system_msm (number_by e Glonass)) slot) (epochs-beside-are s ms has)
-    ∙ slot-of-part (get nat_cmp s.system_msm (number_by (epochs_beside ms) Glonass)) (messages_beside (number_by (epochs_beside ms) Glonass) ms) slot within
-    (has (number_by (epochs_beside ms) Glonass))
+slot-is : (s : StationSurvey) (ms : List AnyMessage) (slot n : ℕ) → slot < 28 → HasSystems s.system_msm ms → slot_held s slot n ≡ slot_numbered ms slot n
+slot-is s ms slot n within has = slot-of-part (get nat_cmp s.system_msm n) (messages_beside n ms) slot within (has n)
+
+slots-are : (legacy : Bool) (s : StationSurvey) (ms : List AnyMessage) (slot : ℕ) → slot < 28 → HasSystems s.system_msm ms → slots_held legacy s slot ≡ slots_beside legacy ms slot
+slots-are legacy s ms slot within has =
+    ap (λ (e : ℕ → ℕ). slot_held s slot (number_by e Glonass) || (legacy && slot_held s slot 1012)) (epochs-beside-are s ms has)
+    ∙ ap (λ (b : Bool). b || (legacy && slot_held s slot 1012)) (slot-is s ms slot (number_by (epochs_beside ms) Glonass) within has)
+    ∙ ap (λ (b : Bool). slot_numbered ms slot (number_by (epochs_beside ms) Glonass) || (legacy && b)) (slot-is s ms slot 1012 within has)
 
 same-some : (a b : ℕ) → Some a ≡ Some b → a ≡ b
 same-some a b same = cc
@@ -97,12 +110,19 @@ items-agree f g a (suc n) agree =
     items-agree f g (a + 1) n (λ k from lt. let below : a ≤ k = omega (arith, from) in let further : k < a + suc n = omega (arith, lt) in agree k below further) in
     ap (λ (t : List ℕ). t ++ flat_map f (range_with_len (a + 1) n)) (agree a low here) ∙ ap (λ (t : List ℕ). g a ++ t) rest
 
-pub items-are : (s : StationSurvey) (ms : List AnyMessage) → HasSystems s.system_msm ms → CountsChannels s.channels.items ms
-    → slot_items (slots_held s) (fields_held s) ≡ slot_items (slots_beside ms) (fields_told ms)
+items-are : (legacy : Bool) (s : StationSurvey) (ms : List AnyMessage) → HasSystems s.system_msm ms → CountsChannels s.channels.items ms
+    → slot_items (slots_held legacy s) (fields_held s) ≡ slot_items (slots_beside legacy ms) (fields_told ms)
 unfolding slot_items
-items-are s ms has counts =
-    items-agree (slot_item (slots_held s) (fields_held s)) (slot_item (slots_beside ms) (fields_told ms)) 1 27
+items-are legacy s ms has counts =
+    items-agree (slot_item (slots_held legacy s) (fields_held s)) (slot_item (slots_beside legacy ms) (fields_told ms)) 1 27
     (λ slot from lt.
     let within : slot < 28 = omega (arith, lt) in
-    item-agree (slots_held s) (slots_beside ms) (fields_held s) (fields_told ms) slot (slots-are s ms slot within has)
+    item-agree (slots_held legacy s) (slots_beside legacy ms) (fields_held s) (fields_told ms) slot (slots-are legacy s ms slot within has)
     (λ field few. counted-as s.channels.items ms slot field (record { first = from; last = within; few = few }) counts))
+
+-- the options of GLONASS by what is held are those by the messages
+pub glonass-is : (date : Option UtcDate) (s : StationSurvey) (ms : List AnyMessage) → HasSystems s.system_msm ms → CountsChannels s.channels.items ms → s.times ≡ times_of (times_of_week ms)
+    → glonass_held date s ≡ glonass_beside date ms
+glonass-is date s ms has counts times =
+    ap (λ (b : Bool). glonass_options (slot_items (slots_held b s) (fields_held s)) b) (legacy-is date s ms has times)
+    ∙ ap (λ (items : List ℕ). glonass_options items (legacy_beside date ms)) (items-are (legacy_beside date ms) s ms has counts)

@@ -18,8 +18,8 @@ use Rattle.rtk_survey.specs.FrameEquipment.{equipment_among}
 use Rattle.rtk_survey.specs.NumberLaws.{IsHeld}
 use Rattle.rtk_survey.specs.Proposal.{epochs_in, times_with_value, entries_with}
 use Rattle.rtk_survey.specs.ReadFrames.{messages_read, ReadFrame, bytes_in, messages_in, faults_in, messages_from}
-use Rattle.rtk_survey.specs.NextCommand.{slot_items, station_proposal}
-use Rattle.rtk_survey.specs.Summary.{epochs_beside, taken_beside, slots_beside, fields_told, station_lines, stations_text, weeks_text, unread_lines, summary_text, AreFramesOf}
+use Rattle.rtk_survey.specs.NextCommand.{station_proposal}
+use Rattle.rtk_survey.specs.Summary.{epochs_beside, taken_beside, glonass_beside, station_lines, stations_text, weeks_text, unread_lines, summary_text, AreFramesOf}
 use Rattle.rtk_survey.specs.SummaryText.{numbered_line, message_numbers, near_text, untaken_numbers}
 use Rattle.rtk_survey.specs.Tracing.{is_numbered, is_other, times_of_week, changes_in, entries_in, has_code}
 use Rattle.rtk_survey.specs.declared.station_dates.StationDates.{StationDates}
@@ -99,7 +99,7 @@ abbrev pub ProposalsStand : Type 0
 ProposalsStand =
     (name : List ℕ) (station : ℕ) (ms : List AnyMessage) (d : StationDates) (e : Equipment) → ((kind : MsmKind) → IsHeld (epochs_in (times_with_value kind ms)))
     → StandsIn (station_proposal name (near_text (proposed_date d)) station (λ kind. epochs_in (times_with_value kind ms)) (λ kind. has_code (entries_with kind ms))
-    (epochs_beside ms) (taken_beside (proposed_date d) ms) (slot_items (slots_beside ms) (fields_told ms)))
+    (epochs_beside ms) (taken_beside (proposed_date d) ms) (glonass_beside (proposed_date d) ms))
     (station_lines name station ms d e)
 
 -- in the lines of what is not read those of GPS observations, by the numbers of their messages

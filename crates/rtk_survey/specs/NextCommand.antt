@@ -1,11 +1,12 @@
 -- What the command of a station takes of other systems than GPS, and its options (this project's rule). What messages of a
 -- number have is given by functions of the number (DF002).
-use Rattle.std.specs.Prelude.{ℕ, zero, suc, ◌+◌, ◌==◌, Bool, not, ◌&&◌, nat_lt, List, [], ◌∷◌, ◌++◌, flat_map, codes, Option, None, Some, if◌then◌else◌}
+use Rattle.std.specs.Prelude.{ℕ, zero, suc, ◌+◌, ◌-◌, ◌%◌, ◌==◌, Bool, false, not, ◌&&◌, ◌||◌, nat_lt, List, [], ◌∷◌, ◌++◌, flat_map, codes, Option, None, Some, if◌then◌else◌}
 use Rattle.std.specs.List.{list_any, range_with_len}
 use Rattle.rtk_message.specs.declared.msm_kind.MsmKind.{MsmKind}
 use Rattle.rtk_message.specs.declared.msm_kind.MsmKind.TheVariants.{Msm4, Msm5, Msm6, Msm7}
 use Rattle.rtk_message.specs.declared.system.System.{System}
 use Rattle.rtk_message.specs.declared.system.System.TheVariants.{Gps, Glonass, Galileo, Beidou, Qzss, Sbas, Navic}
+use Rattle.rtk_message.specs.Fields.{week_ms}
 use Rattle.rtk_message.specs.Systems.{number_of_type}
 use Rattle.rtk_obs.specs.declared.any_code.AnyCode.{AnyCode}
 use Rattle.rtk_obs.specs.declared.code.Code.{Code}
@@ -13,6 +14,7 @@ use Rattle.rtk_obs.specs.SatelliteIndex.{letter_of}
 use Rattle.rtk_survey.specs.Channels.{place_of_field}
 use Rattle.rtk_survey.specs.Proposal.{proposed}
 use Rattle.rtk_survey.specs.SummaryText.{told_channel_text, msm_option, proposal_lines}
+use Rattle.rtk_survey.specs.Telling.{moment_of}
 use Rattle.rtk_survey.specs.UncheckedClocks.{is_sent, systems_sent}
 use Rattle.rtk_survey.specs.WrongClocks.{is_system_wrong}
 use Rattle.rtk_survey.specs.declared.clock_chains.ClockOffsets.{ClockOffsets}
@@ -36,6 +38,26 @@ kind_by epochs system = proposed (epochs_by epochs system)
 abbrev pub number_by : (ℕ → ℕ) → System → ℕ
 number_by epochs system = msm_number system (kind_by epochs system)
 
+-- ---- 1012
+
+-- formula
+-- a time of week lies within half a day of a moment, but for a minute, which is left for 1012 beside the epochs
+abbrev pub is_time_near : ℕ → ℕ → Bool
+is_time_near near tow = nat_lt ((tow + week_ms + 43_140_000 - near % week_ms) % week_ms) 86_280_000
+
+abbrev pub is_time_near_if_any : ℕ → Option ℕ → Bool
+is_time_near_if_any near None = false
+is_time_near_if_any near (Some tow) = is_time_near near tow
+
+-- 1012, which tell no day, are dated right near a date: the first and the last time of week of GPS lie within half a day of it
+abbrev pub dates_1012 : Option UtcDate → Option ℕ → Option ℕ → Bool
+dates_1012 None first last = false
+dates_1012 (Some d) first last = is_time_near_if_any (moment_of d) first && is_time_near_if_any (moment_of d) last
+
+-- the command takes 1012: they are dated right, and some have a value
+abbrev pub next_takes_1012 : Option UtcDate → Option ℕ → Option ℕ → (ℕ → ℕ) → Bool
+next_takes_1012 date first last epochs = dates_1012 date first last && nat_lt 0 (epochs 1012)
+
 -- ---- the codes that are taken
 
 -- table
@@ -46,9 +68,13 @@ systems_beside = Glonass ∷ Galileo ∷ Beidou ∷ Qzss ∷ Sbas ∷ Navic ∷ 
 abbrev pub takes_code : Option UtcDate → ClockOffsets → (ℕ → ℕ) → (ℕ → AnyCode → Bool) → AnyCode → System → Bool
 takes_code date s epochs code c system = not (is_system_wrong date s system) && code (number_by epochs system) c
 
--- the codes of other systems than GPS that the command takes
-unfoldable pub other_taken : Option UtcDate → ClockOffsets → (ℕ → ℕ) → (ℕ → AnyCode → Bool) → AnyCode → Bool
-other_taken date s epochs code c = list_any (takes_code date s epochs code c) systems_beside
+-- a code has a value in 1012, if clocks of GLONASS are not wrong
+abbrev pub takes_code_1012 : Option UtcDate → ClockOffsets → (ℕ → AnyCode → Bool) → AnyCode → Bool
+takes_code_1012 date s code c = not (is_system_wrong date s Glonass) && code 1012 c
+
+-- the codes of other systems than GPS that the command takes, with 1012 or without them
+unfoldable pub other_taken : Option UtcDate → ClockOffsets → (ℕ → ℕ) → (ℕ → AnyCode → Bool) → Bool → AnyCode → Bool
+other_taken date s epochs code legacy c = (legacy && takes_code_1012 date s code c) || list_any (takes_code date s epochs code c) systems_beside
 
 -- ---- the option of kinds
 
@@ -124,16 +150,24 @@ abbrev pub listed_items : List ℕ → List ℕ
 listed_items [] = codes " --channels none"
 listed_items (x ∷ xs) = codes " --channels " ++ xs
 
--- the channels of slots, if GLONASS is taken
-abbrev pub channels_words_of : SystemsSent → List ℕ → List ℕ
-channels_words_of sent items = if sent.glonass then listed_items items else []
+-- formula
+abbrev pub words_with_1012 : Bool → List ℕ
+words_with_1012 legacy = if legacy then codes " --with-1012" else []
+
+-- the options of GLONASS: the channels of slots, and 1012 if they are taken
+unfoldable pub glonass_options : List ℕ → Bool → List ℕ
+glonass_options items legacy = listed_items items ++ words_with_1012 legacy
+
+-- these options, if GLONASS is taken
+abbrev pub glonass_words_of : SystemsSent → List ℕ → List ℕ
+glonass_words_of sent options = if sent.glonass then options else []
 
 -- ---- the command
 
 unfoldable pub next_options : (ℕ → ℕ) → List ℕ → MsmKind → SystemsSent → List ℕ
-next_options epochs items gps sent = kinds_option gps epochs sent ++ channels_words_of sent items
+next_options epochs glonass gps sent = kinds_option gps epochs sent ++ glonass_words_of sent glonass
 
--- the lines of the command of a station, by what its messages of other systems have
+-- the lines of the command of a station, by what its messages of other systems have, and the options of GLONASS
 unfoldable pub station_proposal : List ℕ → List ℕ → ℕ → (MsmKind → ℕ) → (MsmKind → Code → Bool) → (ℕ → ℕ) → (AnyCode → Bool) → List ℕ → List ℕ
-station_proposal name near station epochs code beside other items =
-    proposal_lines name near station epochs code other (λ kind. next_options beside items kind (systems_sent (code kind) other))
+station_proposal name near station epochs code beside other glonass =
+    proposal_lines name near station epochs code other (λ kind. next_options beside glonass kind (systems_sent (code kind) other))

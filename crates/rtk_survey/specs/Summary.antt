@@ -1,5 +1,5 @@
 -- The text of a summary, from the bytes of a capture and its frames (this project's rule).
-use Rattle.std.specs.Prelude.{◌≡◌, ℕ, ◌+◌, ◌-◌, ◌≤◌, ◌==◌, Bool, ◌&&◌, not, List, [], ◌++◌, length, take, flat_map, codes, Option, min, if◌then◌else◌}
+use Rattle.std.specs.Prelude.{◌≡◌, ℕ, ◌+◌, ◌-◌, ◌≤◌, ◌==◌, Bool, ◌&&◌, not, List, [], ◌++◌, length, take, flat_map, codes, Option, min, if◌then◌else◌, ◌||◌}
 use Rattle.std.specs.List.{range_with_len}
 use Rattle.rtk_frame.specs.Frames.{frames, payloads}
 use Rattle.rtk_frame.specs.Stream.{with_more, TakesPart, greatest_count}
@@ -17,10 +17,10 @@ use Rattle.rtk_survey.specs.Channels.{tells_field, place_is_told}
 use Rattle.rtk_survey.specs.Counting.{shown_count, count_of}
 use Rattle.rtk_survey.specs.FrameDates.{dates_in, station_dates, proposed_date, is_of_week}
 use Rattle.rtk_survey.specs.FrameEquipment.{equipment_among, is_mentioned, told_lines}
-use Rattle.rtk_survey.specs.NextCommand.{number_by, other_taken, slot_items, station_proposal}
+use Rattle.rtk_survey.specs.NextCommand.{number_by, next_takes_1012, other_taken, slot_items, glonass_options, station_proposal}
 use Rattle.rtk_survey.specs.Proposal.{epochs_in, epochs_with_value, entries_with}
 use Rattle.rtk_survey.specs.ReadFrames.{ReadFrame, ReadsFrames, bytes_in, messages_in, faults_in, messages_from}
-use Rattle.rtk_survey.specs.Tracing.{is_numbered, is_other, is_short, is_outside_week, is_no_number, is_too_many_cells, times_of_week, entries_in, has_satellite, has_code}
+use Rattle.rtk_survey.specs.Tracing.{is_numbered, is_other, is_short, is_outside_week, is_no_number, is_too_many_cells, times_of_week, newest_time, oldest_time, entries_in, has_satellite, has_code}
 use Rattle.rtk_survey.specs.SummaryText.{number_line, counted_line, numbered_line, message_lines, system_epoch_lines, channel_line, time_lines, week_line, system_week_line, look_line, signal_lines, near_text, all_codes_text, nothing_line, untaken_numbers}
 use Rattle.rtk_survey.specs.SystemTellings.{system_messages_in, names_week}
 use Rattle.rtk_survey.specs.UncheckedClocks.{systems_sent, all_clock_lines}
@@ -42,18 +42,30 @@ epochs_beside ms n = shown_count (epochs_in (times_beside (messages_beside n ms)
 abbrev pub codes_beside : List AnyMessage → ℕ → AnyCode → Bool
 codes_beside ms n = has_any_code (cells_beside (messages_beside n ms))
 
+-- the command of a station takes 1012
+abbrev pub legacy_beside : Option UtcDate → List AnyMessage → Bool
+legacy_beside date ms = next_takes_1012 date (oldest_time (times_of_week ms)) (newest_time (times_of_week ms)) (epochs_beside ms)
+
 -- the codes of other systems than GPS that the command of a station takes
 abbrev pub taken_beside : Option UtcDate → List AnyMessage → AnyCode → Bool
-taken_beside date ms = other_taken date (clocks_of ms).offsets (epochs_beside ms) (codes_beside ms)
+taken_beside date ms = other_taken date (clocks_of ms).offsets (epochs_beside ms) (codes_beside ms) (legacy_beside date ms)
 
 -- formula
--- the satellite of a slot has a value in the MSM of GLONASS that the command takes; those of GPS stand before it
-abbrev pub slots_beside : List AnyMessage → ℕ → Bool
-slots_beside ms slot = has_index (cells_beside (messages_beside (number_by (epochs_beside ms) Glonass) ms)) (32 + slot)
+-- the satellite of a slot has a value in messages of a number; those of GPS stand before it
+abbrev pub slot_numbered : List AnyMessage → ℕ → ℕ → Bool
+slot_numbered ms slot n = has_index (cells_beside (messages_beside n ms)) (32 + slot)
+
+-- in the MSM of GLONASS that the command takes, or in 1012 if it takes them
+abbrev pub slots_beside : Bool → List AnyMessage → ℕ → Bool
+slots_beside legacy ms slot = slot_numbered ms slot (number_by (epochs_beside ms) Glonass) || (legacy && slot_numbered ms slot 1012)
 
 -- how many messages tell a field of a slot
 abbrev pub fields_told : List AnyMessage → ℕ → ℕ → ℕ
 fields_told ms slot field = count_of (tells_field slot field) ms
+
+-- the options of GLONASS
+abbrev pub glonass_beside : Option UtcDate → List AnyMessage → List ℕ
+glonass_beside date ms = glonass_options (slot_items (slots_beside (legacy_beside date ms) ms) (fields_told ms)) (legacy_beside date ms)
 
 -- formula
 -- the lines of a station in the file of this name, of which these messages came, with what others told of it
@@ -68,7 +80,7 @@ station_lines name station ms d e =
     ++ channel_line (place_is_told ms)
     ++ all_clock_lines (proposed_date d) (systems_sent (has_code (entries_in ms)) (has_any_code (cells_beside ms))) (clocks_of ms).offsets
     ++ station_proposal name (near_text (proposed_date d)) station (λ kind. epochs_with_value kind ms) (λ kind. has_code (entries_with kind ms))
-    (epochs_beside ms) (taken_beside (proposed_date d) ms) (slot_items (slots_beside ms) (fields_told ms))
+    (epochs_beside ms) (taken_beside (proposed_date d) ms) (glonass_beside (proposed_date d) ms)
 
 -- a station of which no message came, and which no other one mentions, has no lines
 abbrev pub lines_if_any : List ℕ → ℕ → List AnyMessage → StationDates → Equipment → List ℕ

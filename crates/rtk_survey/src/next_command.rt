@@ -2,14 +2,14 @@
 //!
 //! If memory is refused, a first part of what is put may stand there.
 
-ghost use Rattle.std.specs.Prelude.{◌≡◌, ◌<◌, ◌==◌, ◌++◌, ◌||◌, not, ℕ, false, get_or, IfOk, IfSome, OnOk};
+ghost use Rattle.std.specs.Prelude.{◌≡◌, ◌<◌, ◌==◌, ◌++◌, ◌&&◌, ◌||◌, not, ℕ, false, get_or, IfOk, IfSome, OnOk};
 ghost use Rattle.std.specs.Option.{option_copied};
 ghost use Rattle.rtk_obs.specs.AnyCode.{number_of};
 ghost use Rattle.rtk_obs.specs.declared.any_code.AnyCode.{AnyCode};
 ghost use Rattle.rtk_survey.specs.Chains.{no_clocks, clocks_at};
 ghost use Rattle.rtk_survey.specs.NextCommand as spec;
 ghost use Rattle.rtk_survey.specs.Proposal.{better_of};
-ghost use Rattle.rtk_survey.specs.Steps.OtherSystems.{code_in_part, codes_held_by, slot_in_part, slots_held, fields_held, taken_held};
+ghost use Rattle.rtk_survey.specs.Steps.OtherSystems.{code_in_part, codes_held_by, slot_in_part, slot_held, slots_held, fields_held, legacy_held, glonass_held, taken_held};
 ghost use Rattle.rtk_survey.specs.Steps.Tables.{system_epochs_held};
 ghost use Rattle.rtk_survey.specs.SummaryText.{msm_option};
 ghost use Rattle.rtk_survey.specs.WrongClocks.{is_system_wrong};
@@ -22,12 +22,17 @@ use crate::station::StationSurvey;
 use crate::system_msm::{SystemMsm, epochs_numbered};
 use crate::system_signals::ANY_CODES;
 use crate::systems_sent::{SystemsSent, letter_of};
+use crate::telling::moment_of;
 use crate::wrong_clocks::is_system_wrong;
 use rtk_message::{MsmKind, MsmType, System};
+use rtk_obs::{GpsMs, WEEK_MS};
 use std::alloc::{AllocError, Global};
 
 /// The slots of GLONASS are 1 to 27.
 const SLOTS_END: u8 = 28;
+
+/// Half a day but for a minute, which is left for 1012 beside the epochs.
+const ALMOST_HALF_DAY_MS: u64 = 43_140_000;
 
 /// The satellites of GPS stand before that of slot 1.
 const BEFORE_SLOTS: usize = 32;
@@ -66,6 +71,44 @@ fn number_by(station: &StationSurvey, system: System) -> u16
     let kind = kind_by(station, system);
     let msm = MsmType { system, kind };
     msm.number()
+}
+
+// ---- 1012
+
+fn is_time_near(near: GpsMs, tow: u32) -> bool
+    ensures { result ≡ spec.is_time_near near tow }
+{
+    let ahead = u64::from(tow) + WEEK_MS + ALMOST_HALF_DAY_MS - near.ms() % WEEK_MS;
+    ahead % WEEK_MS < 2 * ALMOST_HALF_DAY_MS
+}
+
+fn is_time_near_if_any(near: GpsMs, tow: Option<u32>) -> bool
+    ensures { result ≡ spec.is_time_near_if_any near tow }
+{
+    match tow {
+        Some(tow) => is_time_near(near, tow),
+        None => false,
+    }
+}
+
+fn dates_1012(date: Option<UtcDate>, first: Option<u32>, last: Option<u32>) -> bool
+    ensures { result ≡ spec.dates_1012 date first last }
+{
+    match date {
+        Some(date) => {
+            let near = moment_of(date);
+            is_time_near_if_any(near, first) && is_time_near_if_any(near, last)
+        }
+        None => false,
+    }
+}
+
+// Does the command take 1012?
+fn takes_1012(date: Option<UtcDate>, station: &StationSurvey) -> bool
+    ensures { result ≡ legacy_held date station.now }
+{
+    dates_1012(date, station.times.first, station.times.last)
+        && 0 < epochs_numbered(&station.system_msm, 1012)
 }
 
 // ---- the codes that are taken
@@ -119,10 +162,38 @@ fn join_system(
     join_part(marks, station.system_msm.get(&number));
 }
 
+// Marks the codes of 1012, unless the clocks of GLONASS are wrong.
+fn join_legacy(marks: &mut [bool; ANY_CODES], date: Option<UtcDate>, station: &StationSurvey)
+    ensures { (c : AnyCode) → get_or marks.new (number_of c) false
+        ≡ (spec.takes_code_1012 date (clocks_at station.now.clocks).offsets (codes_held_by station.now) c || get_or marks.old (number_of c) false) }
+{
+    if are_clocks_wrong(date, station.clocks.as_slice(), System::Glonass) {
+        return;
+    }
+    join_part(marks, station.system_msm.get(&1012));
+}
+
+// The same, if 1012 are taken.
+fn join_1012(
+    marks: &mut [bool; ANY_CODES],
+    date: Option<UtcDate>,
+    station: &StationSurvey,
+    legacy: bool,
+)
+    ensures { (c : AnyCode) → get_or marks.new (number_of c) false
+        ≡ ((legacy && spec.takes_code_1012 date (clocks_at station.now.clocks).offsets (codes_held_by station.now) c)
+        || get_or marks.old (number_of c) false) }
+{
+    if legacy {
+        join_legacy(marks, date, station);
+    }
+}
+
 /// The codes of other systems than GPS that the command takes.
 pub(crate) fn taken_codes(date: Option<UtcDate>, station: &StationSurvey) -> [bool; ANY_CODES]
     ensures { (c : AnyCode) → get_or result (number_of c) false ≡ taken_held date station.now c }
 {
+    let legacy = takes_1012(date, station);
     let mut marks = no_marks();
     join_system(&mut marks, date, station, System::Navic);
     join_system(&mut marks, date, station, System::Sbas);
@@ -130,6 +201,7 @@ pub(crate) fn taken_codes(date: Option<UtcDate>, station: &StationSurvey) -> [bo
     join_system(&mut marks, date, station, System::Beidou);
     join_system(&mut marks, date, station, System::Galileo);
     join_system(&mut marks, date, station, System::Glonass);
+    join_1012(&mut marks, date, station, legacy);
     marks
 }
 
@@ -293,12 +365,19 @@ fn slot_in_part(part: Option<&SystemMsm>, slot: u8) -> bool
     }
 }
 
-fn is_slot_sent(station: &StationSurvey, slot: u8) -> bool
+fn slot_numbered(station: &StationSurvey, slot: u8, number: u16) -> bool
     requires { slot < 28 }
-    ensures { result ≡ slots_held station.now slot }
+    ensures { result ≡ slot_held station.now slot number }
+{
+    slot_in_part(station.system_msm.get(&number), slot)
+}
+
+fn is_slot_sent(legacy: bool, station: &StationSurvey, slot: u8) -> bool
+    requires { slot < 28 }
+    ensures { result ≡ slots_held legacy station.now slot }
 {
     let number = number_by(station, System::Glonass);
-    slot_in_part(station.system_msm.get(&number), slot)
+    slot_numbered(station, slot, number) || (legacy && slot_numbered(station, slot, 1012))
 }
 
 fn put_item(items: &mut Vec<u8>, slot: u8, told: Option<u8>) -> Result<(), AllocError>
@@ -316,22 +395,27 @@ fn put_item(items: &mut Vec<u8>, slot: u8, told: Option<u8>) -> Result<(), Alloc
 }
 
 // A slot that has a value, with its channel.
-fn put_slot_item(items: &mut Vec<u8>, station: &StationSurvey, slot: u8) -> Result<(), AllocError>
+fn put_slot_item(
+    items: &mut Vec<u8>,
+    legacy: bool,
+    station: &StationSurvey,
+    slot: u8,
+) -> Result<(), AllocError>
     requires { slot < 28 }
-    ensures { OnOk result (items.new.items ≡ items.old.items ++ spec.slot_item (slots_held station.now) (fields_held station.now) slot) }
+    ensures { OnOk result (items.new.items ≡ items.old.items ++ spec.slot_item (slots_held legacy station.now) (fields_held station.now) slot) }
 {
-    if !is_slot_sent(station, slot) {
+    if !is_slot_sent(legacy, station, slot) {
         return Ok(());
     }
     put_item(items, slot, most_told(station, slot))
 }
 
-fn slot_items(alloc: Global, station: &StationSurvey) -> Result<Vec<u8>, AllocError>
-    ensures { IfOk result (λ items. items.items ≡ spec.slot_items (slots_held station.now) (fields_held station.now)) }
+fn slot_items(alloc: Global, legacy: bool, station: &StationSurvey) -> Result<Vec<u8>, AllocError>
+    ensures { IfOk result (λ items. items.items ≡ spec.slot_items (slots_held legacy station.now) (fields_held station.now)) }
 {
     let mut items = Vec::new(alloc);
     for slot in 1u8..SLOTS_END {
-        put_slot_item(&mut items, station, slot)?;
+        put_slot_item(&mut items, legacy, station, slot)?;
     }
     Ok(items)
 }
@@ -347,33 +431,60 @@ fn put_listed_items(text: &mut Vec<u8>, items: &[u8]) -> Result<(), AllocError>
     Ok(())
 }
 
-fn put_channels_words(
+fn put_with_1012(text: &mut Vec<u8>, legacy: bool) -> Result<(), AllocError>
+    ensures { OnOk result (text.new.items ≡ text.old.items ++ spec.words_with_1012 legacy) }
+{
+    if legacy {
+        text.extend_from_slice(b" --with-1012")?;
+    }
+    Ok(())
+}
+
+// The options of GLONASS.
+#[tactic(auto, unfolding(crate::specs::NextCommand::glonass_options))]
+fn glonass_options(
+    alloc: Global,
+    date: Option<UtcDate>,
+    station: &StationSurvey,
+) -> Result<Vec<u8>, AllocError>
+    ensures { IfOk result (λ text. text.items ≡ glonass_held date station.now) }
+{
+    let legacy = takes_1012(date, station);
+    let items = slot_items(alloc, legacy, station)?;
+    let mut text = Vec::new(alloc);
+    put_listed_items(&mut text, items.as_slice())?;
+    put_with_1012(&mut text, legacy)?;
+    Ok(text)
+}
+
+fn put_glonass_words(
     text: &mut Vec<u8>,
     sent: &SystemsSent,
-    items: &[u8],
+    options: &[u8],
 ) -> Result<(), AllocError>
-    ensures { OnOk result (text.new.items ≡ text.old.items ++ spec.channels_words_of sent.now items.now) }
+    ensures { OnOk result (text.new.items ≡ text.old.items ++ spec.glonass_words_of sent.now options.now) }
 {
     if sent.glonass {
-        put_listed_items(text, items)
+        text.extend_from_slice(options)
     } else {
         Ok(())
     }
 }
 
-/// The options of the command of a station, by the MSM of GPS that it takes and the systems that it takes.
+/// The options of the command of a station, by the MSM of GPS that it takes and the systems that it takes, near a date.
 pub(crate) fn next_options(
     alloc: Global,
+    date: Option<UtcDate>,
     station: &StationSurvey,
     gps: MsmKind,
     sent: &SystemsSent,
 ) -> Result<Vec<u8>, AllocError>
     ensures { IfOk result (λ text. text.items
-        ≡ spec.next_options (system_epochs_held station.now) (spec.slot_items (slots_held station.now) (fields_held station.now)) gps sent.now) }
+        ≡ spec.next_options (system_epochs_held station.now) (glonass_held date station.now) gps sent.now) }
 {
-    let items = slot_items(alloc, station)?;
+    let glonass = glonass_options(alloc, date, station)?;
     let mut text = Vec::new(alloc);
     put_kinds(alloc, &mut text, station, gps, sent)?;
-    put_channels_words(&mut text, sent, items.as_slice())?;
+    put_glonass_words(&mut text, sent, glonass.as_slice())?;
     Ok(text)
 }

@@ -3,8 +3,8 @@
 ghost use Rattle.std.specs.Prelude.{◌≡◌, ◌<◌, ◌++◌, OnOk};
 ghost use Rattle.rtk_obs.specs.CivilText.{last_digits};
 ghost use Rattle.rtk_survey.specs.FrameDates.{proposed_date};
-ghost use Rattle.rtk_survey.specs.NextCommand.{slot_items, station_proposal};
-ghost use Rattle.rtk_survey.specs.Steps.OtherSystems.{slots_held, fields_held, taken_held};
+ghost use Rattle.rtk_survey.specs.NextCommand.{station_proposal};
+ghost use Rattle.rtk_survey.specs.Steps.OtherSystems.{glonass_held, taken_held};
 ghost use Rattle.rtk_survey.specs.Steps.Tables.{system_epochs_held};
 ghost use Rattle.rtk_survey.specs.SummaryText.{other_msm_line, other_msm_lines, near_text, words_text, is_standard_input, auto_line, next_lines};
 ghost use Rattle.rtk_survey.specs.Contents.{epochs_held, codes_held};
@@ -151,7 +151,7 @@ pub(crate) fn put_proposal(
     ensures { OnOk result (lines.new.items ≡ lines.old.items
         ++ station_proposal name.now (near_text (proposed_date station.now.dates)) number (epochs_held station.now.msm) (codes_held station.now.msm)
         (system_epochs_held station.now) (taken_held (proposed_date station.now.dates) station.now)
-        (slot_items (slots_held station.now) (fields_held station.now))) }
+        (glonass_held (proposed_date station.now.dates) station.now)) }
 {
     let near = station.dates.proposed_date();
     let named = station.msm.proposed();
@@ -159,7 +159,7 @@ pub(crate) fn put_proposal(
     let others = taken_codes(near, station);
     let codes = all_codes_text(alloc, marks, &others)?;
     let sent = SystemsSent::of(marks, &others);
-    let options = next_options(alloc, station, named, &sent)?;
+    let options = next_options(alloc, near, station, named, &sent)?;
     put_second_frequency(lines, marks)?;
     put_other_msms(lines, &station.msm, named)?;
     put_next(

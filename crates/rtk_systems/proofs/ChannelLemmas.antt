@@ -2,17 +2,16 @@
 use Rattle.std.proofs.Common.{◌≡◌, ◌≢◌, ◌<◌, ◌≤◌, ◌+◌, ◌-◌, ◌∙◌, ℕ, zero, suc, ℤ, Bool, true, false, List, [], ◌∷◌, length, Option, None, Some, inl, inr, refl, sym, ap, subst, arith}
 use Rattle.std.specs.Prelude.{nat_lt, slice_index_or, IfSome, if◌then◌else◌}
 use Rattle.std.proofs.lemmas.Bool.{cases_lt, cases_order, cases_Bool, ltb-true, ltb-false}
-use Rattle.rtk_message.specs.declared.msm_kind.MsmKind.{MsmKind}
 use Rattle.rtk_obs.specs.Carriers.{AreChannels, IsSlot, channel_at}
 use Rattle.rtk_obs.specs.LeapSeconds.{IsLastRow}
 use Rattle.rtk_obs.specs.declared.any_code.AnyCode.{AnyCode}
 use Rattle.rtk_rinex.specs.MixedHead.{GlonassView, has_glonass}
-use Rattle.rtk_setup.specs.declared.system_kinds.SystemKinds.{SystemKinds}
 use Rattle.rtk_survey.specs.declared.survey.CaptureSurvey.{CaptureSurvey}
 use Rattle.rtk_systems.specs.AlikeChannels.{is_alike}
-use Rattle.rtk_systems.specs.SlotChannels.{count_told, IsMostTold, IsToldField, IsToldChannel, channel_if, is_slot_given, AreOwnChannels, chosen_channel, IsChannelFound, AreChannelsFound, AreChannelsChosen, AreSecondsChosen, IsGlonassOf, IsGlonassFound}
+use Rattle.rtk_systems.specs.SlotChannels.{count_told, IsMostTold, IsToldField, IsToldChannel, channel_if, is_slot_given, AreOwnChannels, channel_or, chosen_channel, IsChannelFound, AreChannelsFound, AreChannelsChosen, AreSecondsChosen, IsGlonassOf, IsGlonassFound}
 use Rattle.rtk_systems.specs.Steps.ToldFields.{most_told_with}
 use Rattle.rtk_systems.specs.declared.slot_channels.MostTold.{MostTold}
+use Rattle.rtk_systems.specs.declared.values.TakenMessages.{TakenMessages}
 
 -- ---- the field that is told most often
 
@@ -100,13 +99,13 @@ one-field counts fields (Some f) (Some g) is also = elim (cases_order f g) [
   | inr (inr behind) ↦ let less = is.least g behind in let most = also.most f is.few in absurd (omega (arith, less, most))
 ]
 
-one-told : (ss : List CaptureSurvey) (n : ℕ) (kind : MsmKind) (source : Option ℕ) (slot : ℕ) (a b : Option ℤ) → IsToldChannel ss n kind source slot a → IsToldChannel ss n kind source slot b → a ≡ b
-one-told ss n kind source slot a b is also =
-    is.2 ∙ ap (λ (o : Option ℕ). channel_if (is_slot_given ss n kind slot) o) (one-field (count_told ss source slot) 14 is.0 also.0 is.1 also.1) ∙ sym also.2
+one-told : (ss : List CaptureSurvey) (n : ℕ) (taken : TakenMessages) (source : Option ℕ) (slot : ℕ) (a b : Option ℤ) → IsToldChannel ss n taken source slot a → IsToldChannel ss n taken source slot b → a ≡ b
+one-told ss n taken source slot a b is also =
+    is.2 ∙ ap (λ (o : Option ℕ). channel_if (is_slot_given ss n taken slot) o) (one-field (count_told ss source slot) 14 is.0 also.0 is.1 also.1) ∙ sym also.2
 
-one-channel : (ss : List CaptureSurvey) (n : ℕ) (kind : MsmKind) (own : List (Option ℤ)) (slot : ℕ) (a b : Option ℤ) → IsChannelFound ss n kind own slot a → IsChannelFound ss n kind own slot b → a ≡ b
-one-channel ss n kind own slot a b is also =
-    is.2 ∙ ap (λ (o : Option ℤ). chosen_channel (is_alike own slot) (channel_at own slot) o) (one-told ss n kind None slot is.0 also.0 is.1 also.1) ∙ sym also.2
+one-channel : (ss : List CaptureSurvey) (n : ℕ) (taken : TakenMessages) (own : List (Option ℤ)) (slot : ℕ) (a b : Option ℤ) → IsChannelFound ss n taken own slot a → IsChannelFound ss n taken own slot b → a ≡ b
+one-channel ss n taken own slot a b is also =
+    is.2 ∙ ap (λ (o : Option ℤ). chosen_channel (is_alike own slot) (channel_at own slot) o) (one-told ss n taken None slot is.0 also.0 is.1 also.1) ∙ sym also.2
 
 same-list : (xs ys : List (Option ℤ)) → length xs ≡ length ys → ((k : ℕ) → k < length xs → slice_index_or xs k None ≡ slice_index_or ys k None) → xs ≡ ys
 same-list [] [] n at = refl
@@ -126,16 +125,16 @@ same-channels a b good also same =
     let place : (k + 1) - 1 ≡ k = omega arith in
     ap (λ (p : ℕ). slice_index_or a p None) (sym place) ∙ same (k + 1) slot ∙ ap (λ (p : ℕ). slice_index_or b p None) place)
 
-one-own : (ss : List CaptureSurvey) (n : ℕ) (kind : MsmKind) (a b : List (Option ℤ)) → AreOwnChannels ss n kind a → AreOwnChannels ss n kind b → a ≡ b
-one-own ss n kind a b is also =
-    same-channels a b is.good also.good (λ slot s. one-told ss n kind (Some n) slot (channel_at a slot) (channel_at b slot) (is.each slot s) (also.each slot s))
+one-own : (ss : List CaptureSurvey) (n : ℕ) (taken : TakenMessages) (a b : List (Option ℤ)) → AreOwnChannels ss n taken a → AreOwnChannels ss n taken b → a ≡ b
+one-own ss n taken a b is also =
+    same-channels a b is.good also.good (λ slot s. one-told ss n taken (Some n) slot (channel_at a slot) (channel_at b slot) (is.each slot s) (also.each slot s))
 
-one-channels : (ss : List CaptureSurvey) (n : ℕ) (kind : MsmKind) (a b : List (Option ℤ)) → AreChannelsFound ss n kind a → AreChannelsFound ss n kind b → a ≡ b
-one-channels ss n kind a b is also =
-    let own : is.own ≡ also.own = one-own ss n kind is.own also.own is.own_are also.own_are in
+one-channels : (ss : List CaptureSurvey) (n : ℕ) (taken : TakenMessages) (a b : List (Option ℤ)) → AreChannelsFound ss n taken a → AreChannelsFound ss n taken b → a ≡ b
+one-channels ss n taken a b is also =
+    let own : is.own ≡ also.own = one-own ss n taken is.own also.own is.own_are also.own_are in
     same-channels a b is.good also.good (λ slot s.
-    one-channel ss n kind is.own slot (channel_at a slot) (channel_at b slot) (is.each slot s)
-    (subst (λ (cs : List (Option ℤ)). IsChannelFound ss n kind cs slot (channel_at b slot)) (sym own) (also.each slot s)))
+    one-channel ss n taken is.own slot (channel_at a slot) (channel_at b slot) (is.each slot s)
+    (subst (λ (cs : List (Option ℤ)). IsChannelFound ss n taken cs slot (channel_at b slot)) (sym own) (also.each slot s)))
 
 pub one-row : (Begun : ℕ → Type 0) (m n : ℕ) → IsLastRow Begun m → IsLastRow Begun n → m ≡ n
 one-row Begun m n is also = elim (cases_order m n) [
@@ -144,21 +143,24 @@ one-row Begun m n is also = elim (cases_order m n) [
   | inr (inr behind) ↦ absurd (also.last m behind is.known (is.begun (omega (arith, behind))))
 ]
 
-one-chosen : (given : Option (List (Option ℤ))) (ss : List CaptureSurvey) (n : ℕ) (kind : MsmKind) (a b : List (Option ℤ)) → AreChannelsChosen given ss n kind a → AreChannelsChosen given ss n kind b → a ≡ b
-one-chosen None ss n kind a b is also = one-channels ss n kind a b is also
-one-chosen (Some given) ss n kind a b is also = is ∙ sym also
+one-chosen : (given : Option (List (Option ℤ))) (ss : List CaptureSurvey) (n : ℕ) (taken : TakenMessages) (a b : List (Option ℤ)) → AreChannelsChosen given ss n taken a → AreChannelsChosen given ss n taken b → a ≡ b
+one-chosen None ss n taken a b is also = one-channels ss n taken a b is also
+one-chosen (Some given) ss n taken a b is also =
+    let found : is.0 ≡ also.0 = one-channels ss n taken is.0 also.0 is.1 also.1 in
+    same-channels a b is.2.good also.2.good (λ slot s.
+    is.2.each slot s ∙ ap (λ (cs : List (Option ℤ)). channel_or (channel_at given slot) (channel_at cs slot)) found ∙ sym (also.2.each slot s))
 
 pub one-seconds : (given : Option ℕ) (near m n : ℕ) → AreSecondsChosen given near m → AreSecondsChosen given near n → m ≡ n
 one-seconds None near m n is also = one-row _ m n is also
 one-seconds (Some given) near m n is also = is ∙ sym also
 
-pub one-glonass : (ss : List CaptureSurvey) (n : ℕ) (ks : SystemKinds) (listed : List AnyCode) (channels : Option (List (Option ℤ))) (seconds : Option ℕ) (near : ℕ) (a b : Option GlonassView)
-    → IsGlonassFound ss n ks listed channels seconds near a → IsGlonassFound ss n ks listed channels seconds near b → a ≡ b
-one-glonass ss n ks listed channels seconds near None None is also = refl
-one-glonass ss n ks listed channels seconds near None (Some g) is also = let no : true ≡ false = sym also.0 ∙ is in absurd (cc)
-one-glonass ss n ks listed channels seconds near (Some g) None is also = let no : true ≡ false = sym is.0 ∙ also in absurd (cc)
-one-glonass ss n ks listed channels seconds near (Some g) (Some h) is also =
-    let same : g.channels ≡ h.channels = one-chosen channels ss n ks.glonass g.channels h.channels is.1.channels_are also.1.channels_are in
+pub one-glonass : (ss : List CaptureSurvey) (n : ℕ) (taken : TakenMessages) (listed : List AnyCode) (channels : Option (List (Option ℤ))) (seconds : Option ℕ) (near : ℕ) (a b : Option GlonassView)
+    → IsGlonassFound ss n taken listed channels seconds near a → IsGlonassFound ss n taken listed channels seconds near b → a ≡ b
+one-glonass ss n taken listed channels seconds near None None is also = refl
+one-glonass ss n taken listed channels seconds near None (Some g) is also = let no : true ≡ false = sym also.0 ∙ is in absurd (cc)
+one-glonass ss n taken listed channels seconds near (Some g) None is also = let no : true ≡ false = sym is.0 ∙ also in absurd (cc)
+one-glonass ss n taken listed channels seconds near (Some g) (Some h) is also =
+    let same : g.channels ≡ h.channels = one-chosen channels ss n taken g.channels h.channels is.1.channels_are also.1.channels_are in
     let alike : g.leap_seconds ≡ h.leap_seconds = one-seconds seconds near g.leap_seconds h.leap_seconds is.1.seconds_are also.1.seconds_are in
     ap (λ (cs : List (Option ℤ)). Some (glonass_with cs g.leap_seconds)) same ∙ ap (λ (m : ℕ). Some (glonass_with h.channels m)) alike
   where

@@ -3,12 +3,12 @@ use Rattle.std.specs.Prelude.{ℕ, ℤ, Bool, not, ◌&&◌, nat_le, nat_lt, uns
 use Rattle.std.specs.Fmt.{sign_text}
 use Rattle.std.specs.Int.{is_negative}
 use Rattle.std.specs.List.{list_any}
-use Rattle.rtk_message.specs.declared.msm_kind.MsmKind.{MsmKind}
 use Rattle.rtk_obs.specs.CivilText.{last_digits}
 use Rattle.rtk_rinex.specs.MixedHead.{GlonassView}
 use Rattle.rtk_survey.specs.declared.survey.CaptureSurvey.{CaptureSurvey}
 use Rattle.rtk_systems.specs.AlikeChannels.{channel_in_slot}
 use Rattle.rtk_systems.specs.SlotChannels.{is_slot_given}
+use Rattle.rtk_systems.specs.declared.values.TakenMessages.{TakenMessages}
 
 -- table
 -- the slots of GLONASS
@@ -62,23 +62,23 @@ glonass_words (Some g) = channels_option g.channels
 -- ---- slots without a channel
 
 -- a slot has a value, and no channel
-abbrev pub lacks_channel : List CaptureSurvey → ℕ → MsmKind → List (Option ℤ) → ℕ → Bool
-lacks_channel ss n kind channels slot = nat_lt slot 28 && (is_slot_given ss n kind slot && not (slot_has_channel channels slot))
+abbrev pub lacks_channel : List CaptureSurvey → ℕ → TakenMessages → List (Option ℤ) → ℕ → Bool
+lacks_channel ss n taken channels slot = nat_lt slot 28 && (is_slot_given ss n taken slot && not (slot_has_channel channels slot))
 
-abbrev pub have_none : List CaptureSurvey → ℕ → MsmKind → List (Option ℤ) → Bool
-have_none ss n kind channels = list_any (lacks_channel ss n kind channels) all_slots
+abbrev pub have_none : List CaptureSurvey → ℕ → TakenMessages → List (Option ℤ) → Bool
+have_none ss n taken channels = list_any (lacks_channel ss n taken channels) all_slots
 
 -- formula
 -- the satellite of such a slot, as in R09
-abbrev pub lacking_name : List CaptureSurvey → ℕ → MsmKind → List (Option ℤ) → ℕ → List ℕ
-lacking_name ss n kind channels slot = if lacks_channel ss n kind channels slot then codes " R" ++ last_digits 2 slot else []
+abbrev pub lacking_name : List CaptureSurvey → ℕ → TakenMessages → List (Option ℤ) → ℕ → List ℕ
+lacking_name ss n taken channels slot = if lacks_channel ss n taken channels slot then codes " R" ++ last_digits 2 slot else []
 
 -- formula
 -- the satellites of the slots that have a value and no channel
-unfoldable pub no_channel_words : List CaptureSurvey → ℕ → MsmKind → List (Option ℤ) → List ℕ
-no_channel_words ss n kind channels =
-    codes " no-channel" ++ flat_map (lacking_name ss n kind channels) all_slots
+unfoldable pub no_channel_words : List CaptureSurvey → ℕ → TakenMessages → List (Option ℤ) → List ℕ
+no_channel_words ss n taken channels =
+    codes " no-channel" ++ flat_map (lacking_name ss n taken channels) all_slots
     ++ codes ": give --channels, as a header's GLONASS SLOT / FRQ # of the same days has them\n"
 
-abbrev pub no_channel_line : List CaptureSurvey → ℕ → MsmKind → List (Option ℤ) → List ℕ
-no_channel_line ss n kind channels = if have_none ss n kind channels then no_channel_words ss n kind channels else []
+abbrev pub no_channel_line : List CaptureSurvey → ℕ → TakenMessages → List (Option ℤ) → List ℕ
+no_channel_line ss n taken channels = if have_none ss n taken channels then no_channel_words ss n taken channels else []

@@ -29,13 +29,30 @@ unread_lines_from words taken ss first count = flat_map (unread_line words taken
 unfoldable pub unread_gps : Accepted → List CaptureSurvey → List ℕ
 unread_gps taken ss = unread_lines_from (codes " not in the file: GPS ") taken ss 1001 3 ++ unread_lines_from (codes " not in the file: GPS ") taken ss 1071 3
 
+-- formula
+-- the 1012 of captures in which they can't be dated
+abbrev pub long_line : ℕ → List ℕ
+long_line count = if count == 0 then [] else codes " untaken GLONASS 1012 " ++ decimal count ++ codes ": more than a day\n"
+
+-- 1012, unless they are taken; they may be left out since they can't be dated
+abbrev pub line_of_1012 : Bool → Accepted → List CaptureSurvey → List ℕ
+line_of_1012 is_long taken ss =
+    if is_long then long_line (others_in_captures ss 1012) else unread_line (codes " not in the file: GLONASS ") taken ss 1012
+
+-- table
+-- observations of GLONASS by themselves: 1009 to 1012
+-- Source: RTCM 10403.3, message types
+unfoldable pub unread_legacy_glonass : Bool → Accepted → List CaptureSurvey → List ℕ
+unread_legacy_glonass is_long taken ss =
+    unread_lines_from (codes " not in the file: GLONASS ") taken ss 1009 3 ++ line_of_1012 is_long taken ss
+
 -- table
 -- observations of GLONASS: 1009 to 1012, and MSM 1081 to 1087; of Galileo: MSM 1091 to 1097; of SBAS: MSM
 -- 1101 to 1107
 -- Source: RTCM 10403.3, message types
-unfoldable pub unread_glonass_to_sbas : Accepted → List CaptureSurvey → List ℕ
-unread_glonass_to_sbas taken ss =
-    unread_lines_from (codes " not in the file: GLONASS ") taken ss 1009 4 ++ unread_lines_from (codes " not in the file: GLONASS ") taken ss 1081 7
+unfoldable pub unread_glonass_to_sbas : Bool → Accepted → List CaptureSurvey → List ℕ
+unread_glonass_to_sbas is_long taken ss =
+    unread_legacy_glonass is_long taken ss ++ unread_lines_from (codes " not in the file: GLONASS ") taken ss 1081 7
     ++ unread_lines_from (codes " not in the file: Galileo ") taken ss 1091 7 ++ unread_lines_from (codes " not in the file: SBAS ") taken ss 1101 7
 
 -- table
@@ -47,9 +64,10 @@ unread_qzss_to_navic taken ss =
     ++ unread_lines_from (codes " not in the file: NavIC ") taken ss 1131 7
 
 -- formula
--- all observations that are not taken, but for the MSM of GPS that a survey reads
-unfoldable pub all_unread : Accepted → List CaptureSurvey → List ℕ
-all_unread taken ss = unread_gps taken ss ++ unread_glonass_to_sbas taken ss ++ unread_qzss_to_navic taken ss
+-- all observations that are not taken, but for the MSM of GPS that a survey reads; 1012 may be left out since they can't be
+-- dated
+unfoldable pub all_unread : Bool → Accepted → List CaptureSurvey → List ℕ
+all_unread is_long taken ss = unread_gps taken ss ++ unread_glonass_to_sbas is_long taken ss ++ unread_qzss_to_navic taken ss
 
 -- formula
 -- an MSM of GPS of a station, unless it is taken; messages that can't be read are counted too

@@ -1,17 +1,15 @@
 -- The frequency channels of the slots of GLONASS, by the surveys of captures (this project's rule).
 -- Source: RTCM 10403.3, DF038, DF040 and DF419
-use Rattle.std.specs.Prelude.{◌≡◌, ◌≢◌, ◌<◌, ◌≤◌, ℕ, ◌+◌, ℤ, ◌-ℤ◌, pos, Bool, true, false, List, get_or, Option, None, Some}
+use Rattle.std.specs.Prelude.{◌≡◌, ◌≢◌, ◌<◌, ◌≤◌, ℕ, ◌+◌, ℤ, ◌-ℤ◌, pos, Bool, true, false, ◌&&◌, ◌||◌, List, get_or, Option, None, Some}
 use Rattle.std.specs.BTreeMap.{get}
 use Rattle.std.specs.List.{list_any, sum_by}
 use Rattle.std.specs.Ordering.{nat_cmp}
-use Rattle.rtk_message.specs.declared.msm_kind.MsmKind.{MsmKind}
 use Rattle.rtk_message.specs.declared.system.System.TheVariants.{Glonass}
 use Rattle.rtk_message.specs.Systems.{number_of_type}
 use Rattle.rtk_obs.specs.Carriers.{AreChannels, IsSlot, channel_at}
 use Rattle.rtk_obs.specs.LeapSeconds.{IsLeapSecondsAt}
 use Rattle.rtk_obs.specs.declared.any_code.AnyCode.{AnyCode}
 use Rattle.rtk_rinex.specs.MixedHead.{GlonassView, has_glonass}
-use Rattle.rtk_setup.specs.declared.system_kinds.SystemKinds.{SystemKinds}
 use Rattle.rtk_survey.specs.Channels.{place_of_field}
 use Rattle.rtk_survey.specs.Counting.{shown_count}
 use Rattle.rtk_survey.specs.declared.station.StationSurvey.{StationSurvey}
@@ -19,6 +17,7 @@ use Rattle.rtk_survey.specs.declared.survey.CaptureSurvey.{CaptureSurvey}
 use Rattle.rtk_survey.specs.declared.system_msm.SystemMsm.{SystemMsm}
 use Rattle.rtk_systems.specs.AlikeChannels.{is_alike}
 use Rattle.rtk_survey.specs.Contents.{station_in}
+use Rattle.rtk_systems.specs.declared.values.TakenMessages.{TakenMessages}
 
 -- ---- slots that have a value
 
@@ -28,16 +27,18 @@ abbrev pub is_slot_in : ℕ → Option SystemMsm → Bool
 is_slot_in slot None = false
 is_slot_in slot (Some p) = get_or p.signals.satellites (32 + slot) false
 
--- the same in the messages of a station that a conversion takes with the MSM of this kind
-abbrev pub holds_slot : ℕ → MsmKind → Option StationSurvey → Bool
-holds_slot slot kind None = false
-holds_slot slot kind (Some t) = is_slot_in slot (get nat_cmp t.system_msm (number_of_type (record { system = Glonass; kind = kind })))
+-- the same in the messages of a station that a conversion takes
+abbrev pub holds_slot : ℕ → TakenMessages → Option StationSurvey → Bool
+holds_slot slot taken None = false
+holds_slot slot taken (Some t) =
+    is_slot_in slot (get nat_cmp t.system_msm (number_of_type (record { system = Glonass; kind = taken.kinds.glonass })))
+    || (taken.obs1012 && is_slot_in slot (get nat_cmp t.system_msm 1012))
 
-abbrev pub gives_slot : ℕ → MsmKind → ℕ → CaptureSurvey → Bool
-gives_slot n kind slot s = holds_slot slot kind (station_in n s)
+abbrev pub gives_slot : ℕ → TakenMessages → ℕ → CaptureSurvey → Bool
+gives_slot n taken slot s = holds_slot slot taken (station_in n s)
 
-abbrev pub is_slot_given : List CaptureSurvey → ℕ → MsmKind → ℕ → Bool
-is_slot_given ss n kind slot = list_any (gives_slot n kind slot) ss
+abbrev pub is_slot_given : List CaptureSurvey → ℕ → TakenMessages → ℕ → Bool
+is_slot_given ss n taken slot = list_any (gives_slot n taken slot) ss
 
 -- ---- channels that messages tell
 
@@ -86,17 +87,17 @@ channel_if true (Some field) = Some (channel_of_field field)
 -- constant
 -- the channel that these messages tell most often of a slot, by the fields 0 to 13: none, if no satellite has a value
 -- there or if none is told
-abbrev pub IsToldChannel : List CaptureSurvey → ℕ → MsmKind → Option ℕ → ℕ → Option ℤ → Type 0
-IsToldChannel ss n kind source slot channel =
-    (told : Option ℕ) × IsToldField (count_told ss source slot) 14 told × (channel ≡ channel_if (is_slot_given ss n kind slot) told)
+abbrev pub IsToldChannel : List CaptureSurvey → ℕ → TakenMessages → Option ℕ → ℕ → Option ℤ → Type 0
+IsToldChannel ss n taken source slot channel =
+    (told : Option ℕ) × IsToldField (count_told ss source slot) 14 told × (channel ≡ channel_if (is_slot_given ss n taken slot) told)
 
 -- each slot has the channel that messages of the station tell
-abbrev pub HasOwnChannels : List CaptureSurvey → ℕ → MsmKind → List (Option ℤ) → Type 0
-HasOwnChannels ss n kind channels = (slot : ℕ) → IsSlot slot → IsToldChannel ss n kind (Some n) slot (channel_at channels slot)
+abbrev pub HasOwnChannels : List CaptureSurvey → ℕ → TakenMessages → List (Option ℤ) → Type 0
+HasOwnChannels ss n taken channels = (slot : ℕ) → IsSlot slot → IsToldChannel ss n taken (Some n) slot (channel_at channels slot)
 
-pub record AreOwnChannels (ss : List CaptureSurvey) (n : ℕ) (kind : MsmKind) (channels : List (Option ℤ)) : Type 0 where
+pub record AreOwnChannels (ss : List CaptureSurvey) (n : ℕ) (taken : TakenMessages) (channels : List (Option ℤ)) : Type 0 where
   pub good : AreChannels channels
-  pub each : HasOwnChannels ss n kind channels
+  pub each : HasOwnChannels ss n taken channels
 
 abbrev pub channel_or : Option ℤ → Option ℤ → Option ℤ
 channel_or None other = other
@@ -108,41 +109,53 @@ chosen_channel true own other = channel_or other own
 chosen_channel false own other = channel_or own other
 
 -- the channel of a slot, by those that messages of the station tell and by that of 1020
-abbrev pub IsChannelFound : List CaptureSurvey → ℕ → MsmKind → List (Option ℤ) → ℕ → Option ℤ → Type 0
-IsChannelFound ss n kind own slot channel =
-    (other : Option ℤ) × IsToldChannel ss n kind None slot other × (channel ≡ chosen_channel (is_alike own slot) (channel_at own slot) other)
+abbrev pub IsChannelFound : List CaptureSurvey → ℕ → TakenMessages → List (Option ℤ) → ℕ → Option ℤ → Type 0
+IsChannelFound ss n taken own slot channel =
+    (other : Option ℤ) × IsToldChannel ss n taken None slot other × (channel ≡ chosen_channel (is_alike own slot) (channel_at own slot) other)
 
 -- other slots than this one keep their channels: before, after
 abbrev pub KeepsOtherSlots : ℕ → List (Option ℤ) → List (Option ℤ) → Type 0
 KeepsOtherSlots slot old new = (s : ℕ) → IsSlot s → s ≢ slot → channel_at new s ≡ channel_at old s
 
 -- each slot has the channel that is found
-abbrev pub HasChannelsFound : List CaptureSurvey → ℕ → MsmKind → List (Option ℤ) → List (Option ℤ) → Type 0
-HasChannelsFound ss n kind own channels = (slot : ℕ) → IsSlot slot → IsChannelFound ss n kind own slot (channel_at channels slot)
+abbrev pub HasChannelsFound : List CaptureSurvey → ℕ → TakenMessages → List (Option ℤ) → List (Option ℤ) → Type 0
+HasChannelsFound ss n taken own channels = (slot : ℕ) → IsSlot slot → IsChannelFound ss n taken own slot (channel_at channels slot)
 
-pub record AreChannelsFound (ss : List CaptureSurvey) (n : ℕ) (kind : MsmKind) (channels : List (Option ℤ)) : Type 0 where
+pub record AreChannelsFound (ss : List CaptureSurvey) (n : ℕ) (taken : TakenMessages) (channels : List (Option ℤ)) : Type 0 where
   pub good : AreChannels channels
   pub own : List (Option ℤ)
-  pub own_are : AreOwnChannels ss n kind own
-  pub each : HasChannelsFound ss n kind own channels
+  pub own_are : AreOwnChannels ss n taken own
+  pub each : HasChannelsFound ss n taken own channels
 
 -- ---- what is told of GLONASS
 
--- the channels that are given, else those that are found
-abbrev pub AreChannelsChosen : Option (List (Option ℤ)) → List CaptureSurvey → ℕ → MsmKind → List (Option ℤ) → Type 0
-AreChannelsChosen None ss n kind channels = AreChannelsFound ss n kind channels
-AreChannelsChosen (Some given) ss n kind channels = channels ≡ given
+-- the channel of a slot that is given, else the one that is found
+abbrev pub IsJoinedChannel : List (Option ℤ) → List (Option ℤ) → ℕ → Option ℤ → Type 0
+IsJoinedChannel given found slot channel = channel ≡ channel_or (channel_at given slot) (channel_at found slot)
+
+abbrev pub HasJoinedChannels : List (Option ℤ) → List (Option ℤ) → List (Option ℤ) → Type 0
+HasJoinedChannels given found channels = (slot : ℕ) → IsSlot slot → IsJoinedChannel given found slot (channel_at channels slot)
+
+pub record AreJoinedChannels (given found channels : List (Option ℤ)) : Type 0 where
+  pub good : AreChannels channels
+  pub each : HasJoinedChannels given found channels
+
+-- the channels that are given, and of each other slot the one that is found
+abbrev pub AreChannelsChosen : Option (List (Option ℤ)) → List CaptureSurvey → ℕ → TakenMessages → List (Option ℤ) → Type 0
+AreChannelsChosen None ss n taken channels = AreChannelsFound ss n taken channels
+AreChannelsChosen (Some given) ss n taken channels =
+    (found : List (Option ℤ)) × AreChannelsFound ss n taken found × AreJoinedChannels given found channels
 
 -- the leap seconds that are given, else those of the table at the moment near which captures are dated
 abbrev pub AreSecondsChosen : Option ℕ → ℕ → ℕ → Type 0
 AreSecondsChosen None near seconds = IsLeapSecondsAt near seconds
 AreSecondsChosen (Some given) near seconds = seconds ≡ given
 
-pub record IsGlonassOf (ss : List CaptureSurvey) (n : ℕ) (kind : MsmKind) (channels : Option (List (Option ℤ))) (seconds : Option ℕ) (near : ℕ) (g : GlonassView) : Type 0 where
-  pub channels_are : AreChannelsChosen channels ss n kind g.channels
+pub record IsGlonassOf (ss : List CaptureSurvey) (n : ℕ) (taken : TakenMessages) (channels : Option (List (Option ℤ))) (seconds : Option ℕ) (near : ℕ) (g : GlonassView) : Type 0 where
+  pub channels_are : AreChannelsChosen channels ss n taken g.channels
   pub seconds_are : AreSecondsChosen seconds near g.leap_seconds
 
 -- with a code of GLONASS, and only then, it is told of
-abbrev pub IsGlonassFound : List CaptureSurvey → ℕ → SystemKinds → List AnyCode → Option (List (Option ℤ)) → Option ℕ → ℕ → Option GlonassView → Type 0
-IsGlonassFound ss n ks listed channels seconds near None = has_glonass listed ≡ false
-IsGlonassFound ss n ks listed channels seconds near (Some g) = (has_glonass listed ≡ true) × IsGlonassOf ss n ks.glonass channels seconds near g
+abbrev pub IsGlonassFound : List CaptureSurvey → ℕ → TakenMessages → List AnyCode → Option (List (Option ℤ)) → Option ℕ → ℕ → Option GlonassView → Type 0
+IsGlonassFound ss n taken listed channels seconds near None = has_glonass listed ≡ false
+IsGlonassFound ss n taken listed channels seconds near (Some g) = (has_glonass listed ≡ true) × IsGlonassOf ss n taken channels seconds near g

@@ -2,7 +2,6 @@
 -- (this project's rule).
 use Rattle.std.specs.Prelude.{ℕ, ℤ, Bool, ◌&&◌, nat_lt, List, [], ◌∷◌, ◌++◌, flat_map, codes, Option, None, Some, if◌then◌else◌}
 use Rattle.std.specs.List.{sum_by}
-use Rattle.rtk_message.specs.declared.msm_kind.MsmKind.{MsmKind}
 use Rattle.rtk_obs.specs.CivilText.{last_digits}
 use Rattle.rtk_rinex.specs.MixedHead.{GlonassView}
 use Rattle.rtk_survey.specs.Counting.{shown_count}
@@ -10,6 +9,7 @@ use Rattle.rtk_survey.specs.declared.survey.CaptureSurvey.{CaptureSurvey}
 use Rattle.rtk_systems.specs.AlikeChannels.{channel_in_slot, constellation_slots, is_same_channel, slots_with_channel, are_too_many}
 use Rattle.rtk_systems.specs.ChannelWords.{said_channel, all_slots, no_channel_line}
 use Rattle.rtk_systems.specs.SlotChannels.{channel_of_field, is_slot_given, own_count}
+use Rattle.rtk_systems.specs.declared.values.TakenMessages.{TakenMessages}
 
 -- table
 -- the fields that tell a channel
@@ -63,18 +63,18 @@ unfoldable pub several_words : List CaptureSurvey → ℕ → ℕ → List ℕ
 several_words ss n slot = codes " several-channels" ++ satellite_of_slot slot ++ flat_map (told_channel ss n slot) channel_fields ++ codes "\n"
 
 -- a slot has a value, and messages of the station tell several channels of it
-abbrev pub has_several : List CaptureSurvey → ℕ → MsmKind → ℕ → Bool
-has_several ss n kind slot = nat_lt slot 28 && (is_slot_given ss n kind slot && nat_lt 1 (channels_told_of ss n slot))
+abbrev pub has_several : List CaptureSurvey → ℕ → TakenMessages → ℕ → Bool
+has_several ss n taken slot = nat_lt slot 28 && (is_slot_given ss n taken slot && nat_lt 1 (channels_told_of ss n slot))
 
-abbrev pub several_line : List CaptureSurvey → ℕ → MsmKind → ℕ → List ℕ
-several_line ss n kind slot = if has_several ss n kind slot then several_words ss n slot else []
+abbrev pub several_line : List CaptureSurvey → ℕ → TakenMessages → ℕ → List ℕ
+several_line ss n taken slot = if has_several ss n taken slot then several_words ss n slot else []
 
-abbrev pub several_lines : List CaptureSurvey → ℕ → MsmKind → List ℕ
-several_lines ss n kind = flat_map (several_line ss n kind) all_slots
+abbrev pub several_lines : List CaptureSurvey → ℕ → TakenMessages → List ℕ
+several_lines ss n taken = flat_map (several_line ss n taken) all_slots
 
 -- ---- all of them
 
 -- what messages tell of channels, and the slots without one, if this is told of GLONASS
-abbrev pub told_channel_lines : List CaptureSurvey → ℕ → MsmKind → List (Option ℤ) → Option GlonassView → List ℕ
-told_channel_lines ss n kind own None = []
-told_channel_lines ss n kind own (Some g) = alike_lines own ++ several_lines ss n kind ++ no_channel_line ss n kind g.channels
+abbrev pub told_channel_lines : List CaptureSurvey → ℕ → TakenMessages → List (Option ℤ) → Option GlonassView → List ℕ
+told_channel_lines ss n taken own None = []
+told_channel_lines ss n taken own (Some g) = alike_lines own ++ several_lines ss n taken ++ no_channel_line ss n taken g.channels

@@ -1,5 +1,5 @@
 -- The systems whose clocks no chain compares with that of another system (this project's rule).
-use Rattle.std.specs.Prelude.{ℕ, ◌==◌, Bool, true, false, not, ◌&&◌, is_some, List, [], ◌∷◌, ◌++◌, flat_map, codes, Option, None, Some, if◌then◌else◌}
+use Rattle.std.specs.Prelude.{ℕ, ◌==◌, Bool, true, false, not, ◌&&◌, ◌||◌, is_some, List, [], ◌∷◌, ◌++◌, flat_map, codes, Option, None, Some, if◌then◌else◌}
 use Rattle.std.specs.BTreeMap.{get}
 use Rattle.std.specs.List.{list_any}
 use Rattle.std.specs.Ordering.{nat_cmp}
@@ -28,9 +28,27 @@ has_msm system t kind = is_some (get nat_cmp t.system_msm (number_of_type (recor
 abbrev pub kinds_in_order : List MsmKind
 kinds_in_order = Msm4 ∷ Msm5 ∷ Msm6 ∷ Msm7 ∷ []
 
--- an observation message of a system came
+-- table
+-- 1012 has the clock of GLONASS
+abbrev pub is_glonass_system : System → Bool
+is_glonass_system Gps = false
+is_glonass_system Glonass = true
+is_glonass_system Galileo = false
+is_glonass_system Beidou = false
+is_glonass_system Qzss = false
+is_glonass_system Sbas = false
+is_glonass_system Navic = false
+
+-- a 1012 came
+abbrev pub has_1012 : StationSurvey → Bool
+has_1012 t = is_some (get nat_cmp t.system_msm 1012)
+
+abbrev pub sends_beside : System → StationSurvey → Bool
+sends_beside system t = list_any (has_msm system t) kinds_in_order || (is_glonass_system system && has_1012 t)
+
+-- a message with the clock of a system came
 abbrev pub sends_system : System → StationSurvey → Bool
-sends_system system t = if is_gps_system system then is_some t.times.first else list_any (has_msm system t) kinds_in_order
+sends_system system t = if is_gps_system system then is_some t.times.first else sends_beside system t
 
 abbrev pub station_sends : System → Option StationSurvey → Bool
 station_sends system None = false
@@ -72,10 +90,10 @@ is_first_timing ss n system = times_chains system && not (list_any (is_system_se
 
 -- ---- the lines
 
--- no clock of a system that is converted is compared
+-- no clock of a system that is sent and converted is compared
 abbrev pub is_system_unchecked : List AnyCode → List CaptureSurvey → ℕ → System → Bool
 is_system_unchecked listed ss n system =
-    lists_system listed system && (clocks_compared ss n system == 0 && not (is_first_timing ss n system))
+    lists_system listed system && (is_system_sent ss n system && (clocks_compared ss n system == 0 && not (is_first_timing ss n system)))
 
 -- formula
 abbrev pub unchecked_system_line : List AnyCode → List CaptureSurvey → ℕ → System → List ℕ

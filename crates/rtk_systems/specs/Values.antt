@@ -1,5 +1,5 @@
 -- The values of the conversion of a station, by the surveys of its captures (this project's rule).
-use Rattle.std.specs.Prelude.{ℕ, ◌+◌, ◌-◌, ◌==◌, Bool, true, false, ◌&&◌, List, [], ◌∷◌, filter, get_or, slice_get, max, Option, None, Some, if◌then◌else◌}
+use Rattle.std.specs.Prelude.{ℕ, ◌+◌, ◌-◌, ◌==◌, Bool, true, false, ◌&&◌, ◌||◌, is_some, List, [], ◌∷◌, filter, get_or, slice_get, max, Option, None, Some, if◌then◌else◌}
 use Rattle.std.specs.BTreeMap.{get, values}
 use Rattle.std.specs.List.{list_any, sum_by}
 use Rattle.std.specs.Ordering.{nat_cmp}
@@ -22,6 +22,7 @@ use Rattle.rtk_survey.specs.declared.system_msm.SystemMsm.{SystemMsm}
 use Rattle.rtk_survey.specs.declared.unread.Unread.{Unread}
 use Rattle.rtk_systems.specs.SystemFlags.{flag_of}
 use Rattle.rtk_systems.specs.declared.system_flags.SystemFlags.{SystemFlags}
+use Rattle.rtk_systems.specs.declared.values.TakenMessages.{TakenMessages}
 
 -- table
 -- the messages of GPS are held beside those of all other systems
@@ -119,26 +120,53 @@ abbrev pub has_code_in : AnyCode → Option SystemMsm → Bool
 has_code_in c None = false
 has_code_in c (Some p) = get_or p.signals.codes (number_of c) false
 
--- a code of a system has a value in a message of a station that a conversion takes with the MSM of these kinds
-abbrev pub has_code_by : System → SystemKinds → AnyCode → StationSurvey → Bool
-has_code_by system ks c t =
-    if is_gps_system system then get_or (msm_part t.msm ks.gps).codes.marks (place_of c) false
-    else has_code_in c (get nat_cmp t.system_msm (number_of_type (record { system = system; kind = kind_of ks system })))
+-- a code has a value in messages of a station of this number, which is none of GPS
+abbrev pub has_code_numbered : ℕ → AnyCode → StationSurvey → Bool
+has_code_numbered number c t = has_code_in c (get nat_cmp t.system_msm number)
 
-abbrev pub has_code_with : SystemKinds → AnyCode → Option StationSurvey → Bool
-has_code_with ks c None = false
-has_code_with ks c (Some t) = has_code_by (system_of c) ks c t
+-- a code of another system than GPS has a value in a message of a station that a conversion takes: an MSM, or a 1012, which
+-- has codes of GLONASS alone
+abbrev pub has_code_beside : System → TakenMessages → AnyCode → StationSurvey → Bool
+has_code_beside system taken c t =
+    has_code_numbered (number_of_type (record { system = system; kind = kind_of taken.kinds system })) c t
+    || (taken.obs1012 && has_code_numbered 1012 c t)
+
+-- a code of a system has a value in a message of a station that a conversion takes
+abbrev pub has_code_by : System → TakenMessages → AnyCode → StationSurvey → Bool
+has_code_by system taken c t =
+    if is_gps_system system then get_or (msm_part t.msm taken.kinds.gps).codes.marks (place_of c) false else has_code_beside system taken c t
+
+abbrev pub has_code_with : TakenMessages → AnyCode → Option StationSurvey → Bool
+has_code_with taken c None = false
+has_code_with taken c (Some t) = has_code_by (system_of c) taken c t
 
 -- the same of a capture
-abbrev pub gives_code : ℕ → SystemKinds → AnyCode → CaptureSurvey → Bool
-gives_code n ks c s = has_code_with ks c (station_in n s)
+abbrev pub gives_code : ℕ → TakenMessages → AnyCode → CaptureSurvey → Bool
+gives_code n taken c s = has_code_with taken c (station_in n s)
 
 -- a code of one of these systems has one in some capture
-abbrev pub is_found : List CaptureSurvey → ℕ → SystemFlags → SystemKinds → AnyCode → Bool
-is_found ss n systems ks c = flag_of systems (system_of c) && list_any (gives_code n ks c) ss
+abbrev pub is_found : List CaptureSurvey → ℕ → SystemFlags → TakenMessages → AnyCode → Bool
+is_found ss n systems taken c = flag_of systems (system_of c) && list_any (gives_code n taken c) ss
 
-abbrev pub codes_in_captures : List CaptureSurvey → ℕ → SystemFlags → SystemKinds → List AnyCode
-codes_in_captures ss n systems ks = filter (is_found ss n systems ks) all_any_codes
+abbrev pub codes_in_captures : List CaptureSurvey → ℕ → SystemFlags → TakenMessages → List AnyCode
+codes_in_captures ss n systems taken = filter (is_found ss n systems taken) all_any_codes
+
+-- ---- 1012
+
+abbrev pub epochs_1012_of : Option StationSurvey → Epochs
+epochs_1012_of None = no_epochs
+epochs_1012_of (Some t) = epochs_of_part (get nat_cmp t.system_msm 1012)
+
+-- the epochs of the 1012 of a station with a value that a capture has
+abbrev pub epochs_1012_in : ℕ → CaptureSurvey → Epochs
+epochs_1012_in n s = epochs_1012_of (station_in n s)
+
+abbrev pub gives_1012 : ℕ → CaptureSurvey → Bool
+gives_1012 n s = is_some (epochs_1012_in n s).first
+
+-- some 1012 of a station has a value
+abbrev pub is_1012_given : List CaptureSurvey → ℕ → Bool
+is_1012_given ss n = list_any (gives_1012 n) ss
 
 -- ---- messages
 

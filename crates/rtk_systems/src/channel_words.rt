@@ -8,7 +8,8 @@ ghost use Rattle.rtk_systems.specs.ChannelWords as spec;
 
 use crate::alike_channels::channel_in_slot;
 use crate::slot_channels::is_slot_given;
-use rtk_message::{MsmKind, put_number};
+use crate::values::TakenMessages;
+use rtk_message::put_number;
 use rtk_obs::{Channel, Channels, two_digits};
 use rtk_rinex::Glonass;
 use rtk_survey::CaptureSurvey;
@@ -137,19 +138,24 @@ pub fn put_glonass_words(line: &mut Vec<u8>, glonass: Option<Glonass>) -> Result
 fn lacks_channel(
     surveys: &[CaptureSurvey],
     station: u16,
-    kind: MsmKind,
+    taken: TakenMessages,
     channels: &Channels,
     slot: u8,
 ) -> bool
-    ensures { result ≡ spec.lacks_channel surveys.now station kind channels.now slot }
+    ensures { result ≡ spec.lacks_channel surveys.now station taken channels.now slot }
 {
-    slot < 28 && is_slot_given(surveys, station, kind, slot) && !slot_has_channel(channels, slot)
+    slot < 28 && is_slot_given(surveys, station, taken, slot) && !slot_has_channel(channels, slot)
 }
 
-fn have_none(surveys: &[CaptureSurvey], station: u16, kind: MsmKind, channels: &Channels) -> bool
-    ensures { result ≡ spec.have_none surveys.now station kind channels.now }
+fn have_none(
+    surveys: &[CaptureSurvey],
+    station: u16,
+    taken: TakenMessages,
+    channels: &Channels,
+) -> bool
+    ensures { result ≡ spec.have_none surveys.now station taken channels.now }
 {
-    SLOTS.iter().any(|slot| lacks_channel(surveys, station, kind, channels, *slot))
+    SLOTS.iter().any(|slot| lacks_channel(surveys, station, taken, channels, *slot))
 }
 
 // Appends the name of the satellite of a slot, if it has a value and no channel.
@@ -157,13 +163,13 @@ fn put_lacking(
     lines: &mut Vec<u8>,
     surveys: &[CaptureSurvey],
     station: u16,
-    kind: MsmKind,
+    taken: TakenMessages,
     channels: &Channels,
     slot: u8,
 ) -> Result<(), AllocError>
-    ensures { OnOk result (lines.new.items ≡ lines.old.items ++ spec.lacking_name surveys.now station kind channels.now slot) }
+    ensures { OnOk result (lines.new.items ≡ lines.old.items ++ spec.lacking_name surveys.now station taken channels.now slot) }
 {
-    if !lacks_channel(surveys, station, kind, channels, slot) {
+    if !lacks_channel(surveys, station, taken, channels, slot) {
         return Ok(());
     }
     lines.extend_from_slice(b" R")?;
@@ -174,14 +180,14 @@ fn put_lacking_among(
     lines: &mut Vec<u8>,
     surveys: &[CaptureSurvey],
     station: u16,
-    kind: MsmKind,
+    taken: TakenMessages,
     channels: &Channels,
     slots: &[u8],
 ) -> Result<(), AllocError>
-    ensures { OnOk result (lines.new.items ≡ lines.old.items ++ flat_map (spec.lacking_name surveys.now station kind channels.now) slots.now) }
+    ensures { OnOk result (lines.new.items ≡ lines.old.items ++ flat_map (spec.lacking_name surveys.now station taken channels.now) slots.now) }
 {
     for slot in slots {
-        put_lacking(lines, surveys, station, kind, channels, *slot)?;
+        put_lacking(lines, surveys, station, taken, channels, *slot)?;
     }
     Ok(())
 }
@@ -191,13 +197,13 @@ fn put_no_channel_words(
     lines: &mut Vec<u8>,
     surveys: &[CaptureSurvey],
     station: u16,
-    kind: MsmKind,
+    taken: TakenMessages,
     channels: &Channels,
 ) -> Result<(), AllocError>
-    ensures { OnOk result (lines.new.items ≡ lines.old.items ++ spec.no_channel_words surveys.now station kind channels.now) }
+    ensures { OnOk result (lines.new.items ≡ lines.old.items ++ spec.no_channel_words surveys.now station taken channels.now) }
 {
     lines.extend_from_slice(b" no-channel")?;
-    put_lacking_among(lines, surveys, station, kind, channels, &SLOTS)?;
+    put_lacking_among(lines, surveys, station, taken, channels, &SLOTS)?;
     lines.extend_from_slice(TO_GIVE)?;
     Ok(())
 }
@@ -207,13 +213,13 @@ pub(crate) fn put_no_channel_line(
     lines: &mut Vec<u8>,
     surveys: &[CaptureSurvey],
     station: u16,
-    kind: MsmKind,
+    taken: TakenMessages,
     channels: &Channels,
 ) -> Result<(), AllocError>
-    ensures { OnOk result (lines.new.items ≡ lines.old.items ++ spec.no_channel_line surveys.now station kind channels.now) }
+    ensures { OnOk result (lines.new.items ≡ lines.old.items ++ spec.no_channel_line surveys.now station taken channels.now) }
 {
-    if have_none(surveys, station, kind, channels) {
-        put_no_channel_words(lines, surveys, station, kind, channels)
+    if have_none(surveys, station, taken, channels) {
+        put_no_channel_words(lines, surveys, station, taken, channels)
     } else {
         Ok(())
     }

@@ -50,9 +50,11 @@ pub use clock_lines::put_told_clocks;
 pub use clock_offsets::systems_with_clocks;
 pub use found_seconds::{is_alone, leap_in_capture, seconds_in_captures};
 pub use message_lines::{list_held, put_doppler, put_msms, put_obs_1004, put_sbas, put_unread};
-pub use slot_channels::{channels_found, own_channels};
+pub use slot_channels::{channels_found, channels_joined, own_channels};
 pub use system_flags::SystemFlags;
 pub use system_msms::{kinds_listed, put_kinds_words};
 pub use told_channels::put_channel_lines;
 pub use unchecked_systems::put_unchecked;
-pub use values::{codes_in_captures, is_gps_system, kinds_in_links};
+pub use values::{
+    TakenMessages, codes_in_captures, epochs_1012_in, is_1012_given, is_gps_system, kinds_in_links,
+};

@@ -80,13 +80,42 @@ fn put_unread_gps(
     Ok(())
 }
 
-// Appends the lines of observations of GLONASS, Galileo and SBAS.
-fn put_unread_glonass_to_sbas(
+// Appends the line of so many 1012 that can't be dated.
+fn put_long(lines: &mut Vec<u8>, count: u64) -> Result<(), AllocError>
+    ensures { OnOk result (lines.new.items ≡ lines.old.items ++ spec.long_line count) }
+{
+    if count == 0 {
+        return Ok(());
+    }
+    put_named(lines, b" untaken GLONASS 1012 ", count)?;
+    lines.extend_from_slice(b": more than a day\n")
+}
+
+// Appends the line of 1012, unless they are taken.
+fn put_1012(
     lines: &mut Vec<u8>,
     surveys: &[CaptureSurvey],
+    is_long: bool,
     taken: Accepted,
 ) -> Result<(), AllocError>
-    ensures { OnOk result (lines.new.items ≡ lines.old.items ++ spec.unread_glonass_to_sbas taken surveys.now) }
+    ensures { OnOk result (lines.new.items ≡ lines.old.items ++ spec.line_of_1012 is_long taken surveys.now) }
+{
+    if is_long {
+        put_long(lines, others_in_captures(surveys, 1012))
+    } else {
+        put_unread_line(lines, surveys, b" not in the file: GLONASS ", taken, 1012)
+    }
+}
+
+// Appends the lines of 1009 to 1012.
+#[tactic(auto, unfolding(crate::specs::MessageLines::unread_legacy_glonass))]
+fn put_legacy_glonass(
+    lines: &mut Vec<u8>,
+    surveys: &[CaptureSurvey],
+    is_long: bool,
+    taken: Accepted,
+) -> Result<(), AllocError>
+    ensures { OnOk result (lines.new.items ≡ lines.old.items ++ spec.unread_legacy_glonass is_long taken surveys.now) }
 {
     put_numbered(
         lines,
@@ -94,8 +123,22 @@ fn put_unread_glonass_to_sbas(
         b" not in the file: GLONASS ",
         taken,
         1009,
-        4,
+        3,
     )?;
+    put_1012(lines, surveys, is_long, taken)?;
+    Ok(())
+}
+
+// Appends the lines of observations of GLONASS, Galileo and SBAS.
+fn put_unread_glonass_to_sbas(
+    lines: &mut Vec<u8>,
+    surveys: &[CaptureSurvey],
+    is_long: bool,
+    taken: Accepted,
+) -> Result<(), AllocError>
+    ensures { OnOk result (lines.new.items ≡ lines.old.items ++ spec.unread_glonass_to_sbas is_long taken surveys.now) }
+{
+    put_legacy_glonass(lines, surveys, is_long, taken)?;
     put_numbered(
         lines,
         surveys,
@@ -130,16 +173,18 @@ fn put_unread_qzss_to_navic(
     Ok(())
 }
 
-/// Appends the lines of observations that are not taken: of GPS and of other systems.
+/// Appends the lines of observations that are not taken: of GPS and of other systems. 1012 may be left out since they
+/// can't be dated.
 pub fn put_unread(
     lines: &mut Vec<u8>,
     surveys: &[CaptureSurvey],
+    is_long: bool,
     taken: Accepted,
 ) -> Result<(), AllocError>
-    ensures { OnOk result (lines.new.items ≡ lines.old.items ++ spec.all_unread taken surveys.now) }
+    ensures { OnOk result (lines.new.items ≡ lines.old.items ++ spec.all_unread is_long taken surveys.now) }
 {
     put_unread_gps(lines, surveys, taken)?;
-    put_unread_glonass_to_sbas(lines, surveys, taken)?;
+    put_unread_glonass_to_sbas(lines, surveys, is_long, taken)?;
     put_unread_qzss_to_navic(lines, surveys, taken)?;
     Ok(())
 }

@@ -1,13 +1,16 @@
 //! The frequency channels of the slots of GLONASS that messages tell.
 
 ghost use Rattle.std.specs.Prelude.{◌≡◌, ◌<◌, None, IfSome};
+ghost use Rattle.std.specs.BTreeMap.{get};
 ghost use Rattle.std.specs.Option.{option_copied};
+ghost use Rattle.std.specs.Ordering.{nat_cmp};
 ghost use Rattle.rtk_obs.specs.Carriers.{IsSlot, channel_at};
 ghost use Rattle.rtk_systems.specs.SlotChannels as spec;
 ghost use Rattle.rtk_systems.specs.Steps.ToldFields.{most_told_with};
 
 use crate::alike_channels::is_alike;
-use rtk_message::{MsmKind, MsmType, System};
+use crate::values::TakenMessages;
+use rtk_message::{MsmType, System};
 use rtk_obs::{Channel, Channels};
 use rtk_survey::{CaptureSurvey, StationSurvey, SystemMsm, count_of_field};
 
@@ -32,39 +35,51 @@ fn is_slot_in(slot: u8, part: Option<&SystemMsm>) -> bool
     }
 }
 
-// Has the satellite of a slot a value in the messages of a station that a conversion takes with this MSM?
-fn holds_slot(slot: u8, kind: MsmKind, station: Option<&StationSurvey>) -> bool
+// Has the satellite of a slot a value in messages of this number?
+fn is_slot_numbered(slot: u8, number: u16, station: &StationSurvey) -> bool
     requires { slot < 28 }
-    ensures { result ≡ spec.holds_slot slot kind (option_copied station.entry) }
+    ensures { result ≡ spec.is_slot_in slot (get nat_cmp station.now.system_msm number) }
+{
+    is_slot_in(slot, station.system_msm.get(&number))
+}
+
+// Has the satellite of a slot a value in the messages of a station that a conversion takes?
+fn holds_slot(slot: u8, taken: TakenMessages, station: Option<&StationSurvey>) -> bool
+    requires { slot < 28 }
+    ensures { result ≡ spec.holds_slot slot taken (option_copied station.entry) }
 {
     let system = System::Glonass;
+    let kind = taken.kinds.glonass;
     let msm = MsmType { system, kind };
     match station {
-        Some(station) => is_slot_in(slot, station.system_msm.get(&msm.number())),
+        Some(station) => {
+            is_slot_numbered(slot, msm.number(), station)
+                || (taken.obs1012 && is_slot_numbered(slot, 1012, station))
+        }
         None => false,
     }
 }
 
-fn gives_slot(station: u16, kind: MsmKind, slot: u8, survey: &CaptureSurvey) -> bool
+fn gives_slot(station: u16, taken: TakenMessages, slot: u8, survey: &CaptureSurvey) -> bool
     requires { slot < 28 }
-    ensures { result ≡ spec.gives_slot station kind slot survey.now }
+    ensures { result ≡ spec.gives_slot station taken slot survey.now }
 {
-    holds_slot(slot, kind, survey.contents.stations.get(&station))
+    holds_slot(slot, taken, survey.contents.stations.get(&station))
 }
 
 /// Has it one in some capture?
 pub(crate) fn is_slot_given(
     surveys: &[CaptureSurvey],
     station: u16,
-    kind: MsmKind,
+    taken: TakenMessages,
     slot: u8,
 ) -> bool
     requires { slot < 28 }
-    ensures { result ≡ spec.is_slot_given surveys.now station kind slot }
+    ensures { result ≡ spec.is_slot_given surveys.now station taken slot }
 {
     surveys
         .iter()
-        .any(|survey| gives_slot(station, kind, slot, survey))
+        .any(|survey| gives_slot(station, taken, slot, survey))
 }
 
 // ---- channels that messages tell
@@ -180,15 +195,15 @@ fn channel_if(is_given: bool, field: Option<u8>) -> Option<Channel>
 fn channel_told(
     surveys: &[CaptureSurvey],
     station: u16,
-    kind: MsmKind,
+    taken: TakenMessages,
     source: Option<u16>,
     slot: u8,
 ) -> Option<Channel>
     requires { IsSlot slot }
-    ensures { spec.IsToldChannel surveys.now station kind source slot result }
+    ensures { spec.IsToldChannel surveys.now station taken source slot result }
 {
     let field = told_field(surveys, source, slot);
-    channel_if(is_slot_given(surveys, station, kind, slot), field)
+    channel_if(is_slot_given(surveys, station, taken, slot), field)
 }
 
 // Sets the channel of a slot, if it has one.
@@ -204,22 +219,22 @@ fn set_if(channels: &mut Channels, slot: u8, channel: Option<Channel>)
 }
 
 // The channels of the slots of which the station has a value, as its messages tell them.
-fn channels_told(surveys: &[CaptureSurvey], station: u16, kind: MsmKind) -> Channels
-    ensures { spec.HasOwnChannels surveys.now station kind result }
+fn channels_told(surveys: &[CaptureSurvey], station: u16, taken: TakenMessages) -> Channels
+    ensures { spec.HasOwnChannels surveys.now station taken result }
 {
     let mut channels = Channels::new();
     for slot in 1u8..SLOTS_END {
-        let channel = channel_told(surveys, station, kind, Some(station), slot);
+        let channel = channel_told(surveys, station, taken, Some(station), slot);
         set_if(&mut channels, slot, channel);
     }
     channels
 }
 
 /// The channels of the slots of which the station has a value, as its messages tell them.
-pub fn own_channels(surveys: &[CaptureSurvey], station: u16, kind: MsmKind) -> Channels
-    ensures { spec.AreOwnChannels surveys.now station kind result }
+pub fn own_channels(surveys: &[CaptureSurvey], station: u16, taken: TakenMessages) -> Channels
+    ensures { spec.AreOwnChannels surveys.now station taken result }
 {
-    channels_told(surveys, station, kind)
+    channels_told(surveys, station, taken)
 }
 
 fn chosen_channel(is_alike: bool, own: Option<Channel>, other: Option<Channel>) -> Option<Channel>
@@ -236,33 +251,64 @@ fn chosen_channel(is_alike: bool, own: Option<Channel>, other: Option<Channel>) 
 fn channel_found(
     surveys: &[CaptureSurvey],
     station: u16,
-    kind: MsmKind,
+    taken: TakenMessages,
     own: &Channels,
     slot: u8,
 ) -> Option<Channel>
     requires { IsSlot slot }
-    ensures { spec.IsChannelFound surveys.now station kind own.now slot result }
+    ensures { spec.IsChannelFound surveys.now station taken own.now slot result }
 {
-    let other = channel_told(surveys, station, kind, None, slot);
+    let other = channel_told(surveys, station, taken, None, slot);
     chosen_channel(is_alike(own, slot), own.channel(slot), other)
 }
 
 // The channels of the slots of which the station has a value, by what its messages tell.
-fn channels_by(surveys: &[CaptureSurvey], station: u16, kind: MsmKind, own: &Channels) -> Channels
-    ensures { spec.HasChannelsFound surveys.now station kind own.now result }
+fn channels_by(
+    surveys: &[CaptureSurvey],
+    station: u16,
+    taken: TakenMessages,
+    own: &Channels,
+) -> Channels
+    ensures { spec.HasChannelsFound surveys.now station taken own.now result }
 {
     let mut channels = Channels::new();
     for slot in 1u8..SLOTS_END {
-        let channel = channel_found(surveys, station, kind, own, slot);
+        let channel = channel_found(surveys, station, taken, own, slot);
         set_if(&mut channels, slot, channel);
     }
     channels
 }
 
 /// The channels of the slots of which the station has a value, as messages tell them.
-pub fn channels_found(surveys: &[CaptureSurvey], station: u16, kind: MsmKind) -> Channels
-    ensures { spec.AreChannelsFound surveys.now station kind result }
+pub fn channels_found(surveys: &[CaptureSurvey], station: u16, taken: TakenMessages) -> Channels
+    ensures { spec.AreChannelsFound surveys.now station taken result }
 {
-    let own = own_channels(surveys, station, kind);
-    channels_by(surveys, station, kind, &own)
+    let own = own_channels(surveys, station, taken);
+    channels_by(surveys, station, taken, &own)
+}
+
+// The channel of a slot that is given, else the one that is found.
+fn joined_channel(given: &Channels, found: &Channels, slot: u8) -> Option<Channel>
+    requires { IsSlot slot }
+    ensures { spec.IsJoinedChannel given.now found.now slot result }
+{
+    given.channel(slot).or(found.channel(slot))
+}
+
+fn channels_of_both(given: &Channels, found: &Channels) -> Channels
+    ensures { spec.HasJoinedChannels given.now found.now result }
+{
+    let mut channels = Channels::new();
+    for slot in 1u8..SLOTS_END {
+        let channel = joined_channel(given, found, slot);
+        set_if(&mut channels, slot, channel);
+    }
+    channels
+}
+
+/// The channels that are given, and of each other slot the one that is found.
+pub fn channels_joined(given: &Channels, found: &Channels) -> Channels
+    ensures { spec.AreJoinedChannels given.now found.now result }
+{
+    channels_of_both(given, found)
 }

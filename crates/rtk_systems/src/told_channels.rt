@@ -12,7 +12,7 @@ ghost use Rattle.rtk_systems.specs.ToldChannels as spec;
 use crate::alike_channels::{CONSTELLATION, have_too_many, is_same_channel, number_in_slot};
 use crate::channel_words::{SLOTS, put_channel, put_no_channel_line};
 use crate::slot_channels::{channel_of_field, is_slot_given, own_count};
-use rtk_message::MsmKind;
+use crate::values::TakenMessages;
 use rtk_obs::{Channel, Channels, two_digits};
 use rtk_rinex::Glonass;
 use rtk_survey::CaptureSurvey;
@@ -183,11 +183,11 @@ fn put_several_words(
 }
 
 // Has a slot a value, and do messages of the station tell several channels of it?
-fn has_several(surveys: &[CaptureSurvey], station: u16, kind: MsmKind, slot: u8) -> bool
-    ensures { result ≡ spec.has_several surveys.now station kind slot }
+fn has_several(surveys: &[CaptureSurvey], station: u16, taken: TakenMessages, slot: u8) -> bool
+    ensures { result ≡ spec.has_several surveys.now station taken slot }
 {
     slot < 28
-        && is_slot_given(surveys, station, kind, slot)
+        && is_slot_given(surveys, station, taken, slot)
         && 1 < channels_told_of(surveys, station, slot)
 }
 
@@ -195,12 +195,12 @@ fn put_several_line(
     lines: &mut Vec<u8>,
     surveys: &[CaptureSurvey],
     station: u16,
-    kind: MsmKind,
+    taken: TakenMessages,
     slot: u8,
 ) -> Result<(), AllocError>
-    ensures { OnOk result (lines.new.items ≡ lines.old.items ++ spec.several_line surveys.now station kind slot) }
+    ensures { OnOk result (lines.new.items ≡ lines.old.items ++ spec.several_line surveys.now station taken slot) }
 {
-    if has_several(surveys, station, kind, slot) {
+    if has_several(surveys, station, taken, slot) {
         put_several_words(lines, surveys, station, slot)
     } else {
         Ok(())
@@ -211,13 +211,13 @@ fn put_several_among(
     lines: &mut Vec<u8>,
     surveys: &[CaptureSurvey],
     station: u16,
-    kind: MsmKind,
+    taken: TakenMessages,
     slots: &[u8],
 ) -> Result<(), AllocError>
-    ensures { OnOk result (lines.new.items ≡ lines.old.items ++ flat_map (spec.several_line surveys.now station kind) slots.now) }
+    ensures { OnOk result (lines.new.items ≡ lines.old.items ++ flat_map (spec.several_line surveys.now station taken) slots.now) }
 {
     for slot in slots {
-        put_several_line(lines, surveys, station, kind, *slot)?;
+        put_several_line(lines, surveys, station, taken, *slot)?;
     }
     Ok(())
 }
@@ -229,15 +229,15 @@ fn put_channels_of(
     lines: &mut Vec<u8>,
     surveys: &[CaptureSurvey],
     station: u16,
-    kind: MsmKind,
+    taken: TakenMessages,
     own: &Channels,
     glonass: Glonass,
 ) -> Result<(), AllocError>
-    ensures { OnOk result (lines.new.items ≡ lines.old.items ++ spec.told_channel_lines surveys.now station kind own.now (Some glonass)) }
+    ensures { OnOk result (lines.new.items ≡ lines.old.items ++ spec.told_channel_lines surveys.now station taken own.now (Some glonass)) }
 {
     put_alike_among(lines, own, &FIELDS)?;
-    put_several_among(lines, surveys, station, kind, &SLOTS)?;
-    put_no_channel_line(lines, surveys, station, kind, &glonass.channels())?;
+    put_several_among(lines, surveys, station, taken, &SLOTS)?;
+    put_no_channel_line(lines, surveys, station, taken, &glonass.channels())?;
     Ok(())
 }
 
@@ -247,14 +247,14 @@ pub fn put_channel_lines(
     lines: &mut Vec<u8>,
     surveys: &[CaptureSurvey],
     station: u16,
-    kind: MsmKind,
+    taken: TakenMessages,
     own: &Channels,
     glonass: Option<Glonass>,
 ) -> Result<(), AllocError>
-    ensures { OnOk result (lines.new.items ≡ lines.old.items ++ spec.told_channel_lines surveys.now station kind own.now glonass) }
+    ensures { OnOk result (lines.new.items ≡ lines.old.items ++ spec.told_channel_lines surveys.now station taken own.now glonass) }
 {
     match glonass {
-        Some(glonass) => put_channels_of(lines, surveys, station, kind, own, glonass),
+        Some(glonass) => put_channels_of(lines, surveys, station, taken, own, glonass),
         None => Ok(()),
     }
 }

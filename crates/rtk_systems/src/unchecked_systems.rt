@@ -42,13 +42,39 @@ fn has_some_msm(system: System, station: &StationSurvey) -> bool
     KINDS.iter().any(|kind| has_msm(system, station, *kind))
 }
 
+fn is_glonass_system(system: System) -> bool
+    ensures { result ≡ spec.is_glonass_system system }
+{
+    match system {
+        System::Glonass => true,
+        System::Gps
+        | System::Galileo
+        | System::Beidou
+        | System::Qzss
+        | System::Sbas
+        | System::Navic => false,
+    }
+}
+
+fn has_1012(station: &StationSurvey) -> bool
+    ensures { result ≡ spec.has_1012 station.now }
+{
+    station.system_msm.get(&1012).is_some()
+}
+
+fn sends_beside(system: System, station: &StationSurvey) -> bool
+    ensures { result ≡ spec.sends_beside system station.now }
+{
+    has_some_msm(system, station) || (is_glonass_system(system) && has_1012(station))
+}
+
 fn sends_system(system: System, station: &StationSurvey) -> bool
     ensures { result ≡ spec.sends_system system station.now }
 {
     if is_gps_system(system) {
         station.times.first.is_some()
     } else {
-        has_some_msm(system, station)
+        sends_beside(system, station)
     }
 }
 
@@ -117,7 +143,7 @@ fn is_first_timing(surveys: &[CaptureSurvey], station: u16, system: System) -> b
 
 // ---- the lines
 
-// Is no clock of a system that is converted compared?
+// Is no clock of a system that is sent and converted compared?
 fn is_system_unchecked(
     setup: &Setup,
     surveys: &[CaptureSurvey],
@@ -127,6 +153,7 @@ fn is_system_unchecked(
     ensures { result ≡ spec.is_system_unchecked setup.now.head.listed surveys.now station system }
 {
     setup.lists(system)
+        && is_system_sent(surveys, station, system)
         && clocks_compared(surveys, station, system) == 0
         && !is_first_timing(surveys, station, system)
 }

@@ -14,6 +14,14 @@ use rtk_setup::SystemKinds;
 use rtk_survey::{CaptureSurvey, Epochs, StationSurvey, SystemMsm};
 use std::alloc::{AllocError, Global};
 
+/// The messages with observations of which a conversion takes values, beside 1004: the MSM of each system of these
+/// kinds, and 1012 or not.
+#[derive(Clone, Copy, Debug, PartialEq, Eq)]
+pub struct TakenMessages {
+    pub kinds: SystemKinds,
+    pub obs1012: bool,
+}
+
 /// Is this GPS, whose messages are held beside those of all other systems?
 pub fn is_gps_system(system: System) -> bool
     ensures { result ≡ spec.is_gps_system system }
@@ -208,40 +216,60 @@ fn has_code_in(code: AnyCode, part: Option<&SystemMsm>) -> bool
     }
 }
 
-// Has a code of a system a value in a message of a station that a conversion takes with the MSM of these kinds?
-fn has_code_by(system: System, kinds: SystemKinds, code: AnyCode, station: &StationSurvey) -> bool
-    ensures { result ≡ spec.has_code_by system kinds code station.now }
+// Has a code a value in messages of a station of this number, which is none of GPS?
+fn has_code_numbered(number: u16, code: AnyCode, station: &StationSurvey) -> bool
+    ensures { result ≡ spec.has_code_numbered number code station.now }
+{
+    has_code_in(code, station.system_msm.get(&number))
+}
+
+// Has a code of another system than GPS a value in an MSM or a 1012 that a conversion takes?
+fn has_code_beside(
+    system: System,
+    taken: TakenMessages,
+    code: AnyCode,
+    station: &StationSurvey,
+) -> bool
+    ensures { result ≡ spec.has_code_beside system taken code station.now }
+{
+    let kind = taken.kinds.kind(system);
+    let msm = MsmType { system, kind };
+    has_code_numbered(msm.number(), code, station)
+        || (taken.obs1012 && has_code_numbered(1012, code, station))
+}
+
+// Has a code of a system a value in a message of a station that a conversion takes?
+fn has_code_by(system: System, taken: TakenMessages, code: AnyCode, station: &StationSurvey) -> bool
+    ensures { result ≡ spec.has_code_by system taken code station.now }
 {
     if is_gps_system(system) {
-        station.msm.part(kinds.gps).codes.marks[code.place()]
+        station.msm.part(taken.kinds.gps).codes.marks[code.place()]
     } else {
-        let kind = kinds.kind(system);
-        let msm = MsmType { system, kind };
-        has_code_in(code, station.system_msm.get(&msm.number()))
+        has_code_beside(system, taken, code, station)
     }
 }
 
-fn has_code_with(kinds: SystemKinds, code: AnyCode, station: Option<&StationSurvey>) -> bool
-    ensures { result ≡ spec.has_code_with kinds code (option_copied station.entry) }
+fn has_code_with(taken: TakenMessages, code: AnyCode, station: Option<&StationSurvey>) -> bool
+    ensures { result ≡ spec.has_code_with taken code (option_copied station.entry) }
 {
     match station {
-        Some(station) => has_code_by(code.system(), kinds, code, station),
+        Some(station) => has_code_by(code.system(), taken, code, station),
         None => false,
     }
 }
 
-fn gives_code(station: u16, kinds: SystemKinds, code: AnyCode, survey: &CaptureSurvey) -> bool
-    ensures { result ≡ spec.gives_code station kinds code survey.now }
+fn gives_code(station: u16, taken: TakenMessages, code: AnyCode, survey: &CaptureSurvey) -> bool
+    ensures { result ≡ spec.gives_code station taken code survey.now }
 {
-    has_code_with(kinds, code, survey.contents.stations.get(&station))
+    has_code_with(taken, code, survey.contents.stations.get(&station))
 }
 
-fn is_given(surveys: &[CaptureSurvey], station: u16, kinds: SystemKinds, code: AnyCode) -> bool
-    ensures { result ≡ list_any (spec.gives_code station kinds code) surveys.now }
+fn is_given(surveys: &[CaptureSurvey], station: u16, taken: TakenMessages, code: AnyCode) -> bool
+    ensures { result ≡ list_any (spec.gives_code station taken code) surveys.now }
 {
     surveys
         .iter()
-        .any(|survey| gives_code(station, kinds, code, survey))
+        .any(|survey| gives_code(station, taken, code, survey))
 }
 
 // Has a code of one of these systems a value in some capture?
@@ -249,30 +277,60 @@ fn is_found(
     surveys: &[CaptureSurvey],
     station: u16,
     systems: SystemFlags,
-    kinds: SystemKinds,
+    taken: TakenMessages,
     code: AnyCode,
 ) -> bool
-    ensures { result ≡ spec.is_found surveys.now station systems kinds code }
+    ensures { result ≡ spec.is_found surveys.now station systems taken code }
 {
-    systems.has(code.system()) && is_given(surveys, station, kinds, code)
+    systems.has(code.system()) && is_given(surveys, station, taken, code)
 }
 
-/// The codes of these systems that have a value in messages of the station that a conversion takes with the MSM of
-/// these kinds.
+/// The codes of these systems that have a value in messages of the station that a conversion takes.
 pub fn codes_in_captures(
     alloc: Global,
     surveys: &[CaptureSurvey],
     station: u16,
     systems: SystemFlags,
-    kinds: SystemKinds,
+    taken: TakenMessages,
 ) -> Result<Vec<AnyCode>, AllocError>
-    ensures { IfOk result (λ codes. codes.items ≡ spec.codes_in_captures surveys.now station systems kinds) }
+    ensures { IfOk result (λ codes. codes.items ≡ spec.codes_in_captures surveys.now station systems taken) }
 {
     let mut codes = Vec::new(alloc);
     for code in &ALL_ANY_CODES {
-        if is_found(surveys, station, systems, kinds, *code) {
+        if is_found(surveys, station, systems, taken, *code) {
             codes.push(*code)?;
         }
     }
     Ok(codes)
+}
+
+// ---- 1012
+
+fn epochs_1012_of(station: Option<&StationSurvey>) -> Epochs
+    ensures { result ≡ spec.epochs_1012_of (option_copied station.entry) }
+{
+    match station {
+        Some(station) => epochs_of_part(station.system_msm.get(&1012)),
+        None => no_epochs(),
+    }
+}
+
+/// The epochs of the 1012 of a station with a value that a capture has.
+pub fn epochs_1012_in(station: u16, survey: &CaptureSurvey) -> Epochs
+    ensures { result ≡ spec.epochs_1012_in station survey.now }
+{
+    epochs_1012_of(survey.contents.stations.get(&station))
+}
+
+fn gives_1012(station: u16, survey: &CaptureSurvey) -> bool
+    ensures { result ≡ spec.gives_1012 station survey.now }
+{
+    epochs_1012_in(station, survey).first.is_some()
+}
+
+/// Has some 1012 of a station a value?
+pub fn is_1012_given(surveys: &[CaptureSurvey], station: u16) -> bool
+    ensures { result ≡ spec.is_1012_given surveys.now station }
+{
+    surveys.iter().any(|survey| gives_1012(station, survey))
 }

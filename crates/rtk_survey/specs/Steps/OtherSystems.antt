@@ -1,5 +1,5 @@
 -- What is held of other systems than GPS for the command of a station.
-use Rattle.std.specs.Prelude.{ℕ, ◌+◌, Bool, false, get_or, Option, None, Some}
+use Rattle.std.specs.Prelude.{ℕ, ◌+◌, Bool, false, ◌&&◌, ◌||◌, get_or, List, Option, None, Some}
 use Rattle.std.specs.BTreeMap.{get}
 use Rattle.std.specs.Ordering.{nat_cmp}
 use Rattle.rtk_message.specs.declared.system.System.TheVariants.{Glonass}
@@ -7,7 +7,7 @@ use Rattle.rtk_obs.specs.declared.any_code.AnyCode.{AnyCode}
 use Rattle.rtk_obs.specs.AnyCode.{number_of}
 use Rattle.rtk_survey.specs.Chains.{clocks_at}
 use Rattle.rtk_survey.specs.Channels.{place_of_field}
-use Rattle.rtk_survey.specs.NextCommand.{number_by, other_taken}
+use Rattle.rtk_survey.specs.NextCommand.{number_by, next_takes_1012, other_taken, slot_items, glonass_options}
 use Rattle.rtk_survey.specs.Steps.Tables.{system_epochs_held}
 use Rattle.rtk_survey.specs.declared.date_message.UtcDate.{UtcDate}
 use Rattle.rtk_survey.specs.declared.station.StationSurvey.{StationSurvey}
@@ -26,9 +26,16 @@ abbrev pub slot_in_part : Option SystemMsm → ℕ → Bool
 slot_in_part None slot = false
 slot_in_part (Some p) slot = get_or p.signals.satellites (32 + slot) false
 
--- in the MSM of GLONASS that the command takes
-abbrev pub slots_held : StationSurvey → ℕ → Bool
-slots_held s slot = slot_in_part (get nat_cmp s.system_msm (number_by (system_epochs_held s) Glonass)) slot
+abbrev pub slot_held : StationSurvey → ℕ → ℕ → Bool
+slot_held s slot n = slot_in_part (get nat_cmp s.system_msm n) slot
+
+-- the command takes 1012
+abbrev pub legacy_held : Option UtcDate → StationSurvey → Bool
+legacy_held date s = next_takes_1012 date s.times.first s.times.last (system_epochs_held s)
+
+-- in the MSM of GLONASS that the command takes, or in 1012 if it takes them
+abbrev pub slots_held : Bool → StationSurvey → ℕ → Bool
+slots_held legacy s slot = slot_held s slot (number_by (system_epochs_held s) Glonass) || (legacy && slot_held s slot 1012)
 
 -- how many messages tell a field of a slot
 abbrev pub fields_held : StationSurvey → ℕ → ℕ → ℕ
@@ -36,4 +43,8 @@ fields_held s slot field = get_or s.channels.items (place_of_field slot field) 0
 
 -- the codes that the command takes
 abbrev pub taken_held : Option UtcDate → StationSurvey → AnyCode → Bool
-taken_held date s = other_taken date (clocks_at s.clocks).offsets (system_epochs_held s) (codes_held_by s)
+taken_held date s = other_taken date (clocks_at s.clocks).offsets (system_epochs_held s) (codes_held_by s) (legacy_held date s)
+
+-- the options of GLONASS
+abbrev pub glonass_held : Option UtcDate → StationSurvey → List ℕ
+glonass_held date s = glonass_options (slot_items (slots_held (legacy_held date s) s) (fields_held s)) (legacy_held date s)

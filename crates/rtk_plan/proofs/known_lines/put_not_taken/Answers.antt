@@ -12,7 +12,7 @@ returns c =
     let a = msm_lines c.args.taken ss c.args.station in
     let b = doppler_line c.args.taken ss c.args.station in
     let d = sbas_line c.args.has_sbas ss c.args.station in
-    let e = all_unread c.args.taken ss in
+    let e = all_unread c.args.is_long c.args.taken ss in
     c.in_ok-put_unread.ensures
     ∙ ap (λ l. l ++ e) (c.in_ok-put_sbas.ensures ∙ ap (λ l. l ++ d) (c.in_ok-put_doppler.ensures ∙ ap (λ l. l ++ b) (c.in_ok-put_msms.ensures
     ∙ ap (λ l. l ++ a) c.in_ok-put_obs_1004.ensures)))

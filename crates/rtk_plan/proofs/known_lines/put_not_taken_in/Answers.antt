@@ -12,8 +12,9 @@ returns c =
     let taken = c.accepted-taken.result in
     let has_1004 = c.takes_1004-has_1004.result in
     let has_sbas = c.takes_sbas-has_sbas.result in
+    let is_long = c.args.is_long in
     c.in_ok-put_not_taken.ensures
-    ∙ ap (λ (n : ℕ). old ++ not_taken_by taken has_1004 has_sbas ss n) c.station.ensures.value
-    ∙ ap (λ (a : Accepted). old ++ not_taken_by a has_1004 has_sbas ss setup.station) c.accepted-taken.ensures
-    ∙ ap (λ (b : Bool). old ++ not_taken_by (taken_by setup) b has_sbas ss setup.station) c.takes_1004-has_1004.ensures
-    ∙ ap (λ (b : Bool). old ++ not_taken_by (taken_by setup) (takes_1004 setup) b ss setup.station) c.takes_sbas-has_sbas.ensures
+    ∙ ap (λ (n : ℕ). old ++ not_taken_by taken has_1004 has_sbas is_long ss n) c.station.ensures.value
+    ∙ ap (λ (a : Accepted). old ++ not_taken_by a has_1004 has_sbas is_long ss setup.station) c.accepted-taken.ensures
+    ∙ ap (λ (b : Bool). old ++ not_taken_by (taken_by setup) b has_sbas is_long ss setup.station) c.takes_1004-has_1004.ensures
+    ∙ ap (λ (b : Bool). old ++ not_taken_by (taken_by setup) (takes_1004 setup) b is_long ss setup.station) c.takes_sbas-has_sbas.ensures

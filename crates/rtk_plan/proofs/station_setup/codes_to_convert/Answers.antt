@@ -15,7 +15,7 @@ returns-in_err-codes-clause-refused c =
     let ss = c.args.surveys.now in
     let w = c.args.wanted.now in
     let systems = c.in_ok-systems.systems in
-    exit-also (λ (r : Refusal). (r ≡ NoCode) × (w.codes ≡ None) × (codes_in_captures ss c.args.station systems c.args.kinds ≡ []))
-    (λ (r : Refusal). (r ≡ NoCode) × (w.codes ≡ None) × FindsNoCode ss c.args.kinds w c.args.station c.args.seconds.now c.args.near)
+    exit-also (λ (r : Refusal). (r ≡ NoCode) × (w.codes ≡ None) × (codes_in_captures ss c.args.station systems c.args.taken ≡ []))
+    (λ (r : Refusal). (r ≡ NoCode) × (w.codes ≡ None) × FindsNoCode ss c.args.taken w c.args.station c.args.seconds.now c.args.near)
     c.in_err-codes.field-0.0 c.from_residual-in_err-codes.result c.from_residual-in_err-codes.ensures.1
-    (no-code-of ss w c.args.station c.args.seconds.now c.args.near c.args.kinds systems c.in_ok-systems.ensures) c.in_err-codes.ensures.refused
+    (no-code-of ss w c.args.station c.args.seconds.now c.args.near c.args.taken systems c.in_ok-systems.ensures) c.in_err-codes.ensures.refused

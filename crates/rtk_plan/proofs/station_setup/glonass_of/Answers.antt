@@ -9,7 +9,7 @@ returns-clause-found c =
     let is = c.in-Some.ensures.1 in
     record {
       channels_are =
-          subst (λ (cs : List (Option ℤ)). AreChannelsChosen c.args.channels.now c.args.surveys.now c.args.station c.args.kind cs) (sym (ap (λ (g : GlonassView). g.channels) is)) c.channels_chosen-channels.ensures;
+          subst (λ (cs : List (Option ℤ)). AreChannelsChosen c.args.channels.now c.args.surveys.now c.args.station c.args.taken cs) (sym (ap (λ (g : GlonassView). g.channels) is)) c.channels_chosen-channels.ensures;
       seconds_are = subst (λ (n : ℕ). AreSecondsChosen c.args.seconds.now c.args.near n) (sym (ap (λ (g : GlonassView). g.leap_seconds) is)) c.seconds_chosen-seconds.ensures.said;
     }
 

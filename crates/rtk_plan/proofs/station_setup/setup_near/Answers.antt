@@ -1,19 +1,12 @@
-use Rattle.std.proofs.Common.{◌≡◌, ◌∙◌, ℕ, false, List, Option, None, refl, sym, ap, subst}
-use Rattle.rtk_obs.specs.declared.any_code.AnyCode.{AnyCode}
-use Rattle.rtk_rinex.specs.MixedHead.{GlonassView, MixedHeadView}
-use Rattle.rtk_setup.specs.Setup.{SetupView}
-use Rattle.rtk_setup.specs.declared.system_kinds.SystemKinds.{SystemKinds}
-use Rattle.rtk_survey.specs.declared.survey.CaptureSurvey.{CaptureSurvey}
+use Rattle.std.proofs.Common.{◌≡◌, None, sym, ap, subst}
 use Rattle.rtk_plan.specs.Causes.{FindsNoCode, IsSetupCause}
 use Rattle.rtk_survey.specs.Surveys.{places_of}
-use Rattle.rtk_plan.specs.Plan.{IsChosenStation, kinds_found, AreCodesChosen, AreLeapSecondsOf, marker_chosen, IsSetupFor}
-use Rattle.rtk_captures.specs.Dating.{captures_of, IsNearOf}
-use Rattle.rtk_systems.specs.SlotChannels.{IsGlonassFound}
-use Rattle.rtk_systems.specs.SystemMsms.{kinds_listed}
+use Rattle.rtk_plan.specs.Plan.{codes_taken_from}
 use Rattle.rtk_captures.specs.declared.refusal.Refusal.{Refusal}
 use Rattle.rtk_captures.specs.declared.refusal.Refusal.TheVariants.{NoCode}
-use Rattle.rtk_plan.specs.declared.wanted.Wanted.{Wanted}
+use Rattle.rtk_systems.specs.declared.values.TakenMessages.{TakenMessages}
 use Rattle.rtk_plan.proofs.RefusedLemmas.{exit-also, no-code-found}
+use Rattle.rtk_plan.proofs.SetupLemmas.{is-setup, stays-in-reach}
 use Rattle.rtk_plan.proofs.station_setup.setup_near.Goals as goal
 
 -- the head of these parts
@@ -86,9 +79,9 @@ pub returns-in_err-codes-clause-refused : goal.returns-in_err-codes-clause-refus
 returns-in_err-codes-clause-refused c =
     let ss = c.args.surveys.now in
     let w = c.args.wanted.now in
-    let kinds = c.kinds_to_convert-kinds.result in
     let links = places_of c.args.links.now in
-    let seconds = c.in_ok-seconds.seconds in
-    exit-also (λ (r : Refusal). (r ≡ NoCode) × (w.codes ≡ None) × FindsNoCode ss kinds w c.args.station seconds c.args.near) (IsSetupCause ss links w c.args.station c.args.near)
+    let seconds = c.args.seconds.now in
+    let taken : TakenMessages = record { kinds = c.kinds_to_convert-kinds.result; obs1012 = c.is_some-with_1012.result } in
+    exit-also (λ (r : Refusal). (r ≡ NoCode) × (w.codes ≡ None) × FindsNoCode ss taken w c.args.station seconds c.args.near) (IsSetupCause ss links w c.args.station c.args.near)
     c.in_err-codes.field-0.0 c.from_residual-in_err-codes.result c.from_residual-in_err-codes.ensures.1
-    (no-code-found ss links w c.args.station seconds c.args.near kinds c.kinds_to_convert-kinds.ensures c.in_ok-seconds.ensures) c.in_err-codes.ensures.refused
+    (no-code-found ss links w c.args.station seconds c.args.near c.args.other.now taken ? c.requires.seconds c.requires.other) c.in_err-codes.ensures.refused

@@ -6,8 +6,8 @@ use Rattle.rtk_survey.specs.declared.equipment.Equipment.{Equipment}
 use Rattle.rtk_survey.specs.Chains.{no_clocks, clocks_at}
 use Rattle.rtk_survey.specs.FrameDates.{proposed_date}
 use Rattle.rtk_survey.specs.FrameEquipment.{told_lines}
-use Rattle.rtk_survey.specs.NextCommand.{slot_items, station_proposal}
-use Rattle.rtk_survey.specs.Steps.OtherSystems.{slots_held, fields_held, taken_held}
+use Rattle.rtk_survey.specs.NextCommand.{station_proposal}
+use Rattle.rtk_survey.specs.Steps.OtherSystems.{glonass_held, taken_held}
 use Rattle.rtk_survey.specs.Summary.{station_lines}
 use Rattle.rtk_survey.specs.SummaryText.{number_line, message_lines, system_epoch_lines, channel_line, time_lines, near_text, signal_lines}
 use Rattle.rtk_survey.specs.Contents.{equipment_at, epochs_held, codes_held}
@@ -44,7 +44,7 @@ returns c = λ ms date told stands.
     let l7 : List ℕ = c.put_channels.new.lines.items in
     let l8 : List ℕ = c.put_clocks.new.lines.items in
     let l9 : List ℕ = c.put_proposal.new.lines.items in
-    and-then l0 l8 l9 _ (station_proposal name (near_text (proposed_date d)) number (epochs_held s.msm) (codes_held s.msm) (system_epochs_held s) (taken_held (proposed_date d) s) (slot_items (slots_held s) (fields_held s)))
+    and-then l0 l8 l9 _ (station_proposal name (near_text (proposed_date d)) number (epochs_held s.msm) (codes_held s.msm) (system_epochs_held s) (taken_held (proposed_date d) s) (glonass_held (proposed_date d) s))
     (and-then l0 l7 l8 _ (all_clock_lines (proposed_date d) sent (clocks_at s.clocks).offsets)
     (and-then l0 l6 l7 _ (channel_line (place_is_counted s.channels.items))
     (and-then l0 l5 l6 _ (system_epoch_lines (system_epochs_held s))

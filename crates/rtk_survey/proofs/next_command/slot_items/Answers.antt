@@ -8,7 +8,7 @@ use Rattle.rtk_survey.proofs.next_command.slot_items.Goals as goal
 
 pub loop-slot-preserved : goal.loop-slot-preserved
 loop-slot-preserved c =
-    let items : ℕ → List ℕ = slot_item (slots_held c.args.station.now) (fields_held c.args.station.now) in
+    let items : ℕ → List ℕ = slot_item (slots_held c.args.legacy c.args.station.now) (fields_held c.args.station.now) in
     let from : 1 ≤ c.loop-slot.slot = c.loop-slot.auto.slot in
     let at : c.loop-slot.slot ≡ 1 + (c.loop-slot.slot - 1) = omega arith in
     let next : (c.loop-slot.slot - 1) + 1 ≡ (c.loop-slot.slot + 1) - 1 = omega arith in
@@ -20,4 +20,4 @@ pub returns : goal.returns
 unfolding slot_items
 returns c =
     let end : c.loop-slot.slot - 1 ≡ 27 = omega (arith, c.loop-slot-test.false) in
-    c.loop-slot.invariant ∙ ap (λ (k : ℕ). flat_map (slot_item (slots_held c.args.station.now) (fields_held c.args.station.now)) (range_with_len 1 k)) end
+    c.loop-slot.invariant ∙ ap (λ (k : ℕ). flat_map (slot_item (slots_held c.args.legacy c.args.station.now) (fields_held c.args.station.now)) (range_with_len 1 k)) end

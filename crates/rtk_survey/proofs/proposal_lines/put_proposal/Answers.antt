@@ -7,9 +7,9 @@ use Rattle.rtk_obs.specs.AnyCode.{number_of}
 use Rattle.rtk_obs.specs.Code.{place_of}
 use Rattle.rtk_survey.specs.Contents.{epochs_held, codes_held}
 use Rattle.rtk_survey.specs.FrameDates.{proposed_date}
-use Rattle.rtk_survey.specs.NextCommand.{slot_items, next_options, station_proposal}
+use Rattle.rtk_survey.specs.NextCommand.{next_options, station_proposal}
 use Rattle.rtk_survey.specs.Proposal.{proposed}
-use Rattle.rtk_survey.specs.Steps.OtherSystems.{slots_held, fields_held, taken_held}
+use Rattle.rtk_survey.specs.Steps.OtherSystems.{glonass_held, taken_held}
 use Rattle.rtk_survey.specs.Steps.Tables.{system_epochs_held}
 use Rattle.rtk_survey.specs.SummaryText.{near_text, second_frequency_line, other_msm_lines, all_codes_text, next_lines, proposal_lines}
 use Rattle.rtk_survey.specs.UncheckedClocks.{systems_sent}
@@ -27,7 +27,7 @@ returns c =
     let number : ℕ = c.args.number in
     let date : Option UtcDate = proposed_date s.dates in
     let beside : ℕ → ℕ = system_epochs_held s in
-    let items : List ℕ = slot_items (slots_held s) (fields_held s) in
+    let items : List ℕ = glonass_held date s in
     let code : MsmKind → Code → Bool = codes_held s.msm in
     let near : List ℕ = near_text date in
     -- what each call gave
@@ -48,7 +48,9 @@ returns c =
     c.in_ok-put_next.ensures
     ∙ ap (λ (d : Option UtcDate). l2 ++ next_lines name (near_text d) number c.as_slice.result.now c.as_slice-2.result.now) c.proposed_date-near.ensures
     ∙ ap (λ (t : List ℕ). l2 ++ next_lines name near number t c.as_slice-2.result.now)
-    (c.as_slice.ensures.value ∙ c.in_ok-options.ensures ∙ ap (λ (x : SystemsSent). next_options beside items named x) c.of-sent.ensures)
+    (c.as_slice.ensures.value ∙ c.in_ok-options.ensures
+    ∙ ap (λ (g : Option UtcDate). next_options beside (glonass_held g s) named c.of-sent.result) c.proposed_date-near.ensures
+    ∙ ap (λ (x : SystemsSent). next_options beside items named x) c.of-sent.ensures)
     ∙ ap (λ (t : List ℕ). l2 ++ next_lines name near number options t) (c.as_slice-2.ensures.value ∙ c.in_ok-codes.ensures) in
     let all : l3 ≡ l0 ++ text named test marked =
     and-then l0 l2 l3 (second_frequency_line test ++ other_msm_lines (epochs_held s.msm) named) (next_lines name near number options (all_codes_text test marked))

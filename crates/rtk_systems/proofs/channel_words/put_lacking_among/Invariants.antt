@@ -5,4 +5,4 @@ use Rattle.rtk_systems.proofs.channel_words.put_lacking_among.Given as goal
 
 abbrev pub invariant-loop-slot : goal.invariant-loop-slot
 invariant-loop-slot l =
-    l.lines.items ≡ l.fn.lines.items ++ flat_map (lacking_name l.surveys l.station l.kind l.channels) (take l.slot-index l.slots)
+    l.lines.items ≡ l.fn.lines.items ++ flat_map (lacking_name l.surveys l.station l.taken l.channels) (take l.slot-index l.slots)

@@ -4,7 +4,7 @@ use Rattle.rtk_systems.proofs.ChannelLemmas.{sets-first, sets-next}
 use Rattle.rtk_systems.proofs.slot_channels.channels_by.Goals as goal
 
 pub loop-slot-init : goal.loop-slot-init
-loop-slot-init c = sets-first (IsChannelFound c.args.surveys.now c.args.station c.args.kind c.args.own.now) c.new-channels.result c.new-channels.ensures
+loop-slot-init c = sets-first (IsChannelFound c.args.surveys.now c.args.station c.args.taken c.args.own.now) c.new-channels.result c.new-channels.ensures
 
 pub channel_found-channel-requires : goal.channel_found-channel-requires
 channel_found-channel-requires c = let from = c.loop-slot.auto.slot in (omega (arith, from), omega (arith, c.loop-slot-test.true))
@@ -16,7 +16,7 @@ set_if-requires-clause-none c =
 
 pub loop-slot-preserved : goal.loop-slot-preserved
 loop-slot-preserved c =
-    sets-next (IsChannelFound c.args.surveys.now c.args.station c.args.kind c.args.own.now) c.loop-slot.slot c.loop-slot.channels c.set_if.new.channels c.channel_found-channel.result
+    sets-next (IsChannelFound c.args.surveys.now c.args.station c.args.taken c.args.own.now) c.loop-slot.slot c.loop-slot.channels c.set_if.new.channels c.channel_found-channel.result
     c.loop-slot.invariant c.channel_found-channel.ensures c.set_if.ensures.own c.set_if.ensures.others
 
 pub returns : goal.returns

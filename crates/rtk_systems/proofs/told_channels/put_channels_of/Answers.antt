@@ -9,9 +9,9 @@ returns c =
     let ss = c.args.surveys.now in
     let mid : List ℕ = c.put_several_among.new.lines.items in
     let a : List ℕ = alike_lines c.args.own.now in
-    let b : List ℕ = several_lines ss c.args.station c.args.kind in
-    let d : List ℕ = no_channel_line ss c.args.station c.args.kind c.args.glonass.channels in
+    let b : List ℕ = several_lines ss c.args.station c.args.taken in
+    let d : List ℕ = no_channel_line ss c.args.station c.args.taken c.args.glonass.channels in
     c.in_ok-put_no_channel_line.ensures
-    ∙ ap (λ (cs : List (Option ℤ)). mid ++ no_channel_line ss c.args.station c.args.kind cs) c.channels.ensures
+    ∙ ap (λ (cs : List (Option ℤ)). mid ++ no_channel_line ss c.args.station c.args.taken cs) c.channels.ensures
     ∙ ap (λ (l : List ℕ). l ++ d) (c.in_ok-put_several_among.ensures ∙ ap (λ (l : List ℕ). l ++ b) c.in_ok-put_alike_among.ensures)
     ∙ three-parts c.args.lines.now.items a b d

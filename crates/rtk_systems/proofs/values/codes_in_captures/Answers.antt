@@ -11,7 +11,7 @@ use Rattle.rtk_systems.proofs.values.codes_in_captures.Goals as goal
 
 pub loop-code-preserved : goal.loop-code-preserved
 loop-code-preserved c =
-    let found : AnyCode → Bool = is_found c.args.surveys.now c.args.station c.args.systems c.args.kinds in
+    let found : AnyCode → Bool = is_found c.args.surveys.now c.args.station c.args.systems c.args.taken in
     elim c.if-is_found.branch [
       | then-is_found+in_ok-push w ↦
           rw (w.codes-is, w.in_ok-push.ensures.items)
@@ -25,7 +25,7 @@ loop-code-preserved c =
 
 pub returns : goal.returns
 returns c =
-    let found : AnyCode → Bool = is_found c.args.surveys.now c.args.station c.args.systems c.args.kinds in
+    let found : AnyCode → Bool = is_found c.args.surveys.now c.args.station c.args.systems c.args.taken in
     let codes : List AnyCode = c.loop-code.codes.items in
     let end : c.loop-code.code-index ≡ 69 = omega (arith, c.loop-code.auto.code-index-end, c.loop-code-test.false) in
     sym (append-nil codes) ∙ ap (λ (k : ℕ). codes ++ filter found (drop k all_any_codes)) (sym end) ∙ c.loop-code.invariant

@@ -7,4 +7,4 @@ use Rattle.rtk_systems.proofs.values.codes_in_captures.Given as goal
 -- the codes so far and those of the codes that are left are all
 abbrev pub invariant-loop-code : goal.invariant-loop-code
 invariant-loop-code l =
-    l.codes.items ++ filter (is_found l.surveys l.station l.systems l.kinds) (drop l.code-index all_any_codes) ≡ filter (is_found l.surveys l.station l.systems l.kinds) all_any_codes
+    l.codes.items ++ filter (is_found l.surveys l.station l.systems l.taken) (drop l.code-index all_any_codes) ≡ filter (is_found l.surveys l.station l.systems l.taken) all_any_codes

@@ -1,0 +1,2 @@
+-- Definitions that only private clauses use.
+pub mod SetupParts

@@ -1,0 +1,290 @@
+//! The moment near which a conversion dates that takes 1012.
+
+ghost use Rattle.std.specs.Prelude.{◌≡◌, ◌<◌, ◌≤◌, ◌×◌, ◌^◌, Some, None, IfSome, if◌then◌else◌};
+ghost use Rattle.rtk_obs.specs.declared.time.TheConstants.{LAST_MS};
+ghost use Rattle.rtk_plan.specs.Near1012 as spec;
+ghost use Rattle.rtk_captures.specs.Dating.{ArePlaced, IsInReach, IsSpanOf, captures_of};
+ghost use Rattle.rtk_plan.specs.Plan.{IsNear1012, near_in_reach, near_with_1012};
+
+use crate::setup_seconds::seconds_chosen;
+use rtk_captures::{DatedSpan, Dating, StationCapture, StationCaptures, are_out_of_reach, span_in};
+use rtk_obs::{GpsMs, LAST_MS};
+use rtk_setup::{LeapSeconds, Reference};
+use rtk_survey::{CaptureSurvey, Epochs, Placed, Span};
+use rtk_systems::epochs_1012_in;
+
+const DAY_MS: u64 = 86_400_000;
+
+const HALF_DAY_MS: u64 = 43_200_000;
+
+/// The moments near which times of week can be dated: 1980-01-13 00:00:00.000 to 2099-12-31 23:59:59.999.
+const FIRST_REFERENCE_MS: u64 = 604_800_000;
+
+const LAST_REFERENCE_MS: u64 = 3_786_479_999_999;
+
+/// The first and the last moment of what is converted, in ms since 1980-01-06 of GPS time.
+#[derive(Clone, Copy, Debug, PartialEq, Eq)]
+struct Ends {
+    from: u64,
+    until: u64,
+}
+
+// ---- the moment of a 1012
+
+// The time of day of GPS that a 1012 tells, whose time of UTC a survey has.
+fn day_time(seconds: u8, time: u32) -> u64
+    ensures value { result ≡ spec.day_time seconds time }
+    ensures bound { result < 86_400_000 }
+{
+    (u64::from(time) + 1000 * u64::from(seconds)) % DAY_MS
+}
+
+// The moment with a time of day that is not before this one.
+fn day_time_from(from: u64, tod: u64) -> u64
+    requires from { from < 2 ^ 61 }
+    requires tod { tod < 86_400_000 }
+    ensures { result ≡ spec.day_time_from from tod }
+{
+    from + (tod + DAY_MS - from % DAY_MS) % DAY_MS
+}
+
+// The moment with a time of day within half a day of another moment.
+fn moment_in_day(at: u64, tod: u64) -> u64
+    requires at { at < 2 ^ 61 }
+    requires tod { tod < 86_400_000 }
+    ensures { result ≡ spec.moment_in_day at tod }
+{
+    day_time_from(at.saturating_sub(HALF_DAY_MS), tod)
+}
+
+// ---- the first and the last moment of what is converted
+
+fn ends_with_moment(ends: Ends, moment: u64) -> Ends
+    ensures { result ≡ spec.ends_with_moment ends moment }
+{
+    Ends {
+        from: ends.from.min(moment),
+        until: ends.until.max(moment),
+    }
+}
+
+fn ends_with_time(seconds: u8, at: u64, ends: Ends, time: Option<u32>) -> Ends
+    requires { at < 2 ^ 61 }
+    ensures { result ≡ spec.ends_with_time seconds at ends time }
+{
+    match time {
+        Some(time) => ends_with_moment(ends, moment_in_day(at, day_time(seconds, time))),
+        None => ends,
+    }
+}
+
+fn first_moment_at(placed: Placed) -> u64
+    ensures value { result ≡ spec.first_moment_at placed }
+    ensures bound { result ≤ LAST_MS }
+{
+    placed.first.min(LAST_MS)
+}
+
+fn last_moment_at(span: Span, placed: Placed) -> u64
+    ensures value { result ≡ spec.last_moment_at span placed }
+    ensures bound { result < 2 ^ 61 }
+{
+    (first_moment_at(placed) + span.last.ms()).saturating_sub(span.first.ms())
+}
+
+fn ends_with_epochs(seconds: u8, epochs: Epochs, span: Span, placed: Placed, ends: Ends) -> Ends
+    ensures { result ≡ spec.ends_with_epochs seconds epochs span placed ends }
+{
+    let with_first = ends_with_time(seconds, first_moment_at(placed), ends, epochs.first);
+    ends_with_time(
+        seconds,
+        last_moment_at(span, placed),
+        with_first,
+        epochs.last,
+    )
+}
+
+// Those of the 1012 of a capture too, if its epochs are dated.
+fn ends_with_dated(
+    seconds: u8,
+    epochs: Epochs,
+    span: Option<Span>,
+    placed: Option<Placed>,
+    ends: Ends,
+) -> Ends
+    ensures { result ≡ spec.ends_with_dated seconds epochs span placed ends }
+{
+    let Some(span) = span else {
+        return ends;
+    };
+    match placed {
+        Some(placed) => ends_with_epochs(seconds, epochs, span, placed, ends),
+        None => ends,
+    }
+}
+
+fn ends_with_capture(
+    station: u16,
+    seconds: u8,
+    ends: Ends,
+    survey: &CaptureSurvey,
+    placed: Option<Placed>,
+) -> Ends
+    ensures { result ≡ spec.ends_with_capture station seconds ends survey.now placed }
+{
+    let epochs = epochs_1012_in(station, survey);
+    let span = span_in(station, survey);
+    ends_with_dated(seconds, epochs, span, placed, ends)
+}
+
+// Those of captures that are placed so.
+fn ends_after(
+    station: u16,
+    seconds: u8,
+    first: Ends,
+    surveys: &[CaptureSurvey],
+    placed: &[Option<Placed>],
+) -> Ends
+    ensures { result ≡ spec.ends_after station seconds first surveys.now placed.now }
+{
+    let mut ends = first;
+    let count = surveys.len().min(placed.len());
+    for at in 0..count {
+        ends = ends_with_capture(station, seconds, ends, &surveys[at], placed[at]);
+    }
+    ends
+}
+
+// ---- the moment near which they are dated
+
+fn middle_up(ends: Ends) -> u64
+    requires { (ends.from ≤ LAST_MS) × (ends.until ≤ LAST_MS) }
+    ensures value { result ≡ spec.middle_up ends }
+    ensures bound { result < 2 ^ 61 }
+{
+    (ends.from + ends.until + 1_999) / 2_000 * 1_000
+}
+
+fn middle_down(ends: Ends) -> u64
+    requires { (ends.from ≤ LAST_MS) × (ends.until ≤ LAST_MS) }
+    ensures value { result ≡ spec.middle_down ends }
+    ensures bound { result < 2 ^ 61 }
+{
+    (ends.from + ends.until) / 2_000 * 1_000
+}
+
+fn middle_second(ends: Ends) -> u64
+    requires { (ends.from ≤ LAST_MS) × (ends.until ≤ LAST_MS) }
+    ensures value { result ≡ spec.middle_second ends }
+    ensures bound { result < 2 ^ 61 }
+{
+    if ends.from + HALF_DAY_MS < middle_up(ends) {
+        middle_down(ends)
+    } else {
+        middle_up(ends)
+    }
+}
+
+// Do all moments lie within half a day of this one?
+fn dates_ends(ends: Ends, near: u64) -> bool
+    requires from { ends.from ≤ LAST_MS }
+    requires near { near < 2 ^ 61 }
+    ensures { result ≡ spec.dates_ends ends near }
+{
+    near <= ends.from + HALF_DAY_MS && ends.until < near + HALF_DAY_MS
+}
+
+// The reference of a moment, if times of week can be dated near it.
+fn reference_at(ms: u64) -> Option<Reference>
+    ensures { result ≡ (if spec.can_date ms then Some ms else None) }
+{
+    if !(FIRST_REFERENCE_MS <= ms && ms <= LAST_REFERENCE_MS) {
+        return None;
+    }
+    let Some(moment) = GpsMs::new(ms) else {
+        unreachable!();
+    };
+    let Ok(near) = Reference::new(moment) else {
+        unreachable!();
+    };
+    Some(near)
+}
+
+fn near_of_ends(ends: Ends) -> Option<Reference>
+    requires { (ends.from ≤ LAST_MS) × (ends.until ≤ LAST_MS) }
+    ensures { result ≡ spec.near_of_ends ends }
+{
+    let middle = middle_second(ends);
+    if dates_ends(ends, middle) {
+        reference_at(middle)
+    } else {
+        None
+    }
+}
+
+// The moment near which a time of day is dated right from the first to the last moment, if there is one.
+fn near_between(ends: Ends) -> Option<Reference>
+    ensures { result ≡ spec.near_between ends }
+{
+    if LAST_MS < ends.from || LAST_MS < ends.until {
+        return None;
+    }
+    near_of_ends(ends)
+}
+
+// The moment, if a conversion near it dates all epochs of the captures as they are dated here.
+fn near_in_reach(
+    captures: &[StationCapture],
+    placed: &[Option<Placed>],
+    near: Option<Reference>,
+) -> Option<Reference>
+    ensures { result ≡ near_in_reach captures.now placed.now near }
+{
+    let Some(near) = near else {
+        return None;
+    };
+    if are_out_of_reach(near.moment(), captures, placed) {
+        None
+    } else {
+        Some(near)
+    }
+}
+
+fn near_with(
+    captured: &StationCaptures<'_, '_, '_>,
+    seconds: u8,
+    placed: &[Option<Placed>],
+    span: &DatedSpan,
+) -> Option<Reference>
+    ensures { result ≡ near_with_1012 captured.now.all.surveys.now captured.now.station seconds captured.now.captures.now placed.now span.now.from span.now.until }
+{
+    let first = Ends {
+        from: span.from.ms(),
+        until: span.until.ms(),
+    };
+    let ends = ends_after(
+        captured.station,
+        seconds,
+        first,
+        captured.all.surveys,
+        placed,
+    );
+    near_in_reach(captured.captures, placed, near_between(ends))
+}
+
+/// The moment near which the 1012 of captures are dated right with these leap seconds, if there is one.
+pub(crate) fn near_1012(
+    captured: &StationCaptures<'_, '_, '_>,
+    given: Option<Reference>,
+    dating: &Dating,
+    seconds: &Option<LeapSeconds>,
+) -> Option<Reference>
+    requires captures { captured.now.captures.now ≡ captures_of captured.now.all.surveys.now captured.now.station }
+    requires placed { ArePlaced given captured.now.captures.now dating.now.placed.items }
+    requires span { IsSpanOf given captured.now.captures.now captured.now.station dating.now.span }
+    ensures near { IsNear1012 captured.now.all.surveys.now given captured.now.station seconds.now dating.now.near result }
+    ensures in_reach { IfSome result (IsInReach given captured.now.captures.now) }
+{
+    let seconds = seconds_chosen(seconds, dating.near);
+    near_with(captured, seconds, dating.placed.as_slice(), &dating.span)
+}
