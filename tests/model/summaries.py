@@ -8,15 +8,16 @@ from collections import Counter
 from datetime import datetime, timedelta
 from itertools import groupby
 
-from chains import clock_lines, week_lines
-from channels import told_by
+from chains import Date, clock_lines, is_wrong, offsets_of, week_lines
+from channels import most_told, told_by
+from choosing import DEFAULT_KIND, has_value_of_1012, kind_of, names_shown, numbers_of, slots_shown
 from equipment import Told, equipment_lines, equipment_of
 from finding import FIRST_DAY, date_of
 from messages import CODES, Refusal, cells_of, frames_of
 from msm import BESIDE_GPS, LEGACY_GLONASS, letter_of, read_frame
-from systems import GPS, INDEX, LETTERS
+from systems import GLONASS, GPS, INDEX, LETTERS
 from valued import NAMES, has_value, letter_of_name, names_in, shown_in
-from wire import MSMS, Fields, Message
+from wire import MSMS, WEEK_MS, Fields, Message
 
 UNTAKEN = (1001, 1002, 1003, 1071, 1072, 1073)
 NO_DATE = "GPS-TIME-WITHIN-HALF-A-WEEK"
@@ -102,7 +103,6 @@ def station_lines(name: str, station: int, messages: list[Message], dated: list[
     times = [it.header["tow"] for it in observations]
     shown = [entry for it in observations for entry in entries_of(it)]
     found = {satellite for it in messages for satellite, _ in shown_in(it)}
-    codes = codes_of(shown, (1004, *MSMS))
     names = {name for it in messages for name in names_in(it)}
     by_number = {number: [it for it in dated if it["number"] == number] for number in (1013, 1029)}
     first = (by_number[1013] + by_number[1029])[:1]
@@ -118,8 +118,9 @@ def station_lines(name: str, station: int, messages: list[Message], dated: list[
         *channel_lines(others),
         *clock_lines(messages, [it for it in LETTERS if it in map(letter_of_name, names)], moment_of_date(first[0]) if first else None),
     ]
-    near = civil_of(first[0]) if first else NO_DATE
-    return lines + next_lines(name, near, station, shown) if codes else lines
+    near = moment_of_date(first[0]) if first else None
+    words = command_words(messages, near, times)
+    return lines + next_lines(name, civil_of(first[0]) if first else NO_DATE, station, shown, words) if words else lines
 
 
 def epoch_lines(others: list[Message]) -> list[str]:
@@ -154,14 +155,45 @@ def codes_of(shown: list[Shown], numbers: tuple[int, ...]) -> list[str]:
     return [code for code in CODES if code in found]
 
 
-def next_lines(name: str, near: str, station: int, shown: list[Shown]) -> list[str]:
-    """The command with the MSM that has most epochs, of such the greatest; its second frequency, and the other MSM."""
+ALMOST_HALF_DAY_MS = 43_140_000
+
+
+def is_near(moment: int, tow: int) -> bool:
+    """Whether a time of week lies within half a day of a moment, but for a minute."""
+    return (tow - moment + ALMOST_HALF_DAY_MS) % WEEK_MS < 2 * ALMOST_HALF_DAY_MS
+
+
+# pins: is_time_near, slot_numbered, words_with_1012
+def command_words(messages: list[Message], near: int | None, times: list[int]) -> str:
+    """The codes, kinds and options of GLONASS of the command: of each system whose clock is right those of the MSM that has most epochs,
+    of such the greatest; of 1012 too, if the first and the last time of GPS lie near the date. Nothing without a code."""
+    offsets = offsets_of(messages, None if near is None else Date(near, own=False))
+    letters = [it for it in LETTERS if it == GPS.letter or not is_wrong(offsets[it])]
+    kinds = {it: kind_of([messages], it) or DEFAULT_KIND for it in letters}
+    is_dated = near is not None and bool(times) and is_near(near, times[0]) and is_near(near, times[-1])
+    with_1012 = is_dated and any(map(has_value_of_1012, messages))
+    names = names_shown(messages, numbers_of(kinds, with_1012))
+    kinds = {it: kind for it, kind in kinds.items() if it in map(letter_of_name, names)}
+    if not names:
+        return ""
+    first = next(iter(kinds))
+    text = ",".join([str(kinds[first]), *(f"{it}{kind}" for it, kind in kinds.items() if kind != kinds[first])])
+    words = ",".join(names) + (f" --msm {text}" if text != str(DEFAULT_KIND) else "")
+    if GLONASS.letter not in kinds:
+        return words
+    told = told_by(messages)
+    slots = sorted({*slots_shown(messages, numbers_of(kinds, with_1012), NAMES)})
+    channels = ",".join(f"{slot}:{most_told(told[slot])}" for slot in slots if slot in told) or "none"
+    return f"{words} --channels {channels}{' --with-1012' * with_1012}"
+
+
+def next_lines(name: str, near: str, station: int, shown: list[Shown], words: str) -> list[str]:
+    """The command; before it the second frequency of the MSM of GPS that has most epochs, of such the greatest, and the other MSM."""
     times = {msm: [tow for number, tow, _, _ in shown if number == msm] for msm in MSMS}
     epochs = {msm: len(list(groupby(times[msm]))) for msm in MSMS}
     most = max(MSMS, key=lambda msm: (epochs[msm], msm)) if any(epochs.values()) else 1074
-    option = "" if most == 1074 else f" --msm {most - 1070}"
     codes = codes_of(shown, (1004, most))
-    words = f"--station {station} --near {near} {MADE} --marker {station:04} --codes {','.join(codes)}{option}"
+    words = f"--station {station} --near {near} {MADE} --marker {station:04} --codes {words}"
     second = [" second-frequency 2P"] if "2P" in codes and "2W" not in codes else []
     others = [f" other-msm {msm} {n}" for msm, n in epochs.items() if n and msm != most]
     auto = f" auto rtcm2rinex auto --station {station} -o {station:04}.rnx {sh_quoted(name)}"

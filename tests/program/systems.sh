@@ -420,6 +420,11 @@ legacy with_1012_too_long 2020-01-25T02:16:00 '1C --window 4096' $G05_1004 $R12_
 echo ' untaken GLONASS 1012 1: more than a day' >want; grep 1012 said >told; same auto_with_1012_left_out told want
 # A lone 1012 before the first epoch counts too: a second before it, and not nearly a day after it.
 legacy with_a_lone_1012 2020-01-25T02:16:02 '1C,R1C,R2P --window 4096 --channels 12:-1 --with-1012' $R12_1012 $G05_3_S
+# `summary` says the word where the times lie near the date of a 1013: of the same day, and not of half a day later.
+next_of() { python3 "$here/framed.py" "$@" >dated.rtcm; run summary dated.rtcm; sed -n 's/^ next .* --codes //p' out >told; }
+# pins: is_time_near, words_with_1012
+next_of 3F5001E5F90FE70048 $G05_1004 $R12_1012; echo '1C,R1C,R2P --channels 12:-1 --with-1012 dated.rtcm' >want; same next_with_1012 told want
+next_of 3F5001E5F964470048 $G05_1004 $R12_1012; echo '1C dated.rtcm' >want; same next_without_1012 told want
 # The example of two links, in either order.
 examples=$root/examples
 for links in "1 2" "2 1"; do

@@ -14,7 +14,7 @@ use Rattle.rtk_captures.specs.declared.station_capture.StationCapture.{StationCa
 use Rattle.rtk_systems.specs.declared.values.TakenMessages.{TakenMessages}
 use Rattle.rtk_plan.specs.declared.wanted.Wanted.{Wanted}
 
-taken_kinds : SystemKinds → Bool → TakenMessages
+abbrev pub taken_kinds : SystemKinds → Bool → TakenMessages
 taken_kinds kinds takes = record { kinds = kinds; obs1012 = takes }
 
 pub is-setup : (ss : List CaptureSurvey) (links : List (List ℕ)) (w : Wanted) (made station first : ℕ) (other seconds : Option ℕ) (kinds : SystemKinds) (listed : List AnyCode) (takes : Bool) (near : ℕ) (s : SetupView)

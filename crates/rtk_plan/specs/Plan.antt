@@ -20,7 +20,9 @@ use Rattle.rtk_systems.specs.SystemMsms.{kinds_listed}
 use Rattle.rtk_systems.specs.Values.{kinds_in_links, codes_in_captures, is_1012_given}
 use Rattle.rtk_systems.specs.declared.values.TakenMessages.{TakenMessages}
 use Rattle.rtk_plan.specs.declared.wanted.Wanted.{Wanted}
-use Rattle.rtk_captures.specs.Dating.{IsNearOf, IsSpanOf, captures_of}
+use Rattle.rtk_captures.specs.Dating.{ArePlaced, IsNearOf, IsSpanOf, captures_of, some_out_of_reach}
+use Rattle.rtk_captures.specs.declared.station_capture.StationCapture.{StationCapture}
+use Rattle.rtk_survey.specs.declared.placing.Placed.{Placed}
 
 -- the station that is named, if it has observations; else the only one that has
 abbrev pub IsChosenStation : List CaptureSurvey → Option ℕ → ℕ → Type 0

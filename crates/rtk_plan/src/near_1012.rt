@@ -1,6 +1,6 @@
 //! The moment near which a conversion dates that takes 1012.
 
-ghost use Rattle.std.specs.Prelude.{◌≡◌, ◌<◌, ◌≤◌, ◌×◌, ◌^◌, Some, None, IfSome, if◌then◌else◌};
+ghost use Rattle.std.specs.Prelude.{◌≡◌, ◌<◌, ◌≤◌, ◌^◌, Some, None, IfSome, if◌then◌else◌};
 ghost use Rattle.rtk_obs.specs.declared.time.TheConstants.{LAST_MS};
 ghost use Rattle.rtk_plan.specs.Near1012 as spec;
 ghost use Rattle.rtk_captures.specs.Dating.{ArePlaced, IsInReach, IsSpanOf, captures_of};
@@ -273,7 +273,7 @@ fn near_with(
 }
 
 /// The moment near which the 1012 of captures are dated right with these leap seconds, if there is one.
-pub(crate) fn near_1012(
+pub(crate) fn near_of_1012(
     captured: &StationCaptures<'_, '_, '_>,
     given: Option<Reference>,
     dating: &Dating,

@@ -12,7 +12,7 @@ ghost use Rattle.rtk_plan.specs.Plan.{IsChosenStation, AreSecondsCompared, HasNe
 ghost use Rattle.rtk_captures.specs.Dating.{captures_of, ArePlaced, AreStrays, IsSpanOf, IsInReach};
 ghost use Rattle.rtk_systems.specs.SlotChannels.{AreOwnChannels};
 
-use crate::near_1012::near_1012;
+use crate::near_1012::near_of_1012;
 use crate::setup_seconds::{seconds_chosen, seconds_of_setup};
 use crate::station_setup::{own_channels_in, setup_near, systems_asked};
 use crate::wanted::Wanted;
@@ -210,7 +210,7 @@ fn plan_of_station(
     )?;
     let (station, near, span) = (captured.station, dating.near, &dating.span);
     let seconds = seconds_of_setup(alloc, surveys, station, wanted, near, span)?;
-    let other = near_1012(captured, wanted.near, &dating, &seconds);
+    let other = near_of_1012(captured, wanted.near, &dating, &seconds);
     let setup = setup_near(
         alloc,
         surveys,

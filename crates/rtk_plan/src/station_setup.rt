@@ -7,9 +7,9 @@ ghost use Rattle.rtk_rinex.specs.MixedHead.{IsGlonassView, IsMixedList, TellsGlo
 ghost use Rattle.rtk_captures.specs.CaptureCauses.{IfRefused};
 ghost use Rattle.rtk_plan.specs.Causes.{FindsNoCode, IsSetupCause};
 ghost use Rattle.rtk_survey.specs.Surveys.{places_of};
-ghost use Rattle.rtk_plan.specs.Plan.{IsChosenStation, kinds_found, AreSystemsTaken, AreCodesChosen, AreLeapSecondsOf, systems_asked, marker_chosen, converts_1012, near_chosen, taken_messages, codes_taken_from, IsNear1012, IsSetupFor};
+ghost use Rattle.rtk_plan.specs.Plan.{IsChosenStation, kinds_found, AreSystemsTaken, AreCodesChosen, AreLeapSecondsOf, systems_asked, marker_chosen, converts_1012, near_chosen, taken_messages, IsNear1012, IsSetupFor};
 ghost use Rattle.rtk_captures.specs.Dating.{captures_of, IsInReach, IsNearOf};
-ghost use Rattle.rtk_systems.specs.SlotChannels.{AreChannelsChosen, AreOwnChannels, AreSecondsChosen, IsGlonassOf, IsGlonassFound};
+ghost use Rattle.rtk_systems.specs.SlotChannels.{AreChannelsChosen, AreOwnChannels, IsGlonassOf, IsGlonassFound};
 ghost use Rattle.rtk_systems.specs.SystemMsms as msms;
 ghost use Rattle.rtk_plan.specs.Steps.SetupParts.{HasSetupParts};
 ghost use Rattle.rtk_plan.specs.Plan.{codes_chosen};

@@ -1,6 +1,7 @@
 use Rattle.std.proofs.Common.{List, ℕ, sym, subst}
 use Rattle.rtk_captures.specs.declared.station_capture.StationCapture.{StationCapture}
 use Rattle.rtk_captures.specs.Dating.{AreStrays, IsSpanOf}
+use Rattle.rtk_plan.specs.Plan.{AreSecondsCompared, HasNear1012}
 use Rattle.rtk_plan.proofs.planning.plan_of.Goals as goal
 
 pub returns-clause-strays : goal.returns-clause-strays
@@ -12,3 +13,13 @@ pub returns-clause-span : goal.returns-clause-span
 returns-clause-span c =
     subst (λ (cs : List StationCapture). IsSpanOf c.args.wanted.now.near cs c.in_ok-plan.plan.setup.station c.in_ok-plan.plan.span) c.as_slice.ensures.value
     (subst (λ (n : ℕ). IsSpanOf c.args.wanted.now.near c.as_slice.result.now n c.in_ok-plan.plan.span) (sym c.in_ok-plan.ensures.station) c.in_ok-plan.ensures.span)
+
+pub returns-clause-leap_seconds : goal.returns-clause-leap_seconds
+returns-clause-leap_seconds c =
+    subst (λ (cs : List StationCapture). AreSecondsCompared c.args.wanted.now.near cs c.in_ok-plan.plan.setup.leap_seconds c.in_ok-plan.plan.leap_seconds) c.as_slice.ensures.value
+    c.in_ok-plan.ensures.leap_seconds
+
+pub returns-clause-has_near_1012 : goal.returns-clause-has_near_1012
+returns-clause-has_near_1012 c =
+    subst (λ (n : ℕ). HasNear1012 c.args.captures.now.surveys.now c.args.wanted.now.near n c.in_ok-plan.plan.setup.leap_seconds c.in_ok-plan.plan.has_near_1012) (sym c.in_ok-plan.ensures.station)
+    c.in_ok-plan.ensures.has_near_1012

@@ -1,4 +1,4 @@
-use Rattle.std.proofs.Common.{ℤ, List, Option, Some, None, sym, subst}
+use Rattle.std.proofs.Common.{ℤ, List, Option, sym, subst}
 use Rattle.rtk_systems.specs.SlotChannels.{AreChannelsChosen}
 use Rattle.rtk_plan.proofs.station_setup.channels_chosen.Goals as goal
 
