@@ -1,11 +1,13 @@
-use Rattle.std.proofs.Common.{◌≡◌, ℕ, Bool, List, inl, sym, ap, subst}
+use Rattle.std.proofs.Common.{◌≡◌, ℕ, Bool, List, Option, inl, sym, ap, subst}
 use Rattle.rtk_obs.specs.Dating.{IsReference}
 use Rattle.rtk_survey.specs.declared.survey.CaptureSurvey.{CaptureSurvey}
 use Rattle.rtk_plan.specs.Causes.{IsSetupCause, IsCaptureCause}
+use Rattle.rtk_plan.specs.Plan.{IsNear1012}
+use Rattle.rtk_systems.specs.SlotChannels.{AreSecondsChosen}
 use Rattle.rtk_captures.specs.CaptureCauses.{AreTooMany}
 use Rattle.rtk_survey.specs.Surveys.{places_of}
 use Rattle.rtk_captures.specs.Linking.{AreLinksOf}
-use Rattle.rtk_captures.specs.Dating.{IsNearOf}
+use Rattle.rtk_captures.specs.Dating.{IsInReach, IsNearOf, captures_of}
 use Rattle.rtk_captures.specs.declared.refusal.Refusal.{Refusal}
 use Rattle.rtk_captures.specs.declared.refusal.Refusal.TheVariants.{NoCode, OutsideDates}
 use Rattle.rtk_captures.specs.declared.station_capture.StationCapture.{StationCapture}
@@ -54,3 +56,26 @@ returns-in_err-limit_links-clause-refused c =
     c.in_err-limit_links.field-0.0 c.from_residual-in_err-limit_links.result c.from_residual-in_err-limit_links.ensures.1
     (links-cause ss links w c.args.skip_empty c.args.as_given c.args.captured.now.station cs are)
     c.in_err-limit_links.ensures.refused
+
+-- the moment near which all are dated is in reach
+pub returns-clause-in_reach : goal.returns-clause-in_reach
+returns-clause-in_reach c =
+    subst (λ (cs : List StationCapture). IsInReach c.args.wanted.now.near cs c.in_ok-setup.setup.near) (sym c.requires.captures) c.in_ok-setup.ensures.in_reach
+
+-- leap seconds are those of the setup, else those at the first moment
+pub returns-clause-leap_seconds : goal.returns-clause-leap_seconds
+returns-clause-leap_seconds c =
+    (c.in_ok-dating.dating.near, c.in_ok-dating.ensures.near,
+    subst (λ (o : Option ℕ). AreSecondsChosen o c.in_ok-dating.dating.near c.seconds_chosen.result) (sym c.in_ok-setup.ensures.seconds) c.seconds_chosen.ensures.said)
+
+pub returns-clause-has_near_1012 : goal.returns-clause-has_near_1012
+returns-clause-has_near_1012 c =
+    let ss = c.args.captured.now.all.surveys.now in
+    let given = c.args.wanted.now.near in
+    let station = c.args.captured.now.station in
+    let first = c.in_ok-dating.dating.near in
+    (first,
+    subst (λ (cs : List StationCapture). IsNearOf given cs first) c.requires.captures c.in_ok-dating.ensures.near,
+    (c.near_of_1012-other.result,
+    subst (λ (o : Option ℕ). IsNear1012 ss given station o first c.near_of_1012-other.result) (sym c.in_ok-setup.ensures.seconds) c.near_of_1012-other.ensures.near,
+    c.is_some.ensures))
