@@ -7,7 +7,6 @@ because the run was killed, is made by the next run.
 from __future__ import annotations
 
 import re
-import shutil
 import subprocess
 from pathlib import Path
 from typing import Iterable
@@ -22,6 +21,8 @@ TOLD = 200  # characters of what the program told
 
 def check_after(settings: Settings) -> None:
     """Refuses a program that is not there."""
+    import shutil  # here, because most runs do without it, and it would take a part of their time
+
     program = settings.get("AFTER")
     if program and not shutil.which(program):
         raise Refused(f"AFTER={program} is no program")

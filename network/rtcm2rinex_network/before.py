@@ -1,5 +1,5 @@
 """The lists of the files of a span that a run finds: the one under the name that its row gives, and those under names of before, whose
-types of data are others, because the row named codes of other systems.
+types of data are others, because the row named codes of other systems. A file under such a name whose list was lost counts too.
 
 The files of a list of before count as those of before, and go once the new ones have their places. Its list goes last. So whatever ends a
 run, the next one finds what there is to compare and to remove.

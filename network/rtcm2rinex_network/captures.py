@@ -6,26 +6,25 @@ same bytes: each write sets the time of change to that of the clock, and no prog
 
 from __future__ import annotations
 
-import gzip
-import hashlib
+import errno
 import os
 import stat
 import zlib
-from dataclasses import dataclass
 from pathlib import Path
-from typing import BinaryIO, Iterator, List, Optional, cast
+from typing import BinaryIO, Iterable, Iterator, List, NamedTuple, Optional, cast
 
 from .ends import Refused
 from .names import LINKS, capture_name
 from .times import Span
 
 PIECE = 1 << 20  # bytes
+NOWHERE = (errno.ENOENT, errno.ENOTDIR, errno.ELOOP)  # how `stat` fails at a name that leads to nothing
 TICK = 5  # seconds; no later write shares the tick of a time that is older
 
 
-@dataclass(frozen=True)
-class Capture:
-    """A capture that is there: the name that lists have, its file, and its link and hour."""
+class Capture(NamedTuple):
+    """A capture that is there: the name that lists have, its file, and its link and hour. The name ends in .gz if there is a plain capture
+    too."""
 
     name: str
     path: Path
@@ -35,11 +34,20 @@ class Capture:
     @property
     def seen_name(self) -> str:
         """The name of its file below the folder of the station."""
-        return self.name + (".gz" if self.path.suffix == ".gz" else "")
+        return self.first_name + (".gz" if self.path.suffix == ".gz" else "")
+
+    @property
+    def is_second(self) -> bool:
+        """Whether it lies beside a plain capture."""
+        return self.name.endswith(".gz")
+
+    @property
+    def first_name(self) -> str:
+        """The name of the plain capture."""
+        return first_name(self.name)
 
 
-@dataclass(frozen=True)
-class Sum:
+class Sum(NamedTuple):
     """The size of a file in bytes, and the SHA-256 of its bytes; of a gzipped capture both as it came."""
 
     size: int
@@ -50,14 +58,20 @@ class Sum:
 
 
 class Unread(Exception):
-    """A capture can't be read, as a gzip file that is broken."""
+    """A capture can't be read."""
+
+
+class Broken(Unread):
+    """A gzip file is not whole, which no other try mends."""
+
+
+def first_name(name: str) -> str:
+    """The name that a capture has in lists if it is plain, or if no plain one is there."""
+    return name.removesuffix(".gz")
 
 
 def find_captures(directory: Path, span: Span) -> List[Capture]:
-    """The captures of the hours of a span, link by link and hour by hour.
-
-    A capture that is being compressed is there twice, and whole where it is plain.
-    """
+    """The captures of the hours of a span, link by link and hour by hour."""
     found = []
     for link in LINKS:
         folder = directory / f"link{link}"
@@ -66,57 +80,100 @@ def find_captures(directory: Path, span: Span) -> List[Capture]:
         if not os.access(folder, os.R_OK | os.X_OK):
             raise Refused(f"{folder} may not be read")
         for hour in span.hours:
-            name = capture_name(link, hour)
-            path = next((it for it in (directory / name, directory / f"{name}.gz") if it.is_file()), None)
-            if path is None:
-                continue
-            if not os.access(path, os.R_OK):
-                raise Refused(f"{path} may not be read")
-            found.append(Capture(name, path, link, hour))
+            found += captures_of(directory, capture_name(link, hour), link, hour)
     return found
+
+
+def captures_of(directory: Path, name: str, link: int, hour: int) -> List[Capture]:
+    """The capture of a link and an hour. A plain and a gzipped one may be there, as while it is compressed; if nothing of the name is a
+    file, what is there can't be read."""
+    paths = [directory / name, directory / f"{name}.gz"]
+    files = [it for it in paths if it.is_file()]
+    for path in files:
+        if not os.access(path, os.R_OK):
+            raise Refused(f"{path} may not be read")
+    there = files or [it for it in paths if os.path.lexists(it)][:1]
+    return [Capture(it, path, link, hour) for it, path in zip((name, f"{name}.gz"), there)]
+
+
+def opened(path: Path) -> BinaryIO:
+    """Opens a file, of which a gzipped one is read as it was before."""
+    if path.suffix != ".gz":
+        return open(path, "rb")
+    import gzip  # here, because most runs do without it, and it would take a part of their time
+
+    return cast(BinaryIO, gzip.open(path))
 
 
 def pieces_of(path: Path) -> Iterator[bytes]:
     """The bytes of a file, of a gzipped one as they were before. Raises `Unread`."""
     try:
-        with cast(BinaryIO, gzip.open(path)) if path.suffix == ".gz" else open(path, "rb") as file:
+        with opened(path) as file:
             while piece := file.read(PIECE):
                 yield piece
-    except (OSError, EOFError, zlib.error) as fault:
-        raise Unread(f"can't read {path}: {getattr(fault, 'strerror', None) or fault}") from None
+    except (EOFError, zlib.error) as fault:
+        raise Broken(f"can't read {path}: {fault}") from None
+    except OSError as fault:
+        raise (Unread if fault.errno else Broken)(f"can't read {path}: {fault.strerror or fault}") from None
 
 
-def sum_of(path: Path) -> Sum:
-    """Size and sum of a file. Raises `Unread`."""
-    size, digest = 0, hashlib.sha256()
+def first_bytes(path: Path, size: int) -> Iterator[bytes]:
+    """The first bytes of a file, as many as it has of so many. Raises `Unread`."""
     for piece in pieces_of(path):
+        yield piece[:size]
+        size -= min(size, len(piece))
+        if not size:
+            break
+
+
+def sum_of_pieces(pieces: Iterable[bytes]) -> Sum:
+    """Size and sum of what comes in pieces."""
+    import hashlib  # here, because most runs do without it, and it would take a part of their time
+
+    size, digest = 0, hashlib.sha256()
+    for piece in pieces:
         size += len(piece)
         digest.update(piece)
     return Sum(size, digest.hexdigest())
 
 
+def sum_of(path: Path) -> Sum:
+    """Size and sum of a file. Raises `Unread`."""
+    return sum_of_pieces(pieces_of(path))
+
+
 def has_grown(path: Path, before: Sum) -> bool:
     """Whether a capture begins with all the bytes that it had before."""
-    left, digest = before.size, hashlib.sha256()
     try:
-        for piece in pieces_of(path):
-            digest.update(piece[:left])
-            left -= min(left, len(piece))
-            if not left:
-                break
+        return sum_of_pieces(first_bytes(path, before.size)) == before
     except Unread:
         return False
-    return not left and digest.hexdigest() == before.digest
 
 
 def look_at(path: Path) -> Optional[str]:
-    """What `stat` says of a file, as lists have it: size, inode, and the times of its last write and change. None if it is gone."""
+    """What `stat` says of a file, as lists have it: size, inode, and the times of its last write and change. None if it is gone, or if links
+    lead nowhere."""
     try:
         it = os.stat(path)
-    except FileNotFoundError:
+    except OSError as fault:
+        if fault.errno not in NOWHERE:
+            raise
         return None
     times = (f"{ns // 10**9}.{ns % 10**9:09}" for ns in (it.st_mtime_ns, it.st_ctime_ns))
     return f"{it.st_size} {it.st_ino} {' '.join(times)}" if stat.S_ISREG(it.st_mode) else None
+
+
+def is_capture(path: Path) -> bool:
+    """Whether a capture is there, or was compressed, or a link that leads nowhere has its name."""
+    return os.path.lexists(path) or os.path.lexists(f"{path}.gz")
+
+
+def went(path: Path) -> bool:
+    """Whether a capture was a file when it was found, and is gone. Something else, as a link that leads nowhere, is no file that went."""
+    try:
+        return stat.S_ISREG(os.lstat(path).st_mode)
+    except FileNotFoundError:
+        return True
 
 
 def is_old(looked: str, now: float) -> bool:

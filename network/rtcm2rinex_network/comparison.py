@@ -7,16 +7,15 @@ captures show whether that is lost, so these slips are looked at here.
 from __future__ import annotations
 
 import re
-from dataclasses import dataclass
 from pathlib import Path
-from typing import Dict, List, Tuple
+from typing import Dict, List, NamedTuple, Tuple
 
-from .captures import Unread, pieces_of
+from .captures import Broken, Unread, pieces_of
 from .ends import Again
 from .program import Program, fault_of, of_program
 from .rinex import cell_of, epochs_of, read_header
 
-COUNTS = re.compile(r"lost (\d+) changed (\d+) explained \d+", re.ASCII)
+COUNTS = r"lost ([0-9]+) changed ([0-9]+) explained [0-9]+"
 EXPLAINED, FINER, MORE = "explained ", "explained finer ", "more-explained "
 
 
@@ -24,8 +23,7 @@ class Unlike(Exception):
     """The old file is not as the program writes it, so it can't be compared."""
 
 
-@dataclass(frozen=True)
-class Differences:
+class Differences(NamedTuple):
     """What is lost and what has changed: how many there are of each, and the lines of those that `compare` lists. `may_be_finer` says
     whether values are in other steps, as a line tells, or one of those that it leaves out may."""
 
@@ -39,7 +37,7 @@ def differences(program: Program, old: Path, new: Path) -> Differences:
     plain = unpacked(old, new.with_name(f"{new.name}.old")) if old.suffix == ".gz" else old
     ran = program.ran(["compare", str(plain), str(new)])
     lines = ran.out.splitlines()
-    counts = COUNTS.fullmatch(lines[0]) if lines and ran.status in (0, 3) else None
+    counts = re.fullmatch(COUNTS, lines[0]) if lines and ran.status in (0, 3) else None
     if counts:
         worse = tuple(it for it in lines[1:] if not it.startswith((EXPLAINED, MORE)))
         return Differences({"lost": int(counts[1]), "changed": int(counts[2])}, worse, any(it.startswith((FINER, MORE)) for it in lines))
@@ -54,6 +52,8 @@ def unpacked(path: Path, plain: Path) -> Path:
     try:
         with open(plain, "wb") as file:
             file.writelines(pieces_of(path))
+    except Broken as fault:
+        raise Unlike(str(fault)) from None
     except Unread as fault:
         raise Again(str(fault)) from None
     return plain

@@ -9,14 +9,14 @@ import sys
 import time
 from dataclasses import dataclass, field
 from pathlib import Path
-from typing import Dict, List, Optional, Sequence, Set, Tuple
+from typing import Dict, List, NamedTuple, Optional, Sequence, Set, Tuple
 
-from .captures import Sum, Unread, sum_of
+from .captures import Sum, Unread, is_capture, sum_of
 from .ends import DONE, REFUSED, Refused, Usage, say
 from .guards import count_of
 from .lists import Record, read_list
 from .names import Name, hour_of_capture, read_name
-from .places import folder_with, form_of, is_compact, names_below
+from .places import folder_with, form_of, forms_of, is_compact, names_below, plain_name
 from .placing import is_at
 from .settings import DAY, HOUR, Settings, read_settings
 from .table import Row, find_row, rows_with_faults
@@ -26,8 +26,7 @@ SCRIPT = "delete-captures"
 LOOKED_AT = ("late", "conflict")  # counts of a report for which somebody may want the captures
 
 
-@dataclass(frozen=True)
-class Options:
+class Options(NamedTuple):
     """The words of the command: before which time a span is old, what is to be done, and which lengths count."""
 
     before: float
@@ -41,13 +40,14 @@ class Options:
 class Folder:
     """The captures and lists of a folder, which may be that of several rows.
 
-    `captures` has the files of each hour, and `lists` those of each span. `sums` keeps each sum that was taken.
+    `captures` has the files of each hour, and `lists` and `files` those of each span. `sums` keeps each sum that was taken.
     """
 
     rinex: Path
     captures: Dict[int, List[Path]] = field(default_factory=dict)
     names: Set[str] = field(default_factory=set)
     lists: Dict[Span, List[str]] = field(default_factory=dict)
+    files: Dict[Span, Set[str]] = field(default_factory=dict)
     sums: Dict[Path, Optional[Sum]] = field(default_factory=dict)
 
     def sum(self, path: Path) -> Optional[Sum]:
@@ -63,6 +63,11 @@ class Folder:
         """The folder in which a file and its list lie."""
         name = read_name(file)
         return folder_with(self.rinex, name) if name else self.rinex
+
+    def lists_of(self, row: Row, span: Span) -> List[str]:
+        """The lists of a span of a row. An empty one is a lock alone, and counts if there is no other one."""
+        lists = [it for it in self.lists.get(span, []) if it.startswith(f"{row.name9}_")]
+        return [it for it in lists if (self.place_of(it[:-len(".captures")]) / it).stat().st_size] or lists
 
     def captures_of(self, hours: Sequence[int]) -> List[Path]:
         """The captures of these hours."""
@@ -84,9 +89,11 @@ def read_folder(row: Row) -> Folder:
             found.captures.setdefault(hour, []).append(path)
     found.names = set(names_below(found.rinex))
     for text in found.names:
-        name = read_name(text[:-len(".captures")]) if text.endswith(".captures") else None
-        if name:
+        name = read_name(plain_name(text))
+        if name and text == f"{name}.captures":
             found.lists.setdefault(name.span, []).append(text)
+        elif name and text in {it.name for it in forms_of(Path(str(name)))}:
+            found.files.setdefault(name.span, set()).add(str(name))
     return found
 
 
@@ -109,13 +116,23 @@ def fault_of_span(folder: Folder, row: Row, span: Span, options: Options) -> str
     if span.end > options.before:
         return "it is young"
     faults: Dict[str, str] = {}
-    for it in folder.lists.get(span, []):
-        if it.startswith(f"{row.name9}_"):
-            interval = it.split("_")[4]
-            faults[interval] = faults.get(interval) or fault_of_file(folder, span, it, options)
+    lists = folder.lists_of(row, span)
+    for it in lists:
+        interval = it.split("_")[4]
+        faults[interval] = faults.get(interval) or fault_of_file(folder, span, it, options)
     if not faults:
         return "there is no file" if folder.captures_of(span.own_hours) else ""
-    return "" if "" in faults.values() else next(iter(faults.values()))
+    return fault_of_others(folder, row, span, lists) if "" in faults.values() else next(iter(faults.values()))
+
+
+def fault_of_others(folder: Folder, row: Row, span: Span, lists: Sequence[str]) -> str:
+    """Whether a file is there under another type of data whose list was lost, which may have what that of the list has not."""
+    known = {it[:-len(".captures")] for it in lists}
+    intervals = {it.split("_")[4] for it in known}
+    others = {it for it in folder.files.get(span, ()) if it.startswith(f"{row.name9}_") and it.split("_")[4] in intervals} - known
+    if others:
+        others -= {made for it in lists for made in read_list(folder.place_of(it[:-len(".captures")]) / it).made}
+    return f"{min(others)} has no list" if others else ""
 
 
 def fault_of_file(folder: Folder, span: Span, list_name: str, options: Options) -> str:
@@ -140,13 +157,13 @@ def fault_of_file(folder: Folder, span: Span, list_name: str, options: Options) 
 def fault_of_captures(folder: Folder, span: Span, file: str, record: Record) -> str:
     """Whether the file lacks a capture that is there."""
     paths = folder.captures_of(span.hours)
-    unread = record.unread & {name_of(path) for path in paths}
+    unread = {it for it in record.unread if is_capture(folder.rinex.parent / it)}
     if unread:
         return f"{file} is made without {' '.join(sorted(unread))}, which could not be read"
     for path in paths:
-        name = name_of(path)
-        if record.captures.get(name) != folder.sum(path) or name not in record.captures:
-            return f"{file} is not made of {name}"
+        sums = {record.captures.get(it) for it in (name_of(path), f"{name_of(path)}.gz")} - {None}
+        if folder.sum(path) not in sums:
+            return f"{file} is not made of {path.parent.name}/{path.name}"
     return ""
 
 
@@ -217,7 +234,7 @@ def delete(folder: Folder, paths: Sequence[Path]) -> None:
     for path in paths:
         for span in spans_of(hour_of_capture(f"{path.parent.name}/{path.name}") or 0, list(LENGTHS)):
             for name in folder.lists.get(span, []):
-                deleted.setdefault(folder.place_of(name[:-len(".captures")]) / name, set()).add(name_of(path))
+                deleted.setdefault(folder.place_of(name[:-len(".captures")]) / name, set()).update((name_of(path), f"{name_of(path)}.gz"))
     left = [path for path, captures in deleted.items() if not has_noted(path, captures)]
     for path in paths:
         path.unlink(missing_ok=True)

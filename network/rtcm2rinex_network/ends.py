@@ -16,6 +16,7 @@ class Ended(Exception):
     status = AGAIN
     report = ""
     kept = ""
+    is_noted = False
 
     def told(self) -> str:
         """What standard error says."""

@@ -5,11 +5,10 @@ from __future__ import annotations
 
 import math
 import re
-from dataclasses import dataclass
 from pathlib import Path
-from typing import Dict, FrozenSet, Iterator, List, Optional, Set, Tuple
+from typing import Dict, FrozenSet, Iterator, List, NamedTuple, Optional, Set, Tuple
 
-from .captures import Sum
+from .captures import Sum, first_name
 from .comparison import Unlike, differences, lost_first_slips
 from .lists import Made, Record
 from .labels import fields_of_options, options_of
@@ -21,13 +20,12 @@ from .systems import kinds_of, system_of, systems_of
 
 MOST_METRES = 1.0  # of a position that comes from the same antenna
 MOST_CONFLICTS = 0.01  # of the messages that were taken
-CONFLICT = re.compile(r"(?m)^link \d+ conflict \d+ (?:-|\S+ \S+)", re.ASCII)
-OF_OTHERS = re.compile(r"lost code \S+|(lost|changed) (position|channel \d+)|changed leap-seconds", re.ASCII)  # lines of `compare`
-OF_WHOLE_FILE = re.compile(r"lost slip .*", re.ASCII)  # also a line of `compare`
+CONFLICT = r"(?m)^link [0-9]+ conflict [0-9]+ (?:-|\S+ \S+)"
+OF_OTHERS = r"lost code \S+|(lost|changed) (position|channel [0-9]+)|changed leap-seconds"  # lines of `compare`
+OF_WHOLE_FILE = r"lost slip .*"  # also a line of `compare`
 
 
-@dataclass(frozen=True)
-class MadeBy:
+class MadeBy(NamedTuple):
     """What a file was made by: the number of the station, the MSM, the codes, the marker and the fields of the label, and the systems that
     were left out because of their clocks. A None is not known."""
 
@@ -43,8 +41,7 @@ class MadeBy:
         return kinds_of(self.msm, self.codes) if self.msm is not None else {}
 
 
-@dataclass(frozen=True)
-class Old:
+class Old(NamedTuple):
     """The files of before: what the list says that was made, and which of these are there with the bytes with which they were made;
     where the file of the span gets to, and whether it is there and can be read; what it was made by, its header, and the text of its
     report."""
@@ -63,9 +60,9 @@ class Old:
         return str(name.with_kind(before.kind)) if name and before else new
 
     def file(self, name: str) -> Optional[Path]:
-        """Where a file lies, if it and that of the span are there and can be read."""
+        """Where a file lies, if it and that of the span are there and can be read. One that no list counts is compared by itself."""
         form = form_of(self.path.with_name(name))
-        return form if self.is_there and form.is_file() and not is_compact(form) else None
+        return form if (self.is_there or name not in self.made) and form.is_file() and not is_compact(form) else None
 
     def is_same(self, name: str, made: Made) -> bool:
         """Whether a file is there as it is made now."""
@@ -76,8 +73,7 @@ class Old:
         return self.is_there and name != self.path.name and {name, self.path.name} <= self.intact
 
 
-@dataclass(frozen=True)
-class New:
+class New(NamedTuple):
     """The new files: what they were made by, what was made, where that of the span lies now, the text of the report, whether all is as in
     the list of before from which they were made, and whether captures lost bytes."""
 
@@ -106,8 +102,13 @@ def old_files(path: Path, record: Record, intact: FrozenSet[str]) -> Old:
 
 def without_bytes(before: Dict[str, Sum], found: Dict[str, Sum]) -> List[str]:
     """The captures of before whose bytes no capture of the same hour has now, whichever link it is of."""
-    there = {(name.partition("/")[2], it) for name, it in found.items()}
-    return [name for name, it in before.items() if (name.partition("/")[2], it) not in there]
+    there = {(hour_of(name), it) for name, it in found.items()}
+    return [name for name, it in before.items() if (hour_of(name), it) not in there]
+
+
+def hour_of(name: str) -> str:
+    """The hour of a capture, as its name has it."""
+    return first_name(name).partition("/")[2]
 
 
 def guard_captures(before: Dict[str, Sum], found: Dict[str, Sum], unread: Set[str]) -> Iterator[str]:
@@ -121,8 +122,8 @@ def guard_captures(before: Dict[str, Sum], found: Dict[str, Sum], unread: Set[st
 def guard_words(old: Old, new: MadeBy) -> Iterator[str]:
     """A table that was edited says how the station is now, and the file may be of the time before. Another number is another station,
     and another MSM has other values of the same codes. A code that the row names no more, and a field of the label that is another one
-    now, belong to another receiver or antenna. A field that was blank may be filled, and a code without a value may go. Codes of another
-    system may come."""
+    now, belong to another receiver or antenna. A field that was blank may be filled, and a code without a value may go, if the
+    file is as it was made or has no list. Codes of another system may come."""
     name = old.path.name
     by, path = old.by, old.file(name)
     if by.station not in (None, new.station):
@@ -132,7 +133,7 @@ def guard_words(old: Old, new: MadeBy) -> Iterator[str]:
             of = f" of {system}" if len(by.kinds) > 1 else ""
             yield f"{name} is of MSM{kind}{of}, and would be of MSM{now}{of}"
     dropped = [code for code in by.codes if code not in new.codes]
-    if dropped and path and name in old.intact:
+    if dropped and path and (by.station is None or name in old.intact):
         there = codes_with_values(path)
         dropped = [code for code in dropped if code in there]
     if dropped:
@@ -159,7 +160,8 @@ def guard_compact(old: Old, made: Dict[str, Made]) -> Iterator[str]:
 
 
 def guard_counts(name: str, old: Old, new: New, file: str) -> Iterator[str]:
-    """A file that was moved away is compared by what its list counts. Of a new file with other systems those count that it had."""
+    """A file that was moved away is compared by what its list counts. Of a new file with other systems those count that it had. Where
+    bytes of its captures are there no more, counts alone do not tell that its values are."""
     listed, made, systems = old.made[name], new.made[file], systems_of(old.by.codes)
     epochs, values = made.epochs, made.values
     if systems != systems_of(new.by.codes):
@@ -168,6 +170,9 @@ def guard_counts(name: str, old: Old, new: New, file: str) -> Iterator[str]:
         yield f"{name} had {listed.epochs} epochs, and would have {epochs}"
     if values < listed.values:
         yield f"{name} had {listed.values} values, and would have {values}"
+    is_gone = name == old.path.name and not form_of(old.path).is_file()
+    if is_gone and new.lost_bytes and not listed.is_none and listed != made:
+        yield f"{name} is not there to be compared, and captures that it was made of lost bytes: nobody knows whether the new one is worse"
 
 
 def guard_records(program: Program, name: str, old: Old, new: New, now: Path) -> Iterator[str]:
@@ -186,7 +191,7 @@ def guard_records(program: Program, name: str, old: Old, new: New, now: Path) ->
             yield f"{name} was changed, and can't be compared: {fault}"
         return
     is_thin = name != old.path.name
-    others = [it for it in found.lines if OF_OTHERS.fullmatch(it) or (is_thin and OF_WHOLE_FILE.fullmatch(it))]
+    others = [it for it in found.lines if re.fullmatch(OF_OTHERS, it) or (is_thin and re.fullmatch(OF_WHOLE_FILE, it))]
     lines = [it for it in found.lines if it not in others]
     lost, changed = (count - sum(it.startswith(kind) for it in others) for kind, count in found.counts.items())
     if lost or (changed and not new.is_of_list):
@@ -217,9 +222,18 @@ def guard_position(name: str, old: Header, new: Header) -> Iterator[str]:
 
 def guard_conflicts(name: str, old: str, new: str) -> Iterator[str]:
     """Links of one station have the same values. Where many differ now and none did before, a link carries another station."""
-    conflicts, taken = len(set(CONFLICT.findall(new))), count_of(new, "taken")
-    if conflicts > MOST_CONFLICTS * taken and not CONFLICT.search(old):
+    conflicts, taken = len(set(re.findall(CONFLICT, new))), count_of(new, "taken")
+    if conflicts > MOST_CONFLICTS * taken and not re.search(CONFLICT, old):
         yield f"{name} would have conflicts in {conflicts} messages, where {taken} were taken, and had none: a link may be of another station"
+
+
+def guard_epochs(name: str, old: Old, new: New) -> Iterator[str]:
+    """A span has so many epochs of its interval. A link whose clock is wrong, or which sends more often, adds epochs that no other one has,
+    so nothing of the old file is lost, and still it was the better one."""
+    it, path, now = read_name(name), old.file(name), new.made[new.path.name].epochs
+    before = old.made[name].epochs if name in old.made else count_epochs(path) if path else None
+    if it and before is not None and before <= it.most_epochs < now:
+        yield f"{name} would have {now} epochs, and its span has {it.most_epochs}: the clock of a link is wrong, or its interval"
 
 
 def may_be_fewer(old: Old, by: MadeBy, report: str) -> bool:
@@ -237,7 +251,9 @@ def faults_of(program: Program, old: Old, new: New) -> Iterator[str]:
     """Why the records of the new files would be worse than those of before."""
     if old.is_there:
         yield from guard_position(old.path.name, old.header, read_header(new.path))
+    if old.is_there or old.made:
         yield from guard_conflicts(old.path.name, old.report, new.report)
+    yield from guard_epochs(old.path.name, old, new)
     for file, it in new.made.items():
         name = old.name_of(file)
         if name in old.made:

@@ -5,9 +5,8 @@ from __future__ import annotations
 import os
 import re
 import shlex
-from dataclasses import dataclass
 from pathlib import Path
-from typing import Dict, Iterator, List, Optional, Sequence, Tuple
+from typing import Dict, Iterator, List, NamedTuple, Optional, Sequence, Tuple
 
 from .ends import Again, Refused
 from .program import Program, of_program
@@ -16,8 +15,7 @@ from .table import Dates, Row, lines_of_table, read_dates
 SWITCHES = ("--interval", "--last")  # options of `label` without a value: lines that follow from the records
 
 
-@dataclass(frozen=True)
-class Label:
+class Label(NamedTuple):
     """A line of the file `labels`: the station, from when until when it holds, and the options of `rtcm2rinex label` as they stand."""
 
     number: int

@@ -1,7 +1,7 @@
 """The list of a file, NAME.captures: what it was made from.
 
 It has the program's version, the row, and a line for each capture with its size and sum as it came, so a capture that is compressed
-later is the same. Then come these lines:
+later is the same. If a plain and a gzipped one have other bytes, each has a line. Then come these lines:
 
     unread CAPTURE                      a capture that could not be read, and was left out
     made FILE SIZE EPOCHS VALUES SUM    a file that was made; a thinned file without epochs is none, and its sum is -
@@ -18,22 +18,20 @@ values, sums of files and the line `used`, and may have a line `every`.
 from __future__ import annotations
 
 import re
-from dataclasses import dataclass, field, replace
 from pathlib import Path
-from typing import Dict, List, Mapping, Optional, Sequence, Set, Tuple
+from typing import Dict, List, Mapping, NamedTuple, Optional, Sequence, Set, Tuple
 
 from .captures import Sum
 from .systems import AUTO, DEFAULT_KIND, LETTERS, channels_of
 
 SUM = r"(\d+) ([0-9a-f]{64})"
 MADE = re.compile(r"made ([A-Z0-9_]+\.rnx) (\d+) (\d+)(?: (\d+) ([0-9a-f]{64}|-))?", re.ASCII)
-CAPTURE = r"link\d+/\d{11}\.rtcm"
+CAPTURE = r"link\d+/\d{11}\.rtcm(?:\.gz)?"
 ROW = re.compile(r"row (\S+) (\S+) (\S+) (\S+) (\S+) (\S+) (.*?)"
     rf"(?: msm ([4-7](?:,[{LETTERS}][4-7])*))?(?: channels ([0-9:,-]+|none|auto))?(?: leap_seconds (\d+))?(?: with-1012 yes)?(?: label (.*))?", re.ASCII)
 
 
-@dataclass(frozen=True)
-class Made:
+class Made(NamedTuple):
     """A file that was made: its size and sum, and how many epochs and values it has. A sum of None is not known, and - is no file."""
 
     size: int
@@ -56,8 +54,7 @@ class Made:
         return f"made {name} {self.size} {self.epochs} {self.values} {self.digest}"
 
 
-@dataclass(frozen=True)
-class Used:
+class Used(NamedTuple):
     """What a row of a list says: the number of the station, the marker, the codes that were converted, the MSM, the word for the channels of
     GLONASS, and the options of the label."""
 
@@ -69,18 +66,18 @@ class Used:
     label: str
 
 
-@dataclass
 class Record:
     """A list. `head` has the version and the row."""
 
-    head: List[str] = field(default_factory=list)
-    captures: Dict[str, Sum] = field(default_factory=dict)
-    unread: Set[str] = field(default_factory=set)
-    made: Dict[str, Made] = field(default_factory=dict)
-    report: Optional[Sum] = None
-    used: str = ""
-    deleted: Set[str] = field(default_factory=set)
-    seen: Dict[str, str] = field(default_factory=dict)
+    def __init__(self, head: Sequence[str] = ()) -> None:
+        self.head: List[str] = list(head)
+        self.captures: Dict[str, Sum] = {}
+        self.unread: Set[str] = set()
+        self.made: Dict[str, Made] = {}
+        self.report: Optional[Sum] = None
+        self.used = ""
+        self.deleted: Set[str] = set()
+        self.seen: Dict[str, str] = {}
 
     def source(self) -> List[str]:
         """What the file was made from: the lines that decide whether it is made anew."""
@@ -125,9 +122,10 @@ def row_line(text: str, msm: str, glonass: Mapping[str, str], label: str) -> str
 def joined(own: Record, others: Sequence[Record]) -> Record:
     """The list of a file with the files of the lists that it has under other names. If it has no list of its own, the first of these is its
     list."""
-    first = own if own.head or not others else others[0]
-    made = {name: it for record in (first, *others) for name, it in record.made.items()}
-    return replace(first, made=made)
+    first = next((it for it in (own, *others) if it.head), own)
+    found = Record()
+    vars(found).update(vars(first), made={name: it for record in (first, *others) for name, it in record.made.items()})
+    return found
 
 
 def read_list(path: Path) -> Record:

@@ -9,9 +9,8 @@ import subprocess
 import sys
 import threading
 import time
-from dataclasses import dataclass
 from pathlib import Path
-from typing import BinaryIO, Callable, Iterator, List, NoReturn, Optional, Sequence
+from typing import BinaryIO, Callable, Iterator, List, NamedTuple, NoReturn, Optional, Sequence
 
 from .captures import Unread, pieces_of
 from .ends import DONE, REFUSED, Again, Ended, Refused, Usage, say
@@ -34,8 +33,7 @@ AFTER_HOUR = 2  # seconds in which what came before the end of an hour is writte
 LONGEST_HEADER = 8_192  # bytes
 
 
-@dataclass(frozen=True)
-class LiveJob:
+class LiveJob(NamedTuple):
     """What is converted while it comes: a link of a station, in spans of a length."""
 
     settings: Settings

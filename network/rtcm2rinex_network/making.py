@@ -3,20 +3,20 @@
 from __future__ import annotations
 
 import os
-from dataclasses import dataclass, field
 from pathlib import Path
-from typing import BinaryIO, Dict, List, Sequence
+from typing import Dict, Iterator, List, NamedTuple, Optional, Sequence, Tuple
 
 from .before import Before
 from .captures import Capture, Unread, pieces_of, sum_of
 from .ends import Again, Refused
+from .frames import without_systems
 from .guards import count_of
 from .labels import fields_of_options
 from .lists import Made, row_line
 from .names import Name, read_name
 from .places import folder_of, form_of, has_list, plain_name
 from .program import Program
-from .rinex import count_values, most_frequent_step, read_header
+from .rinex import Measure, read_header
 from .settings import DAY, Settings
 from .summaries import Told
 from .table import Row
@@ -26,8 +26,7 @@ CHECKED = "valid: "
 FIRST_DATE = "1980-01-06"  # that a file can have; a clock that was never set is before it
 
 
-@dataclass(frozen=True)
-class Job:
+class Job(NamedTuple):
     """What a run is to make: the file of a span of a station, by these settings."""
 
     settings: Settings
@@ -75,12 +74,12 @@ class Job:
         return {**fields_of_options(self.options), "marker": self.row.marker}
 
 
-@dataclass
 class Conversion:
     """What was made in a folder: the files by their names, the first one being that of the span; and the text of the report."""
 
-    made: Dict[str, Made] = field(default_factory=dict)
-    report: str = ""
+    def __init__(self) -> None:
+        self.made: Dict[str, Made] = {}
+        self.report = ""
 
 
 def seconds_of_thin(interval: str) -> int:
@@ -109,24 +108,28 @@ def thins_of(job: Job, before: Before) -> List[Name]:
     return [job.name.with_interval(it) for it in wanted]
 
 
-def join_links(captures: Sequence[Capture], work: Path) -> List[Path]:
+def join_links(captures: Sequence[Capture], told: Told, work: Path) -> List[Path]:
     """One file for each link, its captures in order. Files and no pipes: a file gives each read 512 bytes, so each run reads the links
-    in the same order."""
-    links: List[Path] = []
-    for capture in captures:
-        link = work / f"link{capture.link}"
-        with open(link, "ab") as file:
-            copy(capture, file)
-        if link not in links:
-            links.append(link)
-    return links
+    in the same order. Gzipped captures beside plain ones count as another link, behind all others. Messages of systems whose clocks are
+    wrong in a capture, where another link has them right, are left out."""
+    links: Dict[Path, List[Capture]] = {}
+    for capture in sorted(captures, key=lambda it: it.is_second):
+        link = work / f"link{capture.link}{'.second' if capture.is_second else ''}"
+        links.setdefault(link, []).append(capture)
+    for link, parts in links.items():
+        left_out = ["".join(told.of_captures.get(it.path, ())) for it in parts]
+        with open(link, "wb") as file:
+            if any(left_out):
+                file.write(without_systems([(b"".join(bytes_of(it)), systems) for it, systems in zip(parts, left_out)]))
+            else:
+                file.writelines(piece for it in parts for piece in bytes_of(it))
+    return list(links)
 
 
-def copy(capture: Capture, file: BinaryIO) -> None:
-    """Appends the bytes of a capture."""
+def bytes_of(capture: Capture) -> Iterator[bytes]:
+    """The bytes of a capture."""
     try:
-        for piece in pieces_of(capture.path):
-            file.write(piece)
+        yield from pieces_of(capture.path)
     except Unread as fault:
         raise Again(str(fault)) from None
 
@@ -149,7 +152,7 @@ def time_of_making(job: Job, captures: Sequence[Capture], is_made: bool) -> str:
 def convert(job: Job, told: Told, captures: Sequence[Capture], before: Before, work: Path, is_made: bool, done: Conversion) -> None:
     """Converts the captures by the row as they tell it, and cuts the file and its thinned files out of what comes."""
     row = told.row
-    links = join_links(captures, work)
+    links = join_links(captures, told, work)
     made = time_of_making(job, captures, is_made)
     words = ["convert", *row.options(row.msm(job.settings)), "--near", row.near(job.span), "--made", made, "--window", row.window,
         *map(str, links)]
@@ -157,18 +160,17 @@ def convert(job: Job, told: Told, captures: Sequence[Capture], before: Before, w
     for link in links:
         link.unlink()
     name = str(job.name)
-    done.made[name] = cut_out(job, work, name, [])
+    done.made[name], step = cut_out(job, work, name, [])
     if not done.made[name].epochs:
         raise Refused(f"the captures have no epoch of this span{hint_of(done.report)}")
-    step = most_frequent_step(work / name)
     if step is not None and step != row.interval_ms:
-        raise Refused(f"the interval is {interval_of(step) or f'{step} ms'}, and the row has {row.interval}")
+        raise Refused("; ".join([f"the interval is {interval_of(step) or f'{step} ms'}, and the row has {row.interval}", *told.doubts]))
     if read_header(work / name).position is None:
         done.report += "position none\n"
     (work / f"{name}.report").write_text(done.report)
     for thin in thins_of(job, before):
         seconds = seconds_of_thin(thin.interval)
-        done.made[str(thin)] = cut_out(job, work, str(thin), ["--every", str(seconds)])
+        done.made[str(thin)], _ = cut_out(job, work, str(thin), ["--every", str(seconds)])
     (work / "whole").unlink()
 
 
@@ -181,8 +183,8 @@ def hint_of(report: str) -> str:
     return ": `rtcm2rinex summary` of a capture says which messages came"
 
 
-def cut_out(job: Job, work: Path, name: str, words: Sequence[str]) -> Made:
-    """Cuts the span out of the whole, and checks it."""
+def cut_out(job: Job, work: Path, name: str, words: Sequence[str]) -> Tuple[Made, Optional[int]]:
+    """Cuts the span out of the whole, and checks it. Answers what was made, and its step in ms."""
     whole, path = work / "whole", work / name
     job.program.write(path, ["cut", str(whole), "--from", job.span.start, "--until", text_of(job.span.end), *words])
     checked = work / "checked"
@@ -193,7 +195,8 @@ def cut_out(job: Job, work: Path, name: str, words: Sequence[str]) -> Made:
     if not told.startswith(CHECKED) or not words_of_check[0].isdecimal():
         raise Again("check: no answer")
     epochs = int(words_of_check[0])
-    return Made(path.stat().st_size, epochs, count_values(path), sum_of(path).digest) if epochs else Made(0, 0, 0, "-")
+    it = Measure(path)
+    return (Made(it.sum.size, epochs, it.values, it.sum.digest), it.step) if epochs else (Made(0, 0, 0, "-"), None)
 
 
 def label_files(job: Job, work: Path, done: Conversion) -> None:

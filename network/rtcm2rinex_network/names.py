@@ -3,8 +3,7 @@
 from __future__ import annotations
 
 import re
-from dataclasses import dataclass, replace
-from typing import List, Optional
+from typing import List, NamedTuple, Optional
 
 from .settings import DAY
 from .systems import TYPES
@@ -16,8 +15,7 @@ FORM = re.compile(rf"([A-Z0-9]{{4}}\d\d[A-Z]{{3}})_S_(\d{{11}})_({'|'.join(LENGT
 CAPTURE = re.compile(rf"link({LINK})/(\d{{9}}00)\.rtcm", re.ASCII)
 
 
-@dataclass(frozen=True)
-class Name:
+class Name(NamedTuple):
     """The name of a RINEX file: that of the station, the span, the interval and the type of the data."""
 
     name9: str
@@ -36,15 +34,25 @@ class Name:
     @property
     def epochs(self) -> int:
         """How many epochs a file with this name has if none is missing; at least one."""
-        return max(1, LENGTHS[self.span.length] * 1000 // (ms_of(self.interval) or DAY * 1000))
+        return max(1, LENGTHS[self.span.length] * 1000 // self.interval_ms)
+
+    @property
+    def most_epochs(self) -> int:
+        """How many it may have: one more if its span is no multiple of the interval."""
+        return -(-LENGTHS[self.span.length] * 1000 // self.interval_ms)
+
+    @property
+    def interval_ms(self) -> int:
+        """The interval in ms."""
+        return ms_of(self.interval) or DAY * 1000
 
     def with_interval(self, interval: str) -> Name:
         """The name of the same data in other steps."""
-        return replace(self, interval=interval)
+        return self._replace(interval=interval)
 
     def with_kind(self, kind: str) -> Name:
         """The name of data of another type."""
-        return replace(self, kind=kind)
+        return self._replace(kind=kind)
 
     @property
     def others(self) -> List[Name]:

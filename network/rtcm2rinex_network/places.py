@@ -33,8 +33,17 @@ def has_list(folder: Path, name: Name) -> bool:
 
 
 def names_before(folder: Path, name: Name) -> List[Name]:
-    """The names of other types of data under which a file has a list, because its row named codes of other systems."""
-    return [it for it in name.others if has_list(folder, it)]
+    """The names of other types of data under which a file has a list, or is there though its list was lost, because its row named codes of
+    other systems."""
+    return [it for it in name.others if has_list(folder, it) or is_without_list(folder, it)]
+
+
+def is_without_list(folder: Path, name: Name) -> bool:
+    """Whether a file is there whose list was lost. A thinned file never has one, but then that of its span has another interval."""
+    if not form_of(folder / str(name)).is_file():
+        return False
+    lists = folder.glob(f"{name.begin}*_{name.kind}.rnx.captures")
+    return not any(path.stat().st_size and path.name != f"{name}.captures" for path in lists)
 
 
 def folder_with(rinex: Path, name: Name) -> Path:

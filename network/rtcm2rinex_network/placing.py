@@ -7,13 +7,9 @@ a device.
 from __future__ import annotations
 
 import fcntl
-import filecmp
-import gzip
 import os
 import re
-import shutil
 import stat
-import tempfile
 import time
 from contextlib import ExitStack, contextmanager
 from pathlib import Path
@@ -25,7 +21,7 @@ PATIENCE = 600  # seconds to wait for a lock
 TURN = 0.1  # seconds from try to try
 NOTES = (".refused", ".again")  # of runs that failed
 UNREAD = ".unread"  # of captures that a file lacks
-COUNT = re.compile(r"times (\d+) since (\S+)\n?\Z")
+COUNT = r"times ([0-9]+) since (\S+)\n?\Z"
 
 
 def is_free(path: Path) -> bool:
@@ -72,16 +68,25 @@ def write_whole(path: Path, text: str) -> None:
 
 def has_bytes_of(new: Path, path: Path) -> bool:
     """Whether a file with these bytes has the name already."""
+    import filecmp  # here, because most runs do without it, and it would take a part of their time
+
     return path.is_file() and filecmp.cmp(new, path, shallow=False)
+
+
+def packed(path: Path, archive: Path) -> Path:
+    """Gzips a file, always to the same bytes."""
+    import gzip  # here, because most runs do without it, and it would take a part of their time
+    import shutil
+
+    with open(path, "rb") as file, open(archive, "wb") as raw, gzip.GzipFile("", "wb", fileobj=raw, mtime=0) as writer:
+        shutil.copyfileobj(file, writer)
+    return archive
 
 
 def put(new: Path, path: Path) -> None:
     """Gives a file its name, unless a file with the same bytes has that name. A name that ends in .gz gets the file gzipped."""
     if path.suffix == ".gz":
-        packed = new.with_name(path.name)
-        with open(new, "rb") as file, open(packed, "wb") as raw, gzip.GzipFile("", "wb", fileobj=raw, mtime=0) as archive:
-            shutil.copyfileobj(file, archive)
-        new = packed
+        new = packed(new, new.with_name(path.name))
     if not has_bytes_of(new, path):
         refuse_taken(path)
         sync(new)
@@ -111,12 +116,22 @@ def make_folder(folder: Path) -> None:
     give_to_owner(folder, folder.parent)
 
 
+def opened_list(path: Path, makes: bool) -> BinaryIO:
+    """Opens a list to lock it. One that may not be written is read, which is enough for a run that finds nothing to do."""
+    try:
+        return open(path, "ab") if makes else open(path, "r+b")
+    except OSError:
+        if os.access(path, os.W_OK) or not path.is_file():
+            raise
+        return open(path, "rb")
+
+
 def lock(path: Path, makes: bool = True) -> BinaryIO:
     """Opens and locks a list, which is there after it. Another run may put a new list in its place meanwhile, and then that one is
     locked. If it is not to be made, a list that is gone raises a FileNotFoundError."""
     while True:
         try:
-            file: BinaryIO = open(path, "ab") if makes else open(path, "r+b")
+            file = opened_list(path, makes)
         except OSError as fault:
             if not makes and isinstance(fault, FileNotFoundError):
                 raise
@@ -166,26 +181,34 @@ def is_at(file: IO[Any], path: Path) -> bool:
         return False
 
 
+def remove(path: Path) -> None:
+    """Removes a folder with all that it has, or a file."""
+    import shutil  # here, because most runs do without it, and it would take a part of their time
+
+    shutil.rmtree(path, ignore_errors=True)
+    if path.is_file():
+        path.unlink()
+
+
 def remove_left(folder: Path, name: str) -> None:
     """Removes what a run left beside the place of a file that was killed."""
     for left in folder.glob(f".{name}.*"):
-        shutil.rmtree(left, ignore_errors=True)
-        if left.is_file():
-            left.unlink()
+        remove(left)
 
 
 @contextmanager
 def work_folder(folder: Path, name: str) -> Iterator[Path]:
     """A folder for the files of a run, beside their places. It is removed at the end, and so is what a run left that was killed."""
     remove_left(folder, name)
+    work = folder / f".{name}.{os.getpid()}"
     try:
-        work = Path(tempfile.mkdtemp(prefix=f".{name}.", dir=folder))
+        work.mkdir(0o700)
     except OSError as fault:
-        raise Again(f"can't write to {folder}: {fault.strerror}") from None
+        raise blamed(str(folder), f"can't write to {folder}: {fault.strerror}") from None
     try:
         yield work
     finally:
-        shutil.rmtree(work, ignore_errors=True)
+        remove(work)
 
 
 # ---------------------------------------------------------------- runs that failed
@@ -217,7 +240,7 @@ def failures(path: Path) -> Tuple[int, Optional[str]]:
             text = path.with_name(path.name + end).read_text(errors="replace")
         except OSError:
             continue
-        match = COUNT.search(text)
+        match = re.search(COUNT, text)
         return (int(match[1]), match[2]) if match else (1, None)
     return 0, None
 

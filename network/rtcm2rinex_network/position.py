@@ -11,6 +11,7 @@ from typing import Optional, Sequence
 
 from .captures import Unread, pieces_of
 from .ends import DONE, Usage
+from .frames import AROUND, frame_at
 from .keeping import PIECE, write_all
 
 NUMBERS = (1005, 1006)
@@ -18,26 +19,12 @@ LEAST = 19  # bytes of a message 1005
 LONGEST = 3 + 1023 + 3  # bytes of a frame
 COORDINATES = (80, 40, 0)  # bits after x, y and z within the first 19 bytes
 COORDINATE = (1 << 38) - 1  # the bits of one
-POLYNOMIAL = 0x1864CFB  # CRC-24Q
 
 
-def crc24q(text: bytes) -> int:
-    """The checksum of a frame."""
-    remainder = 0
-    for byte in text:
-        remainder ^= byte << 16
-        for _ in range(8):
-            remainder <<= 1
-            if remainder & 0x1000000:
-                remainder ^= POLYNOMIAL
-    return remainder
-
-
-def frame_at(text: bytes, at: int) -> bytes:
+def position_at(text: bytes, at: int) -> bytes:
     """The whole frame that begins there, if its checksum is good and its position isn't zeros; else nothing."""
-    length = (text[at + 1] & 3) << 8 | text[at + 2]
-    frame = bytes(text[at:at + length + 6])
-    if length < LEAST or len(frame) < length + 6 or crc24q(frame[:-3]) != int.from_bytes(frame[-3:], "big"):
+    frame = frame_at(text, at)
+    if len(frame) < LEAST + AROUND:
         return b""
     bits = int.from_bytes(frame[3:3 + LEAST], "big")
     return frame if any(bits >> after & COORDINATE for after in COORDINATES) else b""
@@ -47,7 +34,7 @@ def newest(text: bytes, number: int, station: int) -> bytes:
     """The last frame with this message of the station, or nothing."""
     begin = re.escape((number << 12 | station).to_bytes(3, "big"))
     places = [it.start() for it in re.finditer(rb"(?s)(?=\xd3.." + begin + b")", text)]
-    return next(filter(None, (frame_at(text, at) for at in reversed(places))), b"")
+    return next(filter(None, (position_at(text, at) for at in reversed(places))), b"")
 
 
 def positions_in(text: bytes, station: int) -> bytes:

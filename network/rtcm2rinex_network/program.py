@@ -4,11 +4,9 @@ from __future__ import annotations
 
 import os
 import re
-import shutil
 import subprocess
-from dataclasses import dataclass
 from pathlib import Path
-from typing import Optional, Sequence
+from typing import NamedTuple, Optional, Sequence
 
 from .ends import Again, Ended, Refused
 from .settings import HERE, Settings
@@ -27,16 +25,27 @@ def find_program(settings: Settings) -> str:
         ran = subprocess.run([HERE / "../bin/program", "--there"], stdin=subprocess.DEVNULL, stdout=subprocess.PIPE, text=True, check=False)
         found = ran.stdout.strip() if ran.returncode == 0 else None
     elif os.access(HERE / "../../../bin/rtcm2rinex", os.X_OK):
-        found = str(HERE / "../../../bin/rtcm2rinex")
+        first = HERE / "../../../lib/rtcm2rinex/rtcm2rinex"
+        found = str(first if runs(first) else HERE / "../../../bin/rtcm2rinex")
     else:
+        import shutil  # here, because most runs do without it, and it would take a part of their time
+
         found = shutil.which("rtcm2rinex")
     if not found or not os.access(found, os.X_OK) or os.path.isdir(found):
         raise Refused("there is no program rtcm2rinex")
     return found
 
 
-@dataclass(frozen=True)
-class Ran:
+def runs(program: Path) -> bool:
+    """Whether the first program of a package runs here, so that none of its starts needs the script that looks for one that does."""
+    try:
+        return subprocess.run([program, "--version"], stdin=subprocess.DEVNULL, stdout=subprocess.DEVNULL, stderr=subprocess.DEVNULL,
+            check=False).returncode == 0
+    except OSError:
+        return False
+
+
+class Ran(NamedTuple):
     """A run that ended: its status as a shell tells it, and its two texts."""
 
     status: int

@@ -2,15 +2,15 @@
 
 from __future__ import annotations
 
-import gzip
 import re
 import zlib
-from contextlib import contextmanager
-from dataclasses import dataclass, field
+from collections import Counter
+from io import TextIOWrapper
 from itertools import islice
 from pathlib import Path
-from typing import Dict, Iterator, List, Optional, Set, TextIO, Tuple
+from typing import Dict, Iterator, List, NamedTuple, Optional, Set, Tuple
 
+from .captures import opened, pieces_of, sum_of_pieces
 from .ends import Again
 from .systems import GPS
 
@@ -18,6 +18,8 @@ MOST_HEADER_LINES = 60
 KEY = 29  # columns of an epoch's line up to the end of its seconds
 CELL, FIRST_CELL = 16, 3  # columns
 TYPES = 3  # of a code: range, phase and strength
+END_OF_HEADER = rb"(?m)^.{60}END OF HEADER.*\n"
+EPOCH = rb"\n>.{12}(..) (..)(.{11})"  # the hour, minute and second of its line, behind the end of the line before, which is found fast
 FIELDS = {  # by the options of `label`: the label of the line, and the columns
     "run-by": ("PGM / RUN BY / DATE", 20, 40),
     "marker-number": ("MARKER NUMBER", 0, 20),
@@ -34,7 +36,6 @@ FIELDS = {  # by the options of `label`: the label of the line, and the columns
 }
 
 
-@dataclass
 class Header:
     """What a header says.
 
@@ -43,11 +44,12 @@ class Header:
     `position` is in metres, and None if it is zeros. `made` is as `--made` takes it.
     """
 
-    marker: str = ""
-    made: str = ""
-    position: Optional[Tuple[float, ...]] = None
-    codes: Dict[str, List[str]] = field(default_factory=dict)
-    fields: Dict[str, str] = field(default_factory=dict)
+    def __init__(self) -> None:
+        self.marker = ""
+        self.made = ""
+        self.position: Optional[Tuple[float, ...]] = None
+        self.codes: Dict[str, List[str]] = {}
+        self.fields: Dict[str, str] = {}
 
     @property
     def all_codes(self) -> Tuple[str, ...]:
@@ -61,28 +63,36 @@ class Header:
         self.codes.setdefault(system, []).extend(names if system == GPS else [system + it for it in names])
 
 
-@contextmanager
-def open_text(path: Path) -> Iterator[TextIO]:
-    """Opens a file, which may be gzipped, and may be whole again at another try."""
+def lines_of(path: Path) -> Iterator[str]:
+    """The lines of a file, which may be gzipped, and may be whole again at another try."""
     try:
-        with gzip.open(path, "rt", encoding="latin-1") if path.suffix == ".gz" else open(path, encoding="latin-1") as file:
-            yield file
-    except (EOFError, zlib.error) as fault:
+        with TextIOWrapper(opened(path), encoding="latin-1") as file:
+            yield from file
+    except (EOFError, zlib.error, OSError) as fault:
+        if getattr(fault, "errno", None):
+            raise
         raise Again(f"can't read {path}: {fault}") from None
+
+
+def as_far(lines: Iterator[str]) -> Iterator[str]:
+    """The same, as far as they can be read."""
+    try:
+        yield from lines
+    except Again:
+        return
 
 
 def read_header(path: Path) -> Header:
     """The header of a file, as far as it can be read."""
     found = Header()
     lines: Dict[str, str] = {}
-    with open_text(path) as file:
-        for line in islice(file, MOST_HEADER_LINES):
-            label = line[60:].strip()
-            lines.setdefault(label, line[:60])
-            if label == "SYS / # / OBS TYPES":
-                found.put_codes(line)
-            if label == "END OF HEADER":
-                break
+    for line in as_far(islice(lines_of(path), MOST_HEADER_LINES)):
+        label = line[60:].strip()
+        lines.setdefault(label, line[:60])
+        if label == "SYS / # / OBS TYPES":
+            found.put_codes(line)
+        if label == "END OF HEADER":
+            break
     found.marker = lines.get("MARKER NAME", "").strip()
     if match := re.match(r".{40}(\d{4})(\d\d)(\d\d) (\d\d)(\d\d)(\d\d) UTC", lines.get("PGM / RUN BY / DATE", "")):
         found.made = "{}-{}-{}T{}:{}:{}".format(*match.groups())
@@ -98,11 +108,11 @@ def read_header(path: Path) -> Header:
 
 def records_of(path: Path) -> Iterator[str]:
     """The lines behind the header."""
-    with open_text(path) as file:
-        for line in file:
-            if line[60:73] == "END OF HEADER":
-                break
-        yield from file
+    lines = lines_of(path)
+    for line in lines:
+        if line[60:73] == "END OF HEADER":
+            break
+    yield from lines
 
 
 def epochs_of(path: Path) -> Iterator[Tuple[str, Dict[str, str]]]:
@@ -121,13 +131,13 @@ def epochs_of(path: Path) -> Iterator[Tuple[str, Dict[str, str]]]:
 
 
 def count_epochs(path: Path) -> int:
-    """How many epochs the records of a file have."""
-    return sum(line[0] == ">" for line in records_of(path))
+    """How many epochs the records of a file have, as far as they can be read."""
+    return sum(line[0] == ">" for line in as_far(records_of(path)))
 
 
 def count_values(path: Path) -> int:
-    """How many numbers the records of a file have, beside the seconds of their epochs."""
-    return sum(line.count(".") - (line[0] == ">") for line in records_of(path))
+    """How many numbers the records of a file have, beside the seconds of their epochs, as far as they can be read."""
+    return sum(line.count(".") - (line[0] == ">") for line in as_far(records_of(path)))
 
 
 def counts_of_systems(path: Path, systems: str) -> Tuple[int, int]:
@@ -156,23 +166,40 @@ def codes_with_values(path: Path) -> Set[str]:
     return set(header.all_codes) - left
 
 
-def most_frequent_step(path: Path) -> Optional[int]:
-    """The step from epoch to epoch in ms that is most frequent, the least of several alike; None of fewer than two epochs. All epochs
-    are of one day."""
-    counts: Dict[int, int] = {}
-    last = None
-    for line in records_of(path):
-        if line[0] == ">":
-            words = line.split()
-            ms = (int(words[4]) * 3600 + int(words[5]) * 60) * 1000 + round(float(words[6]) * 1000)
-            if last is not None:
-                counts[ms - last] = counts.get(ms - last, 0) + 1
-            last = ms
-    return min(counts, key=lambda step: (-counts[step], step)) if counts else None
+class Measure:
+    """What one reading of a new file tells: its size and sum, how many numbers its records have, beside the seconds of their epochs, and
+    the step from epoch to epoch in ms that is most frequent, the least of several alike; None of fewer than two epochs. All epochs are of
+    one day."""
+
+    def __init__(self, path: Path) -> None:
+        self.values, self.left, self.has_header = 0, b"", False
+        self.times: List[int] = []
+        self.sum = sum_of_pieces(self.seen(path))
+
+    def seen(self, path: Path) -> Iterator[bytes]:
+        """Looks at the whole lines of each piece, and passes the pieces on."""
+        for piece in pieces_of(path):
+            lines, end, self.left = (self.left + piece).rpartition(b"\n")
+            self.look_at(lines + end)
+            yield piece
+
+    def look_at(self, lines: bytes) -> None:
+        """Counts in lines, of which a header is in one piece."""
+        if not self.has_header:
+            header = re.search(END_OF_HEADER, lines)
+            lines, self.has_header = lines[header.end():] if header else b"", bool(header)
+        times = re.findall(EPOCH, b"\n" + lines)
+        self.values += lines.count(b".") - len(times)
+        self.times += [(int(hour) * 3600 + int(minute) * 60) * 1000 + round(float(second) * 1000) for hour, minute, second in times]
+
+    @property
+    def step(self) -> Optional[int]:
+        """The step that is most frequent."""
+        counts = Counter(now - last for last, now in zip(self.times, self.times[1:]))
+        return min(counts, key=lambda step: (-counts[step], step)) if counts else None
 
 
-@dataclass(frozen=True)
-class Cell:
+class Cell(NamedTuple):
     """What a line of a satellite has of a code: range, phase and strength as they stand, or nothing, and the loss-of-lock digit of the
     phase (LLI: bit 0 is a slip, bit 1 a half cycle)."""
 

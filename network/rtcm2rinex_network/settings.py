@@ -7,9 +7,8 @@ from __future__ import annotations
 
 import os
 import re
-from dataclasses import dataclass, replace
 from pathlib import Path
-from typing import Dict, Iterator, Mapping
+from typing import Dict, Iterator, Mapping, NamedTuple
 
 from .ends import Refused
 from .systems import DEFAULT_KIND, KINDS, NO_KINDS
@@ -33,8 +32,7 @@ FORMS = {  # of a setting: how it is written, and what it is else
 }
 
 
-@dataclass(frozen=True)
-class Settings:
+class Settings(NamedTuple):
     """What the settings say, by their names. FORCE is for one run, so a file of settings that has it forces nothing, here and on other
     machines."""
 
@@ -67,7 +65,7 @@ class Settings:
 
     def with_word(self, name: str, value: str) -> Settings:
         """The same settings but for one."""
-        return replace(self, words={**self.words, name: value})
+        return self._replace(words={**self.words, name: value})
 
     @property
     def msm(self) -> str:

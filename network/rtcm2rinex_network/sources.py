@@ -5,9 +5,8 @@ from __future__ import annotations
 import os
 import re
 import shutil
-from dataclasses import dataclass
 from pathlib import Path
-from typing import Dict, Iterator, List, Sequence, Set, Tuple
+from typing import Dict, Iterator, List, NamedTuple, Sequence, Set, Tuple
 from urllib.parse import urlsplit
 
 from .ends import Refused
@@ -18,8 +17,7 @@ from .table import Row, lines_of_table
 SERIAL = "serial://"
 
 
-@dataclass(frozen=True)
-class Source:
+class Source(NamedTuple):
     """A row of the table: the station, the link, and where the stream comes from; `columns` says how many columns it has."""
 
     number: int

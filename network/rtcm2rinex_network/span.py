@@ -5,14 +5,12 @@ from __future__ import annotations
 import fcntl
 import os
 import time
-from contextlib import contextmanager
-from dataclasses import dataclass
 from pathlib import Path
-from typing import Dict, Iterator, List, Optional, Sequence
+from typing import Dict, Iterator, List, NamedTuple, Optional, Sequence
 
 from .after import call_after, note_after
 from .before import Before, list_of
-from .captures import Capture, Sum, Unread, find_captures, has_grown, is_old, look_at, sum_of
+from .captures import Broken, Capture, Sum, Unread, find_captures, has_grown, is_old, look_at, sum_of, went
 from .ends import Again, Ended, NoCaptures, Refused, Stopped, Usage, say
 from .guards import (MadeBy, New, Old, captures_that_differ, faults_of, guard_captures, guard_compact, guard_words, may_be_fewer,
     old_files, without_bytes)
@@ -21,7 +19,8 @@ from .lists import Record
 from .making import Conversion, Job, check_every, convert, label_files
 from .names import Name
 from .places import adopt, compact_forms, dated, form_of, has_list, is_compact, names_before
-from .placing import NOTES, UNREAD, failures, give_to_owner, locked, make_folder, note_end, put, sync, work_folder, write_whole
+from .noting import drop_notes_of_span, noted
+from .placing import UNREAD, give_to_owner, is_other, locked, make_folder, put, sync, work_folder, write_whole
 from .program import Program, find_program
 from .settings import Settings
 from .summaries import Told, told_of
@@ -55,55 +54,22 @@ def job_of(settings: Settings, word: str, start: str, length: str) -> Job:
 def convert_span(settings: Settings, words: Sequence[str]) -> str:
     """Makes the file of a span, and answers what became of it: `done NAME` or `unchanged NAME`."""
     job = job_of(settings, *words)
-    captures = find_captures(job.row.directory, job.span)
-    record = list_of(job.folder, job.name)
-    if not is_listed(job) and not has_own(job, captures):
-        raise NoCaptures(f"no captures for {job.name}")
-    for path in (record, job.path, job.path.with_name(f"{job.name}.report")):
-        if path.exists() and not path.is_file():
-            raise Refused(f"{path} is no regular file, and is not replaced")
-    make_folder(job.folder)
-    with locked(record, *(list_of(job.folder, it) for it in names_before(job.folder, job.name))) as held, noted(job):
-        if not os.access(job.folder, os.W_OK):
-            raise Refused(f"can't write to {job.folder}: no permission")
-        held += adopt(job.row.directory / "rinex", job.folder, job.name)
-        run = Run(job, record, Before(job.folder, job.name, held))
-        told = run.made()
-        run.note_unread()
-        call_after(settings, [job.folder / name for name in run.now.made or run.before.made])
-        return told
-
-
-@contextmanager
-def noted(job: Job) -> Iterator[None]:
-    """Notes why a run failed beside the file. A run that succeeds removes the note."""
-    try:
-        yield
-    except NoCaptures:
-        raise
-    except Ended as end:
-        note_failure(job, end)
-        raise
-    except OSError as fault:
-        again = Again(f"{fault.filename or job.folder}: {fault.strerror}")
-        note_failure(job, again)
-        raise again from None
-    drop_notes_of_span(job)
-
-
-def note_failure(job: Job, end: Ended) -> None:
-    """Notes why a run failed, so that the span has notes under one name alone."""
-    note_end(job.path, end)
-    if failures(job.path)[0]:
-        drop_notes_of_span(job, str(job.name))
-
-
-def drop_notes_of_span(job: Job, but: Optional[str] = None) -> None:
-    """Removes the notes of the span, but for those of a name. Other names have the interval or the type of data that the row had when their
-    runs failed."""
-    for name in os.listdir(job.folder):
-        if name.startswith(job.name.begin) and name.endswith(NOTES) and name.rpartition(".")[0] != but:
-            (job.folder / name).unlink(missing_ok=True)
+    with noted(job):
+        if not is_listed(job) and not has_own(job, find_captures(job.row.directory, job.span)):
+            raise NoCaptures(f"no captures for {job.name}")
+        record = list_of(job.folder, job.name)
+        for path in (record, job.path, job.path.with_name(f"{job.name}.report")):
+            if is_other(path):
+                raise Refused(f"{path} is no regular file, and is not replaced")
+        make_folder(job.folder)
+        with locked(record, *(list_of(job.folder, it) for it in names_before(job.folder, job.name))) as held, noted(job):
+            held += adopt(job.row.directory / "rinex", job.folder, job.name)
+            run = Run(job, record, Before(job.folder, job.name, held))
+            told = run.made()
+            run.note_unread()
+            call_after(settings, [job.folder / name for name in run.now.made or run.before.made])
+            drop_notes_of_span(job)
+            return told
 
 
 def is_listed(job: Job) -> bool:
@@ -117,8 +83,7 @@ def has_own(job: Job, captures: Sequence[Capture]) -> bool:
     return any(capture.hour in job.span.own_hours for capture in captures)
 
 
-@dataclass
-class Found:
+class Found(NamedTuple):
     """The captures that are there and can be read, with their sums in the list of now; and what `stat` said of each file, and when."""
 
     captures: List[Capture]
@@ -150,18 +115,35 @@ class Run:
                 looked[f"rinex/{path.name}"] = it
         for capture in self.captures:
             it = look_at(capture.path)
-            if it is None:
+            if it is None and went(capture.path):
                 raise Again("captures go while they are read")
-            looked[capture.seen_name] = it
-            known = self.before.captures.get(capture.name)
             try:
-                is_seen = known and self.before.seen.get(capture.seen_name) == it
-                self.now.captures[capture.name] = known if known and is_seen else sum_of(capture.path)
-                readable.append(capture)
+                if found := self.sum_of_capture(capture, it):
+                    looked[capture.seen_name] = it or ""
+                    self.now.captures[capture.name] = found
+                    readable.append(capture)
             except Unread as fault:
                 self.now.unread.add(capture.name)
                 self.faults.append(str(fault))
         return Found(readable, looked, at)
+
+    def sum_of_capture(self, capture: Capture, looked: Optional[str]) -> Optional[Sum]:
+        """Size and sum of a capture, of which `stat` says this. None of a gzipped one that adds nothing to a plain one: it has the same bytes,
+        or none, or it is not whole, as while a capture is compressed."""
+        before = self.before.captures
+        known = before.get(capture.seen_name if capture.seen_name in before else capture.name)
+        if looked is None:
+            raise Unread(f"can't read {capture.path}: {'a link that leads nowhere' if capture.path.is_symlink() else 'no regular file'}")
+        if known and self.before.seen.get(capture.seen_name) == looked:
+            return known
+        try:
+            found = sum_of(capture.path)
+        except Broken:
+            if capture.is_second and not known:
+                return None
+            raise
+        is_more = found.size and found != self.now.captures.get(capture.first_name)
+        return found if is_more or not capture.is_second else None
 
     def is_as_made(self, name: str, due: Optional[Sum]) -> bool:
         """Whether a file is there with the bytes with which it was made."""
@@ -171,6 +153,8 @@ class Run:
             return False
         try:
             return is_compact(path) or self.before.seen.get(f"rinex/{path.name}") == looked or sum_of(path) == due
+        except Broken:
+            return False
         except Unread as fault:
             raise Again(str(fault)) from None
 
@@ -201,7 +185,7 @@ class Run:
         be made. A file that is there was not changed."""
         gone = [name for name in self.before.captures if name not in self.now.captures]
         is_known = all(self.before.captures.get(name) == it for name, it in self.now.captures.items())
-        is_kept = all(map(self.is_intact, self.there()))
+        is_kept = all(self.is_intact(it) for it in self.there() if it in self.before.made)
         return bool(gone) and is_known and not self.now.unread and set(gone) <= self.before.deleted and is_kept
 
     def there(self) -> List[str]:
@@ -337,7 +321,7 @@ class Run:
         note = self.job.path.with_name(f"{self.job.name}{UNREAD}")
         if self.faults:
             write_whole(note, "".join(f"{it}\n" for it in self.faults))
-        else:
+        elif note.exists():
             note.unlink(missing_ok=True)
 
     def put_in_place(self, work: Path) -> None:

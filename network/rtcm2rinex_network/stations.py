@@ -4,10 +4,12 @@ from __future__ import annotations
 
 import os
 import re
+import stat
 from dataclasses import dataclass, field
 from pathlib import Path
-from typing import Dict, FrozenSet, Iterator, List, Optional, Set, Tuple
+from typing import Dict, FrozenSet, Iterator, List, NamedTuple, Optional, Set, Tuple
 
+from .captures import is_capture
 from .ends import Ended
 from .lists import MADE, Record, list_of
 from .names import LINKS, Name, capture_name, hour_of_capture, read_name
@@ -25,21 +27,19 @@ UNUSED = 10 * DAY  # a length whose newest file is so much older than that of an
 OFTEN = 2  # runs of a file that failed, after which it is an alarm
 CAPTURE = re.compile(r"(?m)^(?:unread )?(link\d+/\d{11}\.rtcm)\b", re.ASCII)
 COUNTED = ("late", "conflict", "refused", "foreign")
-CLOCK = "clock"  # a line of a report for each system whose clock is wrong
-NAMED = ("other-channel", "no-channel", "no-message", CLOCK)  # lines of a report that name slots of GLONASS or systems
+CLOCK = "clock"  # a line of a report for each system whose clock is wrong, or in a capture
+NAMED = ("other-channel", "no-channel", "no-message", "unchecked", CLOCK)  # lines of a report that name slots of GLONASS or systems
 KINDS = ("capture", "file", "missing", "epochs", "unread", *COUNTED, "repeat", *NAMED, "position", "not-made", "table")
 
 
-@dataclass(frozen=True)
-class Alarm:
+class Alarm(NamedTuple):
     """What to look at, by one of the kinds, and in words."""
 
     kind: str
     text: str
 
 
-@dataclass(frozen=True)
-class Link:
+class Link(NamedTuple):
     """A link: the stamp of its newest capture, and the seconds since its last byte, if it has any."""
 
     number: int
@@ -47,8 +47,7 @@ class Link:
     age: Optional[float]
 
 
-@dataclass(frozen=True)
-class File:
+class File(NamedTuple):
     """A file that was made: its name, its epochs, whether it has a position, how many links it is of, the counts of its report, the slots
     or systems that lines of the report name, and the captures that could not be read."""
 
@@ -77,16 +76,14 @@ class Window:
     old: List[Span] = field(default_factory=list)
 
 
-@dataclass(frozen=True)
-class Listed:
+class Listed(NamedTuple):
     """What the list of a file says: how many epochs it has, and of which captures it was made, or was to be made."""
 
     epochs: int
     captures: FrozenSet[str]
 
 
-@dataclass(frozen=True)
-class Clock:
+class Clock(NamedTuple):
     """The time at which stations are looked at: UTC, and GPS time."""
 
     utc: float
@@ -118,8 +115,8 @@ class Station:
     # ------------------------------------------------------------ links
 
     def look_at_links(self, live: Set[int]) -> None:
-        """Looks at each link that has a folder, or a source."""
-        self.links = [self.link(it, it in live) for it in LINKS if it in live or (self.row.directory / f"link{it}").is_dir()]
+        """Looks at each link that has a folder, as one that is not mounted now, or a source."""
+        self.links = [self.link(it, it in live) for it in LINKS if it in live or os.path.lexists(self.row.directory / f"link{it}")]
         if not self.links:
             self.alarm("capture", "no link has a capture")
 
@@ -131,12 +128,16 @@ class Station:
         if not names:
             self.alarm("capture", f"link{number}: no capture")
             return Link(number, None, None)
-        hour = hour_of_capture(f"{folder.name}/{names[-1]}") or 0
-        age = max(0.0, self.clock.utc - (folder / names[-1]).stat().st_mtime, self.clock.gps - hour - HOUR)
+        last, written = next(((it, at) for it in reversed(names) if (at := time_of_write(folder / it)) is not None), ("", None))
+        if written is None:
+            self.alarm("capture", f"link{number}: no capture can be read")
+            return Link(number, None, None)
+        hour = hour_of_capture(f"{folder.name}/{last}") or 0
+        age = max(0.0, self.clock.utc - written, self.clock.gps - hour - HOUR)
         limit = self.settings.number("LIVE_AGE", 300) if is_live else self.settings.number("CAPTURE_AGE", 7200)
         if age > limit:
             self.alarm("capture", f"link{number}: the last byte came {age_of(age)} ago")
-        return Link(number, names[-1][:11], age)
+        return Link(number, last[:11], age)
 
     # ------------------------------------------------------------ files
 
@@ -162,6 +163,8 @@ class Station:
                 self.look_back(folder, length, spans, newest)
         if not self.files:
             self.alarm("file", "there is no file")
+        if folder.is_dir() and not folder.stat().st_mode & stat.S_IWUSR:
+            self.alarm("file", f"{folder} may not be written")
         self.look_at_unread(folder, texts)
         self.look_at_notes(folder, texts)
 
@@ -192,7 +195,7 @@ class Station:
         since = self.clock.gps - it.name.span.end
         if since > FILE_AGES[it.name.span.length]:
             yield "file", f"the newest file of {it.name.span.length} is {it.name}, which ended {age_of(since)} ago"
-        if it.epochs < it.name.epochs:
+        if not it.name.epochs <= it.epochs <= it.name.most_epochs:
             yield "epochs", f"{it.name}: {it.epochs} epochs of {it.name.epochs}"
         yield from self.faults_of_report(it)
 
@@ -261,7 +264,7 @@ class Station:
             for kind, text in self.faults_of_report(it) if it else []:
                 found.setdefault(kind, []).append(text)
         lacking = day.expected - day.epochs
-        if lacking and not (lacking == newest.name.epochs - newest.epochs and newest.name.span in lists):
+        if lacking > 0 and not (lacking == newest.name.epochs - newest.epochs and newest.name.span in lists):
             self.alarm("epochs", f"the last 24 h of {length} lack {lacking} epochs of {day.expected}: {day.made} of {day.due} files are made")
         for kind, texts in found.items():
             self.alarm(kind, f"{len(texts)} earlier files of the last 24 h, as {texts[0]}")
@@ -318,12 +321,23 @@ def captures_in(folder: Path) -> List[str]:
     """The names of the captures of a link, sorted."""
     if not folder.is_dir():
         return []
-    return sorted(it for it in os.listdir(folder) if re.fullmatch(r"\d{9}00\.rtcm(\.gz)?", it, re.ASCII))
+    return sorted(it for it in os.listdir(folder) if is_name_of_capture(f"{folder.name}/{it}"))
 
 
-def is_capture(path: Path) -> bool:
-    """Whether a capture is there, or was compressed."""
-    return path.is_file() or path.with_name(f"{path.name}.gz").is_file()
+def is_name_of_capture(name: str) -> bool:
+    """Whether a capture has this name, of a day that there is."""
+    try:
+        return hour_of_capture(name) is not None
+    except ValueError:
+        return False
+
+
+def time_of_write(path: Path) -> Optional[float]:
+    """When a file was written; None of one that went, or of a link that leads nowhere."""
+    try:
+        return os.stat(path).st_mtime
+    except OSError:
+        return None
 
 
 def links_of(record: Record) -> int:
@@ -332,8 +346,8 @@ def links_of(record: Record) -> int:
 
 
 def text_if_there(path: Path) -> str:
-    """The text of a file; none if it is not there."""
+    """The text of a file; none if it is not there, or a folder has its name."""
     try:
         return path.read_text(errors="replace")
-    except FileNotFoundError:
+    except (FileNotFoundError, IsADirectoryError):
         return ""

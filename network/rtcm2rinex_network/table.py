@@ -4,9 +4,8 @@ from __future__ import annotations
 
 import os
 import re
-from dataclasses import dataclass, replace
 from pathlib import Path
-from typing import Dict, Iterator, List, Optional, Tuple
+from typing import Dict, Iterator, List, NamedTuple, Optional, Tuple
 
 from .ends import Refused
 from .names import Name
@@ -20,8 +19,7 @@ NAME9 = r"[A-Z0-9]{4}[0-9]{2}[A-Z]{3}"
 FIRST, LAST = 0, 1 << 40  # the times of what has no date
 
 
-@dataclass(frozen=True)
-class Dates:
+class Dates(NamedTuple):
     """From when until when a row or a label holds: `begin` is in it, and `end` is not."""
 
     begin: int = FIRST
@@ -36,8 +34,7 @@ class Dates:
         return self.begin < other.end and other.begin < self.end
 
 
-@dataclass(frozen=True)
-class Row:
+class Row(NamedTuple):
     """A row of the table of stations, with the number of its line.
 
     `text` has its seven columns as the list of a file keeps them. `glonass` has its words channels=, which is auto by default if a code is
@@ -98,7 +95,7 @@ class Row:
         glonass = {name: channels if it == AUTO else it for name, it in self.glonass.items()}
         if GLONASS in left_out:
             glonass = {name: it for name, it in glonass.items() if name == "leap_seconds"}
-        return replace(self, codes=codes, glonass=glonass)
+        return self._replace(codes=codes, glonass=glonass)
 
     @property
     def has_1012(self) -> bool:

@@ -4,25 +4,41 @@ from __future__ import annotations
 
 import re
 import time
-from calendar import isleap, timegm
-from dataclasses import dataclass
-from typing import Optional
+from typing import NamedTuple, Optional
 
 from .settings import DAY, HOUR
 
 LENGTHS = {"15M": 900, "01H": HOUR, "01D": DAY}  # seconds
+MONTHS = (31, 28, 31, 30, 31, 30, 31, 31, 30, 31, 30, 31)  # days
+FIRST_YEAR = 1970
 UNITS = {"S": 1_000, "M": 60_000, "H": 3_600_000, "D": 86_400_000}  # ms
 RATES = {"Z": 1_000, "C": 10}  # ms: so many epochs stand in it
 
 
+def is_leap(year: int) -> bool:
+    """Whether a year has 366 days."""
+    return year % 4 == 0 and (year % 100 != 0 or year % 400 == 0)
+
+
+def days_before(year: int) -> int:
+    """The days from the first year up to the begin of a year. Modules of Python that know dates take a good part of a run to be read."""
+    last = year - 1
+    leaps = (it // 4 - it // 100 + it // 400 for it in (last, FIRST_YEAR - 1))
+    return (year - FIRST_YEAR) * 365 + next(leaps) - next(leaps)
+
+
 def time_of(text: str) -> Optional[int]:
     """The time of a text like 2024-05-17T12:00:00 or 2024-05-17; None if it is no such text."""
-    if not re.fullmatch(r"\d{4}-\d\d-\d\d(T\d\d:\d\d:\d\d)?", text, re.ASCII):
+    match = re.fullmatch(r"(\d{4})-(\d\d)-(\d\d)(?:T(\d\d):(\d\d):(\d\d))?", text, re.ASCII)
+    if not match:
         return None
-    try:
-        return timegm(time.strptime(text if "T" in text else text + "T00:00:00", "%Y-%m-%dT%H:%M:%S"))
-    except ValueError:
+    year, month, day, hour, minute, second = (int(it or 0) for it in match.groups())
+    if not (year and 1 <= month <= 12 and hour < 24 and minute < 60 and second < 60):
         return None
+    if not 1 <= day <= MONTHS[month - 1] + (month == 2 and is_leap(year)):
+        return None
+    days = days_before(year) + sum(MONTHS[:month - 1]) + (month > 2 and is_leap(year)) + day - 1
+    return days * DAY + hour * HOUR + minute * 60 + second
 
 
 def text_of(seconds: float) -> str:
@@ -38,9 +54,9 @@ def stamp_of(seconds: float) -> str:
 def time_of_stamp(stamp: str) -> int:
     """The time of a name. Raises a ValueError if there is no such day or hour."""
     year, day, hour, minute = (int(it) for it in (stamp[:4], stamp[4:7], stamp[7:9], stamp[9:]))
-    if not (1 <= day <= 365 + isleap(year) and hour < 24 and minute < 60):
+    if not (year and 1 <= day <= 365 + is_leap(year) and hour < 24 and minute < 60):
         raise ValueError(f"there is no time {stamp}")
-    return timegm((year, 1, 1, hour, minute, 0)) + (day - 1) * DAY
+    return (days_before(year) + day - 1) * DAY + hour * HOUR + minute * 60
 
 
 def ms_of(interval: str) -> Optional[int]:
@@ -70,8 +86,7 @@ def age_of(seconds: float) -> str:
     return f"{int(seconds)} s"
 
 
-@dataclass(frozen=True, order=True)
-class Span:
+class Span(NamedTuple):
     """A span: its begin, and its length as names have it."""
 
     begin: int

@@ -1,15 +1,17 @@
 -- Why captures have no plan.
-use Rattle.std.proofs.Common.{◌≡◌, ◌∙◌, ℕ, List, [], None, Result, IsErrAnd, IfErr, Option, sym, ap, subst}
+use Rattle.std.proofs.Common.{◌≡◌, ◌∙◌, ℕ, Bool, List, inr, [], None, Result, IsErrAnd, IfErr, Option, sym, ap, subst}
 use Rattle.std.proofs.lemmas.Result.{err_from_is_err_and}
 use Rattle.rtk_survey.specs.declared.survey.CaptureSurvey.{CaptureSurvey}
 use Rattle.rtk_captures.specs.CaptureCauses.{IfRefused}
-use Rattle.rtk_plan.specs.Causes.{FindsNoCode, IsSetupCause}
-use Rattle.rtk_plan.specs.Plan.{kinds_found, AreSystemsTaken, AreLeapSecondsOf, IsNear1012, codes_taken_from}
+use Rattle.rtk_plan.specs.Causes.{FindsNoCode, IsSetupCause, IsCaptureCause, IsCauseOf}
+use Rattle.rtk_captures.specs.Dating.{captures_of}
+use Rattle.rtk_captures.specs.declared.station_capture.StationCapture.{StationCapture}
+use Rattle.rtk_plan.specs.Plan.{IsChosenStation, kinds_found, AreSystemsTaken, AreLeapSecondsOf, IsNear1012, codes_taken_from}
 use Rattle.rtk_systems.specs.Values.{codes_in_captures}
 use Rattle.rtk_captures.specs.declared.refusal.PlanFault.{PlanFault}
 use Rattle.rtk_captures.specs.declared.refusal.PlanFault.TheVariants.{Refused, OutOfMemory}
 use Rattle.rtk_captures.specs.declared.refusal.Refusal.{Refusal}
-use Rattle.rtk_captures.specs.declared.refusal.Refusal.TheVariants.{NoCode}
+use Rattle.rtk_captures.specs.declared.refusal.Refusal.TheVariants.{NoFrame, NoObservation, NoStation, SeveralStations, NoCode}
 use Rattle.rtk_systems.specs.declared.system_flags.SystemFlags.{SystemFlags}
 use Rattle.rtk_systems.specs.declared.values.TakenMessages.{TakenMessages}
 use Rattle.rtk_plan.specs.declared.wanted.Wanted.{Wanted}
@@ -39,3 +41,17 @@ pub no-code-found : (ss : List CaptureSurvey) (links : List (List ℕ)) (w : Wan
 no-code-found ss links w station seconds near other taken same are dated refusal (is, none, found) =
     subst (λ (r : Refusal). IsSetupCause ss links w station near r) (sym is)
     (none, (seconds, are, (other, dated, subst (λ (m : TakenMessages). FindsNoCode ss m w station seconds near) same found)))
+
+chosen-by : (ss : List CaptureSurvey) (w : Wanted) (skip_empty as_given : Bool) (station : ℕ) → IsChosenStation ss w.station station
+    → (refusal : Refusal) → IsCaptureCause ss w skip_empty as_given station (captures_of ss station) refusal → IsCauseOf ss w skip_empty as_given refusal
+chosen-by ss w skip_empty as_given station chosen NoFrame cause = absurd cause.2
+chosen-by ss w skip_empty as_given station chosen NoObservation cause = inr (station, chosen, cause)
+chosen-by ss w skip_empty as_given station chosen (NoStation n) cause = absurd cause.2
+chosen-by ss w skip_empty as_given station chosen SeveralStations cause = absurd cause.2
+chosen-by ss w skip_empty as_given station chosen other cause = (station, chosen, cause)
+
+-- what keeps captures of the station that is converted from having a plan
+pub chosen-cause : (ss : List CaptureSurvey) (w : Wanted) (skip_empty as_given : Bool) (station : ℕ) (cs : List StationCapture) → IsChosenStation ss w.station station → cs ≡ captures_of ss station
+    → (refusal : Refusal) → IsCaptureCause ss w skip_empty as_given station cs refusal → IsCauseOf ss w skip_empty as_given refusal
+chosen-cause ss w skip_empty as_given station cs chosen are refusal cause =
+    chosen-by ss w skip_empty as_given station chosen refusal (subst (λ (xs : List StationCapture). IsCaptureCause ss w skip_empty as_given station xs refusal) are cause)

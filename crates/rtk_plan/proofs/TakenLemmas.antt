@@ -8,7 +8,7 @@ use Rattle.std.proofs.lemmas.List.{length-set, length-append, length-map}
 use Rattle.std.proofs.lemmas.List.Sums.{sum_by-cons, sum_by-append}
 use Rattle.rtk_captures.specs.Joining.{given_at, comes_before, put_in_order, in_order_after, in_order, link_place, ends_with, links_after, links_of}
 use Rattle.rtk_captures.specs.Kept.{is_heard, is_heard_at, places_from, kept_captures, empty_captures}
-use Rattle.rtk_plan.specs.KnownLines.{skipped_line, skipped_lines, epochs_lines, not_taken, lines_behind_late, late_count_line, known_lines}
+use Rattle.rtk_plan.specs.KnownLines.{leaves_long, skipped_line, skipped_lines, epochs_lines, not_taken, lines_behind_late, late_count_line, known_lines}
 use Rattle.rtk_survey.specs.Surveys.{places_of}
 use Rattle.rtk_captures.specs.Linking.{kept_in_order, captures_of_link, is_nonempty, joined_links, links_found, one_place, links_as_given, AreLinksOf}
 use Rattle.rtk_plan.specs.Laws.{times, own_places, times_taken, IsInText, EachIsTakenOnce, EachIsLeftOutOnce, LeftOutIsTold}
@@ -330,7 +330,7 @@ unfolding lines_behind_late known_lines
 left-out-told names ss plan known late by_stray place lasts some =
     let skipped : List ℕ = skipped_lines names plan.captures.items plan.skipped.items in
     let epochs : List ℕ = epochs_lines names plan.captures.items (places_of plan.links.items) in
-    let rest : List ℕ = not_taken ss plan.setup in
+    let rest : List ℕ = not_taken ss (leaves_long ss plan) plan.setup in
     let line = line-of (skipped_line names plan.captures.items) plan.skipped.items place some in
     let first = before-and-after [] skipped epochs (skipped_line names plan.captures.items place) line in
     let last = before-and-after [] (skipped ++ epochs) rest (skipped_line names plan.captures.items place) first in

@@ -30,9 +30,14 @@ unfoldable pub unread_gps : Accepted → List CaptureSurvey → List ℕ
 unread_gps taken ss = unread_lines_from (codes " not in the file: GPS ") taken ss 1001 3 ++ unread_lines_from (codes " not in the file: GPS ") taken ss 1071 3
 
 -- formula
+-- words, a count and an end; a count of 0 has no line
+abbrev pub counted_line : List ℕ → ℕ → List ℕ → List ℕ
+counted_line words count end = if count == 0 then [] else words ++ decimal count ++ end
+
+-- formula
 -- the 1012 of captures in which they can't be dated
 abbrev pub long_line : ℕ → List ℕ
-long_line count = if count == 0 then [] else codes " untaken GLONASS 1012 " ++ decimal count ++ codes ": more than a day\n"
+long_line count = counted_line (codes " untaken GLONASS 1012 ") count (codes ": more than a day\n")
 
 -- 1012, unless they are taken; they may be left out since they can't be dated
 abbrev pub line_of_1012 : Bool → Accepted → List CaptureSurvey → List ℕ

@@ -80,15 +80,27 @@ fn put_unread_gps(
     Ok(())
 }
 
-// Appends the line of so many 1012 that can't be dated.
-fn put_long(lines: &mut Vec<u8>, count: u64) -> Result<(), AllocError>
-    ensures { OnOk result (lines.new.items ≡ lines.old.items ++ spec.long_line count) }
+// Appends a line of words, a count and an end, if the count is not 0.
+fn put_counted(lines: &mut Vec<u8>, words: &[u8], count: u64, end: &[u8]) -> Result<(), AllocError>
+    ensures { OnOk result (lines.new.items ≡ lines.old.items ++ spec.counted_line words.now count end.now) }
 {
     if count == 0 {
         return Ok(());
     }
-    put_named(lines, b" untaken GLONASS 1012 ", count)?;
-    lines.extend_from_slice(b": more than a day\n")
+    put_named(lines, words, count)?;
+    lines.extend_from_slice(end)
+}
+
+// Appends the line of so many 1012 that can't be dated.
+fn put_long(lines: &mut Vec<u8>, count: u64) -> Result<(), AllocError>
+    ensures { OnOk result (lines.new.items ≡ lines.old.items ++ spec.long_line count) }
+{
+    put_counted(
+        lines,
+        b" untaken GLONASS 1012 ",
+        count,
+        b": more than a day\n",
+    )
 }
 
 // Appends the line of 1012, unless they are taken.

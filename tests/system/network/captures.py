@@ -23,7 +23,8 @@ that of its end. Kinds:
               C41@14000 has a clock that is 14,000 ms ahead
     1012      a 1012 of the slot 10 in each epoch, with a cell of 1C that was worked by hand: its channel is -5, its range
               33 * 599,584.916 m + 14,649,591 * 0.02 m, its phase the same in waves of 1,599.1875 MHz, and its strength 150 / 4 dB-Hz
-    chained   each message of an epoch but the last tells that another one follows, so that `summary` compares their clocks
+    unchained no message tells that another one of the epoch follows; else each but the last does, so that `summary` compares their clocks
+    part=N    of the clocks that are ahead only those of every N-th epoch are
     until=H   no MSM of other systems from the hour H of the day on
     alone     no messages of GPS
 
@@ -96,11 +97,12 @@ def of_other_system(word: str, seconds: int, station: int) -> Message:
     return message
 
 
-def others_of(kinds: set[str], seconds: int, station: int) -> list[Message]:
+def others_of(kinds: set[str], seconds: int, station: int, at: int) -> list[Message]:
     """The MSM of other systems in an epoch."""
-    ends = [int(it.partition("=")[2]) for it in kinds if it.startswith("until=")]
+    ends, parts = ([int(it.partition("=")[2]) for it in kinds if it.startswith(word)] for word in ("until=", "part="))
     words = [] if ends and seconds // 3600 % 24 >= ends[0] else sorted(it for it in kinds if re.fullmatch(OTHER, it))
-    return [of_other_system(it, seconds, station) for it in words]
+    is_ahead = not parts or at % parts[0] == 0
+    return [of_other_system(it if is_ahead else it.partition("@")[0], seconds, station) for it in words]
 
 
 def payload_of_1012(seconds: int, station: int) -> bytes:
@@ -114,9 +116,9 @@ def payload_of_1012(seconds: int, station: int) -> bytes:
     return bits.to_bytes()
 
 
-def chain(messages: list[Message]) -> None:
-    """Lets the messages of an epoch tell that another one of the epoch follows, but for the last."""
-    for it in messages[:-1]:
+def chain(messages: list[Message], goes_on: bool) -> None:
+    """Lets the messages of an epoch tell that another one of the epoch follows, but for the last, unless it goes on."""
+    for it in messages if goes_on else messages[:-1]:
         it.header["synchronous" if "synchronous" in it.header else "multiple_message"] = 1
 
 
@@ -155,9 +157,9 @@ def frames(begin: int, count: int, interval: int, kinds: set[str]) -> Iterator[t
                 cell["lock"] = 0
         messages = [] if "alone" in kinds else [older, newer]
         messages += [finer(newer, msm(tow, seen, number=1077))] if "1077" in kinds else []
-        others = others_of(kinds, seconds, station)
-        if "chained" in kinds:
-            chain([*messages, *others])
+        others = others_of(kinds, seconds, station, at)
+        if "unchained" not in kinds:
+            chain([*messages, *others], "1012" in kinds)
         first = [reference] if at % 20 == 0 else []
         legacy_others = [payload_of_1012(seconds, station)] if "1012" in kinds else []
         for payload in [*map(payload_of, [*first, *messages]), *map(payload_of_msm, others), *legacy_others]:

@@ -19,7 +19,7 @@ sys.path.insert(0, str(Path(__file__).resolve().parents[3] / "network"))
 from rtcm2rinex_network.comparison import Unlike, differences, lost_first_slips  # noqa: E402
 from rtcm2rinex_network.ends import Again, Refused  # noqa: E402
 from rtcm2rinex_network.program import Program, Ran  # noqa: E402
-from rtcm2rinex_network.rinex import codes_with_values, counts_of_systems, most_frequent_step, read_header  # noqa: E402
+from rtcm2rinex_network.rinex import Measure, codes_with_values, counts_of_systems, count_values, read_header  # noqa: E402
 from tally import tally  # noqa: E402
 
 TYPES = ["G    6 C1C L1C S1C C2W L2W S2W", "R    3 C2P L2P S2P", "E    6 C8X L8X S8X", "       C1C L1C S1C"]
@@ -140,9 +140,11 @@ def rows(folder: Path) -> Iterator[tuple[str, object, object]]:
     path = broken(folder)
     yield "a broken file", slips(path, file_of(folder, "new", {0: [NONE]}))[:len(f"can't read {path}")], f"can't read {path}"
     for seconds, step in STEPS:
-        yield f"the step of {seconds}", most_frequent_step(file_of(folder, "steps", {it: [NONE] for it in seconds})), step
+        yield f"the step of {seconds}", Measure(file_of(folder, "steps", {it: [NONE] for it in seconds})).step, step
     for epochs, codes, *counts in KEPT:
         path = file_of(folder, "kept", dict(enumerate(epochs)))
+        values = sum(it for _, it in counts[:2])
+        yield f"the values of {epochs}", (Measure(path).values, count_values(path)), (values, values)
         yield f"the codes of {epochs}", " ".join(sorted(codes_with_values(path))), codes
         yield f"the counts of {epochs}", [counts_of_systems(path, it) for it in ("G", "RE", "E")], counts
     yield "the codes of a header", read_header(path).all_codes, ("1C", "2W", "R2P", "E8X", "E1C")

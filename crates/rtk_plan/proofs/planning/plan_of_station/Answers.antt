@@ -64,18 +64,23 @@ returns-clause-in_reach c =
 
 -- leap seconds are those of the setup, else those at the first moment
 pub returns-clause-leap_seconds : goal.returns-clause-leap_seconds
-returns-clause-leap_seconds c =
-    (c.in_ok-dating.dating.near, c.in_ok-dating.ensures.near,
-    subst (λ (o : Option ℕ). AreSecondsChosen o c.in_ok-dating.dating.near c.seconds_chosen.result) (sym c.in_ok-setup.ensures.seconds) c.seconds_chosen.ensures.said)
+returns-clause-leap_seconds c = (
+  c.in_ok-dating.dating.near,
+  c.in_ok-dating.ensures.near,
+  subst (λ (o : Option ℕ). AreSecondsChosen o c.in_ok-dating.dating.near c.seconds_chosen.result) (sym c.in_ok-setup.ensures.seconds) c.seconds_chosen.ensures.said,
+)
 
 pub returns-clause-has_near_1012 : goal.returns-clause-has_near_1012
 returns-clause-has_near_1012 c =
     let ss = c.args.captured.now.all.surveys.now in
     let given = c.args.wanted.now.near in
     let station = c.args.captured.now.station in
-    let first = c.in_ok-dating.dating.near in
-    (first,
-    subst (λ (cs : List StationCapture). IsNearOf given cs first) c.requires.captures c.in_ok-dating.ensures.near,
-    (c.near_of_1012-other.result,
-    subst (λ (o : Option ℕ). IsNear1012 ss given station o first c.near_of_1012-other.result) (sym c.in_ok-setup.ensures.seconds) c.near_of_1012-other.ensures.near,
-    c.is_some.ensures))
+    let first = c.in_ok-dating.dating.near in (
+      first,
+      subst (λ (cs : List StationCapture). IsNearOf given cs first) c.requires.captures c.in_ok-dating.ensures.near,
+      (
+        c.near_of_1012-other.result,
+        subst (λ (o : Option ℕ). IsNear1012 ss given station o first c.near_of_1012-other.result) (sym c.in_ok-setup.ensures.seconds) c.near_of_1012-other.ensures.near,
+        c.is_some.ensures,
+      ),
+    )

@@ -26,7 +26,7 @@ returns-in_err-codes-clause-refused c =
     let same : taken ≡ codes_taken_from (kinds_found w.msm ss links c.args.station) other =
     ap (λ (b : Bool). taken_kinds kinds b) c.is_some-with_1012.ensures ∙ ap (λ (ks : SystemKinds). codes_taken_from ks other) c.kinds_to_convert-kinds.ensures in
     exit-also (λ (r : Refusal). (r ≡ NoCode) × (w.codes ≡ None) × FindsNoCode ss taken w c.args.station seconds c.args.near) (IsSetupCause ss links w c.args.station c.args.near)
-    c.in_err-codes.field-0.0 c.from_residual-in_err-codes.result c.from_residual-in_err-codes.ensures.1
+    c.in_err-codes.field-0.0 c.from_residual.result c.from_residual.ensures.1
     (no-code-found ss links w c.args.station seconds c.args.near other taken same c.requires.seconds c.requires.other) c.in_err-codes.ensures.refused
 
 -- the setup is of parts that are named or found

@@ -25,13 +25,13 @@ returns c =
       listed_are = ap (λ (s : SetupView). s.head.listed) is ∙ ap (λ (h : MixedHeadView). h.listed) head;
       marker_is =
           ap (λ (s : SetupView). s.head.marker) is ∙ ap (λ (h : MixedHeadView). h.marker) head ∙ c.marker_of.ensures
-          ∙ ap (λ (n : ℕ). marker_chosen w.marker n) c.number.ensures.value;
+          ∙ ap (λ (n : ℕ). marker_chosen w.marker n) c.number-number.ensures.value;
       made_is = ap (λ (s : SetupView). s.head.made) is ∙ ap (λ (h : MixedHeadView). h.made) head;
       window_is = ap (λ (s : SetupView). s.window) is;
       glonass_is =
           subst (λ (g : Option GlonassView). IsGlonassFound ss c.args.station taken listed w.channels seconds c.args.near g) (sym glonass)
-          (subst (λ (n : ℕ). IsGlonassFound ss n taken listed w.channels seconds c.args.near c.glonass_found-glonass.result) c.number.ensures.value
-          (subst (λ (n : ℕ). IsGlonassFound ss c.number.result taken listed w.channels seconds n c.glonass_found-glonass.result) c.moment.ensures.value c.glonass_found-glonass.ensures.found));
+          (subst (λ (n : ℕ). IsGlonassFound ss n taken listed w.channels seconds c.args.near c.glonass_found-glonass.result) c.number-number.ensures.value
+          (subst (λ (n : ℕ). IsGlonassFound ss c.number-number.result taken listed w.channels seconds n c.glonass_found-glonass.result) c.moment-moment.ensures.value c.glonass_found-glonass.ensures.found));
       seconds_are = ap (λ (s : SetupView). s.leap_seconds) is;
       takes_is = ap (λ (s : SetupView). s.takes_1012) is;
     }
