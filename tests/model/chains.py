@@ -7,7 +7,7 @@ from collections import Counter
 from typing import Iterable, NamedTuple, Optional
 
 import stages
-from clocks import glonass_moment, leap_seconds_at, moment_of
+from clocks import DAY_MS, glonass_moment, leap_seconds_at
 from model import dated
 from msm import letter_of
 from systems import BEIDOU, BY_LETTER, GLONASS
@@ -15,6 +15,7 @@ from wire import WEEK_MS, BitReader, Message
 
 MOST_CLOCKS = 32  # so many clocks of a chain are compared
 MOST_OFFSETS = 8  # so many offsets of a system are counted
+MOST_OF_DAYS = 16  # and of GLONASS so many that differ, or are of days of UTC that differ
 HALF_SECOND_MS = 500
 
 # The systems whose clocks others are compared with, in their order, and those of which a summary has a line.
@@ -27,7 +28,7 @@ WEEKS = {1042: (511, 13), 1045: (496, 12), 1046: (504, 12)}
 
 class Date(NamedTuple):
     """What clocks of GLONASS are dated by: a moment within half a week of them, and leap seconds if some are given. Where none are
-    given, they are those of the message's own moment, or if `own` is false of that moment alone."""
+    given, they are those of the day that the message tells, or if `own` is false of that moment alone."""
 
     near: int
     leap: Optional[int] = None
@@ -56,29 +57,46 @@ def _ahead(message: Message, base: int, date: Date | None) -> int | None:
     if date is None:
         return None
     moment = dated(date.near, base)
-    if date.leap is None and not date.own:
-        time = glonass_moment(clock, moment, leap_seconds_at(date.near))
-    else:
-        time = moment_of(GLONASS, clock, moment, date.leap)
-    return (time - moment) % WEEK_MS
+    leap = date.leap
+    if leap is None:
+        leap = leap_seconds_at(_noon_of(clock, moment, date.near) if date.own else date.near)
+    return (glonass_moment(clock, moment, leap) - moment) % WEEK_MS
+
+
+def _noon_of(clock: int, moment: int, near: int) -> int:
+    """Noon of the day of UTC that a clock of GLONASS tells, the one that lies nearest to a moment."""
+    day = glonass_moment(clock, moment, 0) % WEEK_MS // DAY_MS
+    return dated(near, DAY_MS * day + DAY_MS // 2)
 
 
 Offsets = dict[str, "Counter[int]"]  # by letters of systems; each is modulo a week
 
 
+def _kept_as(message: Message, base: int, date: Date | None) -> tuple[int, int]:
+    """By what a clock is kept: by how much it is ahead, that of GLONASS in UTC, and by the day of UTC."""
+    if letter_of(message) != GLONASS.letter or date is None:
+        return (_ahead(message, base, date) or 0, 0)
+    ahead = (glonass_moment(message.header["tow"], dated(date.near, base), 0) - base) % WEEK_MS
+    return (ahead, (base + ahead) % WEEK_MS // DAY_MS if date.own else 0)
+
+
 def offsets_of(messages: Iterable[Message], date: Date | None = None) -> Offsets:
     """How often the clock of each system is ahead by each offset."""
     offsets: Offsets = {letter: Counter() for letter in BY_LETTER}
+    kept: dict[str, set[tuple[int, int]]] = {letter: set() for letter in BY_LETTER}
     for chain in chains_of(messages):
         at = min(range(len(chain)), key=lambda at: (f"{TIMING}CR".index(letter_of(chain[at]) or ""), at))
         base = chain.pop(at)
         if letter_of(base) not in TIMING:
             continue
         for message in chain:
-            counted = offsets[letter_of(message) or ""]
-            ahead = _ahead(message, base.header["tow"], date)
-            if ahead is not None and (ahead in counted or len(counted) < MOST_OFFSETS):
-                counted[ahead] += 1
+            letter, tow = letter_of(message) or "", base.header["tow"]
+            ahead = _ahead(message, tow, date)
+            most = MOST_OF_DAYS if letter == GLONASS.letter and date is not None and date.own else MOST_OFFSETS
+            if len(kept[letter]) < most:
+                kept[letter].add(_kept_as(message, tow, date))
+            if ahead is not None and _kept_as(message, tow, date) in kept[letter]:
+                offsets[letter][ahead] += 1
     return offsets
 
 

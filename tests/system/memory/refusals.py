@@ -17,7 +17,8 @@ LIBRARY = "./refuse.so"
 OUT_OF_MEMORY = b"rtcm2rinex: out of memory\n"
 COUNTS = 9  # the lines at the end of a report
 NEWLINE = b"\n"
-STACK = 128  # kB, as docs/MANUAL.md says
+TESTS = Path(__file__).resolve().parents[2]
+STACK, STACK_OF_CHART = 128, 160  # kB, as docs/MANUAL.md says
 # kB of address space: from twice what the program and the C library take, some 3,000, to twice what the file `long` of 10 MB needs.
 SPACES = range(6_000, 40_000, 2_000)
 
@@ -198,12 +199,13 @@ class Sweep:
 # refuses: a search for a place that calls itself, or a body that takes much of the stack for what few messages need
 def fits_stack(program: Program, scene: Scene) -> bool:
     """Prints whether the run on a small stack is the run without that limit."""
+    stack = STACK_OF_CHART if "chart" in scene.words else STACK
     whole = program.run(scene.words, scene.given, "0")
-    ran = program.run(scene.words, scene.given, "0", f"-s {STACK}")
+    ran = program.run(scene.words, scene.given, "0", f"-s {stack}")
     if ran == whole:
-        print(f"ok on a stack of {STACK} kB: {name_of(scene.words)}")
+        print(f"ok on a stack of {stack} kB: {name_of(scene.words)}")
     else:
-        print(f"FAILED on a stack of {STACK} kB: {name_of(scene.words)}: status {ran.status}")
+        print(f"FAILED on a stack of {stack} kB: {name_of(scene.words)}: status {ran.status}")
     return ran == whole
 
 
@@ -274,6 +276,8 @@ def scenes() -> Iterator[Scene]:
     for words in ("--help", "help convert", "--version", f"show {base}", f"summary {base}", "summary many"):
         yield Scene(words.split())
     for words in ("check examples/base.rnx", "chart examples/marks.rnx", "chart --text examples/marks.rnx"):
+        yield Scene(words.split())
+    for words in ("chart --text mixed", "chart --text --systems EC mixed", "quality mixed"):
         yield Scene(words.split())
     for words in ("quality examples/marks.rnx", "quality --lines examples/marks.rnx", "quality --json examples/marks.rnx"):
         yield Scene(words.split())
@@ -354,6 +358,7 @@ def main() -> None:
     program = Program(path, folder)
     os.symlink(examples, "examples")
     Path("wrong").write_bytes(Path("examples/base.rnx").read_bytes().replace(b"45.000", b"45.100"))
+    Path("mixed").write_bytes((TESTS / "program/mixed.rnx").read_bytes())
     Path("split").write_bytes(split_epochs())
     Path("many").write_bytes(single_satellite(4100))
     Path("rare").write_bytes(rare_messages())
