@@ -45,7 +45,7 @@ picture-of : (chart : Chart) (text first last bytes : List ℕ) (f : FileTable) 
     → DrawsTable chart f w l Written bytes → last ≡ first ++ bytes
     → (t : WellFormedTable) × IsWellFormedTable t × IsWithLabel text (OfGps t) × ((picture : List ℕ) × IsPicture chart.width chart.choice (table_text t) picture × (last ≡ first ++ picture))
 picture-of chart text first last bytes (OfGps t) w l good is for e drawn same = elim drawn [
-  | inl some ↦ (t, good, (w, l, is, for, e), (bytes, some.2, same))
+  | inl some ↦ (t, good.0, (w, l, is, for, e), (bytes, some.2, same))
   | inr none ↦ absurd (not-none none.0)
 ]
 picture-of chart text first last bytes (OfSystems t) w l good is for e none same = absurd (not-other none.0)
