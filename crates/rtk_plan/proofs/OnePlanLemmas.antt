@@ -123,7 +123,7 @@ setup_with station near marker listed glonass made window kinds leap_seconds tak
     record {
       station = station;
       near = near;
-      head = record { marker = marker; listed = listed; glonass = glonass; made = made };
+      head = record { marker = marker; listed = listed; glonass = glonass; made = made; doppler = false };
       window = window;
       kinds = kinds;
       leap_seconds = leap_seconds;

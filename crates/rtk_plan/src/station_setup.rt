@@ -217,7 +217,7 @@ fn head_of(
 ) -> MixedHead
     requires good { IsMixedList codes.now }
     requires due { TellsGlonass codes.now glonass }
-    ensures { result ≡ record { marker = marker; listed = codes.now; glonass = glonass; made = made } }
+    ensures { result ≡ record { marker = marker; listed = codes.now; glonass = glonass; made = made; doppler = false } }
 {
     let Ok(head) = MixedHead::new(marker, codes, glonass, made) else {
         unreachable!();
