@@ -1,5 +1,5 @@
 -- The head of a file by the words of `convert`.
-use Rattle.std.proofs.Common.{◌≡◌, ℕ, ℤ, List, Option, Some, inl, refl, sym, subst}
+use Rattle.std.proofs.Common.{◌≡◌, ℕ, ℤ, List, Option, Some, inl, refl, sym, subst, false}
 use Rattle.std.specs.Borrow.{Bor}
 use Rattle.rtk_obs.specs.declared.any_code.AnyCode.{AnyCode}
 use Rattle.rtk_rinex.specs.MixedHead.{GlonassView, MixedHeadView, IsMixedList, TellsGlonass, IsMixedHeadFault}
@@ -27,7 +27,7 @@ glonass-cause o own listed same good _ is = absurd is
 
 -- a head of these parts
 pub head-is : (o : ConvertOptions) (marker : List ℕ) (own listed : List AnyCode) (made near : ℕ) (g : Option GlonassView) (h : MixedHeadView)
-    → h ≡ record { marker = marker; listed = listed; glonass = g; made = made } → listed ≡ in_file_order own → IsMixedList listed → SaysGlonass o listed near g
+    → h ≡ record { marker = marker; listed = listed; glonass = g; made = made; doppler = false } → listed ≡ in_file_order own → IsMixedList listed → SaysGlonass o listed near g
     → IsHeadOf o marker own made near h
 head-is o marker own listed made near g h is same good says =
     subst (λ (v : MixedHeadView). IsHeadOf o marker own made near v) (sym is) (record { marker = refl; listed = same; good = good; glonass = says; made = refl })
