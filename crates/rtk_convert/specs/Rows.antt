@@ -68,8 +68,8 @@ abbrev pub shift_or_none : ℤ → Option ℤ
 shift_or_none shift = if int_eq shift (pos 0) then None else Some shift
 
 -- the values of a cell with its Doppler shift and its digits: its phase has 1500 cycles added for each roll
-abbrev pub observed_of : Cell → ℤ → Digits → Observed
-observed_of c shift d =
+abbrev pub observed_by : Cell → ℤ → Digits → Observed
+observed_by c shift d =
     record {
       range_mm = c.range_mm;
       phase_millicycles = rolled_or_none c.phase_millicycles d.rolls;
@@ -80,7 +80,7 @@ observed_of c shift d =
     }
 
 abbrev pub observed_with : SignalEntry → Digits → Observed
-observed_with e d = observed_of e.cell e.doppler_millihertz d
+observed_with e d = observed_by e.cell e.doppler_millihertz d
 
 -- what the cell of a code shows at an epoch, after the last phase
 abbrev pub observed_after : Option Track → AnyCode → ℕ → Option SignalEntry → Option Observed

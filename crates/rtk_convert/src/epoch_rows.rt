@@ -22,7 +22,7 @@ ghost use Rattle.rtk_rinex.specs.MixedHeader.{codes_of};
 ghost use Rattle.rtk_rinex.specs.declared.epoch_table.Observed.{Observed};
 ghost use Rattle.rtk_convert.specs.Epochs.{set_of};
 ghost use Rattle.rtk_convert.specs.LastPhases.{HasLastPhases, track_at};
-ghost use Rattle.rtk_convert.specs.Rows.{rolled_or_none, shift_or_none, observed_of, or_nothing, table_of};
+ghost use Rattle.rtk_convert.specs.Rows.{rolled_or_none, shift_or_none, observed_by, or_nothing, table_of};
 ghost use Rattle.rtk_convert.specs.Steps.RowLines.{Keeps};
 ghost use Rattle.rtk_convert.specs.Steps.ShownCells.{AllBelow, MayStep, IsPlaceOf, IsLeastAt, HasCellsFrom, TellsSatellite, IsSetOfCodes, AreCellsTo, AreCodesBefore, AreCodesFrom, AreCodesTo, AreRowCodes, ShowsRow, ShowsSome, StepsOver, TakesCells, ArePlaces, HasFreeOf, IsFreeOf, with_place};
 
@@ -59,7 +59,7 @@ fn shift_or_none(shift: i32) -> Option<i64>
 
 // Returns what the file shows of a cell with this Doppler shift and these digits.
 fn observed(cell: &Cell, shift: i32, digits: Digits) -> Observed
-    ensures { result ≡ observed_of cell.now shift digits }
+    ensures { result ≡ observed_by cell.now shift digits }
 {
     Observed {
         range_mm: cell.range_mm,

@@ -57,8 +57,8 @@ impl Model for Setup {
         × AreSameChannels s.channels (channels_of s.head.glonass) };
 }
 
-// Returns whether some of the codes is of a system.
-fn lists_system(listed: &[AnyCode], system: System) -> bool
+/// Returns whether some of the codes is of a system.
+pub(crate) fn lists_system(listed: &[AnyCode], system: System) -> bool
     ensures { result ≡ lists_system listed.now system }
 {
     for code in listed {

@@ -340,7 +340,7 @@ fn put_doppler_of(
     taken: Accepted,
     msm: MsmKind,
 ) -> Result<(), AllocError>
-    ensures { OnOk result (lines.new.items ≡ lines.old.items ++ spec.doppler_of taken surveys.now station msm) }
+    ensures { OnOk result (lines.new.items ≡ lines.old.items ++ spec.doppler_of_kind taken surveys.now station msm) }
 {
     let count = messages_in_captures(surveys, station, msm);
     put_doppler_numbered(lines, taken, msm.number(), count)?;

@@ -5,7 +5,7 @@ use Rattle.rtk_obs.specs.Rollover.{digits_since}
 use Rattle.rtk_obs.specs.Slip.{epoch_cell}
 use Rattle.rtk_rinex.specs.declared.epoch_table.Observed.{Observed}
 use Rattle.rtk_convert.specs.LastPhases.{track_at}
-use Rattle.rtk_convert.specs.Rows.{rolling_frequency, observed_of, observed_with}
+use Rattle.rtk_convert.specs.Rows.{rolling_frequency, observed_by, observed_with}
 use Rattle.rtk_convert.specs.Steps.ShownCells.{IsFreeOf, with_place}
 use Rattle.rtk_convert.proofs.epoch_rows.show_entry.Goals as goal
 
@@ -17,7 +17,7 @@ returns g c =
     let cell = c.cell.ensures ∙ c.cells_are_signals.ensures.values c.args.entry.now in
     let shift = c.doppler.ensures ∙ c.cells_are_signals.ensures.shifts c.args.entry.now in
     let shown : c.observed-shown.result ≡ observed_with e (digits_since (rolling_frequency e.code) last (epoch_cell c.args.form.now.epoch e.cell)) =
-    c.observed-shown.ensures ∙ ap (λ (x : Cell). observed_of x c.doppler.result c.step-digits.result) cell ∙ ap (λ (d : ℤ). observed_of e.cell d c.step-digits.result) shift
+    c.observed-shown.ensures ∙ ap (λ (x : Cell). observed_by x c.doppler.result c.step-digits.result) cell ∙ ap (λ (d : ℤ). observed_by e.cell d c.step-digits.result) shift
     ∙ ap (observed_with e) c.step-digits.ensures.digits in
     record {
       track = c.step-digits.ensures.same;
