@@ -97,11 +97,10 @@ ten_types true n len e some = omega (arith, e, some)
 first_apart : (a b c d e x : List ℕ) → ((((a ++ b) ++ c) ++ d) ++ e) ++ x ≡ a ++ ((((b ++ c) ++ d) ++ e) ++ x)
 first_apart a b c d e x = simp append_assoc
 
-group_flag : (doppler : Bool) (s : ℕ) (cs : List AnyCode) (next : List ℕ) → s ≢ 10 → IsGroup s cs → HasFlag doppler (system_types_lines doppler s cs ++ next)
-group_flag doppler s [] next plain group = absurd (omega (arith, group.count))
-group_flag doppler s (c ∷ cs) next plain group =
+pub lines_flag : (doppler : Bool) (s : ℕ) (cs : List AnyCode) (next : List ℕ) → s ≢ 10 → 1 ≤ length cs → length cs ≤ 16 → HasFlag doppler (system_types_lines doppler s cs ++ next)
+lines_flag doppler s [] next plain some few = absurd (omega (arith, some))
+lines_flag doppler s (c ∷ cs) next plain some few =
     let n = length (c ∷ cs) in
-    let few : n ≤ 16 = group.count.1 in
     let first : List ℕ = first_of doppler s n in
     let text : List ℕ = types_text doppler (c ∷ cs) in
     let six = length-first doppler s n few in
@@ -111,7 +110,7 @@ group_flag doppler s (c ∷ cs) next plain group =
     let e : List ℕ = continuation_line (drop 156 text) in
     let f : List ℕ = continuation_line (drop 208 text) in
     let long : length row ≡ 80 = length-piece_line first types_label text 0 six (omega arith) in
-    let enough : 52 * 0 + (9 + 1) ≤ length text = ten_types doppler n (length text) (length-types_text doppler (c ∷ cs)) group.count.0 in
+    let enough : 52 * 0 + (9 + 1) ≤ length text = ten_types doppler n (length text) (length-types_text doppler (c ∷ cs)) some in
     let shown : take 1 (drop (6 + 9) (ended row)) ≡ take 1 (drop (52 * 0 + 9) text) = piece_at (ended row) first types_label text 0 9 1 six refl (omega arith) enough in
     let char : get_or row 15 0 ≡ get_or text 9 0 =
     sym (get_or-append row (10 ∷ []) 0 15 (omega (arith, long))) ∙ sym (one_char 15 (ended row)) ∙ ap (λ (t : List ℕ). get_or t 0 0) shown ∙ one_char 9 text in
@@ -123,6 +122,9 @@ group_flag doppler s (c ∷ cs) next plain group =
       flag = ap (λ (x : ℕ). x == 68) char ∙ third_type doppler c (types_text doppler cs);
       is = first_apart (header_line (first ++ take 52 text) types_label) b d e f next ∙ ap (λ (t : List ℕ). t ++ ((((b ++ d) ++ e) ++ f) ++ next)) (first_line first text);
     }
+
+group_flag : (doppler : Bool) (s : ℕ) (cs : List AnyCode) (next : List ℕ) → s ≢ 10 → IsGroup s cs → HasFlag doppler (system_types_lines doppler s cs ++ next)
+group_flag doppler s cs next plain group = lines_flag doppler s cs next plain group.count.0 group.count.1
 
 -- ---- all systems
 

@@ -94,7 +94,7 @@ gps_version cs ds some e =
 only_first : (a b c d e f g : List ℕ) → b ≡ [] → c ≡ [] → d ≡ [] → e ≡ [] → f ≡ [] → g ≡ [] → a ++ (b ++ (c ++ (d ++ (e ++ (f ++ (g ++ [])))))) ≡ a
 only_first a b c d e f g p q r s t u = rw (p, q, r, s, t, u) (append-nil a)
 
-by_gps : (lines : ℕ → List AnyCode → List ℕ) (cs : List AnyCode) (ds : List Code) → ((l : ℕ) → lines l [] ≡ []) → AreGps cs ds → by_system lines cs ≡ lines 71 cs
+pub by_gps : (lines : ℕ → List AnyCode → List ℕ) (cs : List AnyCode) (ds : List Code) → ((l : ℕ) → lines l [] ≡ []) → AreGps cs ds → by_system lines cs ≡ lines 71 cs
 by_gps lines cs ds empty e =
     let none : (l : ℕ) → l ≢ 71 → lines l (codes_of l cs) ≡ [] = λ l h. ap (lines l) (gps_none l cs ds h e) ∙ empty l in
     only_first (lines 71 (codes_of 71 cs)) (lines 82 (codes_of 82 cs)) (lines 69 (codes_of 69 cs)) (lines 67 (codes_of 67 cs)) (lines 74 (codes_of 74 cs)) (lines 83 (codes_of 83 cs)) (lines 73 (codes_of 73 cs))

@@ -151,7 +151,6 @@ no_rows : (lines : List (List ℕ)) → text_of lines ≡ [] → lines ≡ []
 no_rows [] e = refl
 no_rows (l ∷ lines) e = absurd (let size = ap length e in omega (arith, size, length-append (ended l) (text_of lines), length-append l (10 ∷ [])))
 
-
 -- ---- no line has an end
 
 of_three : (c : AnyCode) → HasNoEnd (three_types c)

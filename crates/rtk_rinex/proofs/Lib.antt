@@ -61,6 +61,7 @@ mod SystemOrderLemmas
 mod SystemsReadLemmas
 mod FlagLemmas
 mod ShiftTypeLemmas
+mod GpsShiftLemmas
 mod SlotsLinesLemmas
 mod MixedPartsLemmas
 mod GlonassReadLemmas

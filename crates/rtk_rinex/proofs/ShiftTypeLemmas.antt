@@ -3,11 +3,11 @@ use Rattle.std.proofs.Common.{◌≡◌, ◌==◌, ◌+◌, ◌≤◌, ℕ, List
 use Rattle.std.specs.Prelude.{flat_map}
 use Rattle.rtk_obs.specs.Reading.{reading_of}
 use Rattle.rtk_rinex.specs.Columns.{fixed}
-use Rattle.rtk_rinex.specs.Header.{PositionView, IsPositionView, header_line, made_text, made_line, marker_line, place_line, height_line, position_lines, unit_line, first_line}
-use Rattle.rtk_rinex.specs.MixedHead.{MixedHeadView, IsMixedHead}
+use Rattle.rtk_rinex.specs.Header.{IsMarker, PositionView, IsPositionView, header_line, made_text, made_line, marker_line, place_line, height_line, position_lines, unit_line, first_line}
+use Rattle.rtk_rinex.specs.MixedHead.{MixedHeadView}
 use Rattle.rtk_rinex.specs.MixedHeader.{version_letter, mixed_version_line, unknown_lines, by_system, system_types_lines, phase_shift_line, glonass_lines, mixed_header_text}
 use Rattle.rtk_rinex.specs.MixedRecord.{mixed_record_text}
-use Rattle.rtk_rinex.specs.MixedTable.{MixedTable, mixed_table_text, has_shift_type, TypesTellShifts}
+use Rattle.rtk_rinex.specs.MixedTable.{has_shift_type, TypesTellShifts}
 use Rattle.rtk_rinex.specs.Steps.MixedHeaderRead.{types_and_unit}
 use Rattle.rtk_rinex.proofs.FlagLemmas.{HasFlag, flag_after, types_flag}
 use Rattle.rtk_rinex.proofs.HeaderShownLemmas.{length-fixed, IsCoordinate-height}
@@ -52,7 +52,7 @@ length-made h =
 nine_lines : MixedHeadView → PositionView → List ℕ
 nine_lines h s = (((mixed_version_line (version_letter h.listed) ++ made_line (reading_of h.made)) ++ marker_line h.marker) ++ unknown_lines) ++ position_lines s
 
-length-nine : (h : MixedHeadView) (s : PositionView) → IsMixedHead h → IsPositionView s → length (nine_lines h s) ≡ 729
+length-nine : (h : MixedHeadView) (s : PositionView) → IsMarker h.marker → IsPositionView s → length (nine_lines h s) ≡ 729
 unfolding nine_lines
 length-nine h s good site =
     let v : List ℕ = mixed_version_line (version_letter h.listed) in
@@ -61,34 +61,53 @@ length-nine h s good site =
     let a : length v ≡ 81 =
     length-header_line (codes "     3.05           OBSERVATION DATA    " ++ version_letter h.listed ∷ []) (codes "RINEX VERSION / TYPE") (omega arith) (omega arith) in
     let b : length m ≡ 81 = length-made h in
-    let c : length k ≡ 81 = length-header_line h.marker (codes "MARKER NAME") (omega (arith, good.marker.0)) (omega arith) in
-    omega (arith, a, b, c, length-unknown, length-place s site, length-height s site, length-append (((v ++ m) ++ k) ++ unknown_lines) (position_lines s), length-append ((v ++ m) ++ k) unknown_lines,
-    length-append (v ++ m) k, length-append v m, length-append (place_line s) (height_line s.height))
+    let c : length k ≡ 81 = length-header_line h.marker (codes "MARKER NAME") (omega (arith, good.0)) (omega arith) in
+    omega (
+      arith,
+      a,
+      b,
+      c,
+      length-unknown,
+      length-place s site,
+      length-height s site,
+      length-append (((v ++ m) ++ k) ++ unknown_lines) (position_lines s),
+      length-append ((v ++ m) ++ k) unknown_lines,
+      length-append (v ++ m) k,
+      length-append v m,
+      length-append (place_line s) (height_line s.height),
+    )
 
 -- ---- the tenth
 
 glue_types : (n t u f s g z r : List ℕ) → ((((((n ++ t) ++ u) ++ f) ++ s) ++ g) ++ z) ++ r ≡ n ++ ((t ++ u) ++ (f ++ (s ++ (g ++ (z ++ r)))))
 glue_types n t u f s g z r = simp append_assoc
 
--- what stands after the types
-after_types : MixedTable → List ℕ
-after_types t =
-    first_line (reading_of t.first) ++ (by_system phase_shift_line t.head.listed ++ (glonass_lines t.head.glonass ++ (header_line [] (codes "END OF HEADER") ++ flat_map (mixed_record_text t.head.doppler) t.epochs)))
+-- what stands after the types, in a header with this text behind it
+after_types : MixedHeadView → ℕ → List ℕ → List ℕ
+after_types h first r =
+    first_line (reading_of first) ++ (by_system phase_shift_line h.listed ++ (glonass_lines h.glonass ++ (header_line [] (codes "END OF HEADER") ++ r)))
 
-types_at : (t : MixedTable) → mixed_table_text t ≡ nine_lines t.head t.site ++ (types_and_unit t.head.doppler t.head.listed ++ after_types t)
+types_at : (h : MixedHeadView) (s : PositionView) (first : ℕ) (r : List ℕ) → mixed_header_text h s first ++ r ≡ nine_lines h s ++ (types_and_unit h.doppler h.listed ++ after_types h first r)
 unfolding mixed_header_text nine_lines after_types
-types_at t =
-    glue_types ((((mixed_version_line (version_letter t.head.listed) ++ made_line (reading_of t.head.made)) ++ marker_line t.head.marker) ++ unknown_lines) ++ position_lines t.site)
-    (by_system (system_types_lines t.head.doppler) t.head.listed) unit_line (first_line (reading_of t.first)) (by_system phase_shift_line t.head.listed) (glonass_lines t.head.glonass)
-    (header_line [] (codes "END OF HEADER")) (flat_map (mixed_record_text t.head.doppler) t.epochs)
+types_at h s first r =
+    glue_types ((((mixed_version_line (version_letter h.listed) ++ made_line (reading_of h.made)) ++ marker_line h.marker) ++ unknown_lines) ++ position_lines s)
+    (by_system (system_types_lines h.doppler) h.listed) unit_line (first_line (reading_of first)) (by_system phase_shift_line h.listed) (glonass_lines h.glonass)
+    (header_line [] (codes "END OF HEADER")) r
+
+-- a header, and whatever stands behind it
+pub header-tells : (h : MixedHeadView) (s : PositionView) (first : ℕ) (r : List ℕ) → IsMarker h.marker → IsPositionView s → HasFlag h.doppler (types_and_unit h.doppler h.listed)
+    → has_shift_type (mixed_header_text h s first ++ r) ≡ h.doppler
+header-tells h s first r marker site flag =
+    let front : List ℕ = nine_lines h s in
+    let types : List ℕ = types_and_unit h.doppler h.listed in
+    let rest : List ℕ = after_types h first r in
+    ap has_shift_type (types_at h s first r)
+    ∙ ap (λ (n : ℕ). get_or (front ++ (types ++ rest)) (n + 15) 0 == 68) (sym (length-nine h s marker site))
+    ∙ ap (λ (x : ℕ). x == 68) (get_or-append-add front (types ++ rest) 15 0)
+    ∙ flag_after h.doppler types rest flag
 
 pub types-tell : HaveOnePlace → TypesTellShifts
 types-tell place t good =
     let h : MixedHeadView = t.head in
-    let front : List ℕ = nine_lines h t.site in
-    let types : List ℕ = types_and_unit h.doppler h.listed in
-    let flag : HasFlag h.doppler types = types_flag h.doppler (version_letter h.listed) h.listed place (record { list = good.head.listed; letter = refl }) in
-    ap has_shift_type (types_at t)
-    ∙ ap (λ (n : ℕ). get_or (front ++ (types ++ after_types t)) (n + 15) 0 == 68) (sym (length-nine h t.site good.head good.site))
-    ∙ ap (λ (x : ℕ). x == 68) (get_or-append-add front (types ++ after_types t) 15 0)
-    ∙ flag_after h.doppler types (after_types t) flag
+    header-tells h t.site t.first (flat_map (mixed_record_text h.doppler) t.epochs) good.head.marker good.site
+    (types_flag h.doppler (version_letter h.listed) h.listed place (record { list = good.head.listed; letter = refl }))

@@ -7,7 +7,7 @@ use Rattle.rtk_obs.specs.SatelliteIndex.{IsSatelliteIndex, system_at, bit_at, le
 use Rattle.rtk_obs.specs.Reading.{IsMoment}
 use Rattle.rtk_rinex.specs.Header.{PositionView, IsPositionView}
 use Rattle.rtk_rinex.specs.Record.{EpochTableView, IsStrengthOrNone, is_present, has_line_in}
-use Rattle.rtk_rinex.specs.Table.{IsObservedIn, StartsAt, shown_epoch_in}
+use Rattle.rtk_rinex.specs.Table.{IsObservedIn, StartsAt, shown_epoch_in, WellFormedTable, IsWellFormedTable, table_text}
 use Rattle.rtk_rinex.specs.MixedHead.{MixedHeadView, IsMixedHead}
 use Rattle.rtk_rinex.specs.MixedHeader.{codes_of, mixed_header_text}
 use Rattle.rtk_rinex.specs.MixedRecord.{mixed_record_text}
@@ -69,6 +69,10 @@ has_shift_type text = get_or text 744 0 == 68
 -- so a text tells whether the file has Doppler shifts
 abbrev pub TypesTellShifts : Type 0
 TypesTellShifts = (t : MixedTable) → IsMixedTable t → has_shift_type (mixed_table_text t) ≡ t.head.doppler
+
+-- and a file of GPS has no such type
+abbrev pub GpsShowsNoShifts : Type 0
+GpsShowsNoShifts = (t : WellFormedTable) → IsWellFormedTable t → has_shift_type (table_text t) ≡ false
 
 -- ---- the file of a head and of epochs
 

@@ -21,7 +21,11 @@ pub(crate) fn code_columns(doppler: bool) -> usize
     ensures value { result ≡ code_width doppler }
     ensures few { result ≤ 64 }
 {
-    if doppler { DOPPLER_COLUMNS } else { CODE_COLUMNS }
+    if doppler {
+        DOPPLER_COLUMNS
+    } else {
+        CODE_COLUMNS
+    }
 }
 
 /// The bytes of an epoch line, its LF included.

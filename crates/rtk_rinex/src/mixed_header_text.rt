@@ -84,8 +84,8 @@ fn four_types(code: AnyCode) -> [u8; 16]
 {
     let [band, attribute] = code.name();
     [
-        b' ', b'C', band, attribute, b' ', b'L', band, attribute, b' ', b'D', band, attribute, b' ',
-        b'S', band, attribute,
+        b' ', b'C', band, attribute, b' ', b'L', band, attribute, b' ', b'D', band, attribute,
+        b' ', b'S', band, attribute,
     ]
 }
 

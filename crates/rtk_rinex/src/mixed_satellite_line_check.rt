@@ -83,10 +83,5 @@ pub(crate) fn is_mixed_row_line(line: &[u8], form: &RecordForm, satellite: Satel
     }
     let codes = form.width(satellite);
     let phases = form.has_phases(satellite);
-    are_mixed_cells(
-        &line[3..line.len() - 1],
-        codes,
-        form.has_doppler(),
-        phases,
-    )
+    are_mixed_cells(&line[3..line.len() - 1], codes, form.has_doppler(), phases)
 }
