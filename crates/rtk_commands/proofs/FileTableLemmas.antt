@@ -1,17 +1,17 @@
--- What is said of a text by its files; the letter in the first line of one of any systems.
-use Rattle.std.proofs.Common.{◌≡◌, inl, inr, true, false, true≢false, ℕ, List, [], ◌∷◌, ◌++◌, length, codes, ap, sym, refl, ◌∙◌, append_assoc, drop, subst}
+-- What is said of a text by its files; the letter in the first line of each, and which texts are read as those of GPS.
+use Rattle.std.proofs.Common.{◌≡◌, ◌==◌, ◌&&◌, not, inl, inr, Bool, true, false, true≢false, ℕ, List, [], ◌∷◌, ◌++◌, length, codes, ap, sym, refl, ◌∙◌, append_assoc, drop, subst}
 use Rattle.std.specs.Prelude.{flat_map, All, Option, None, IfSome}
 use Rattle.std.proofs.lemmas.List.{append-nil}
 use Rattle.std.proofs.lemmas.List.Elements.{All-head, All-tail, All-weaker}
 use Rattle.rtk_rinex.specs.Columns.{left}
-use Rattle.rtk_rinex.specs.Header.{header_line, made_line, marker_line, position_lines, unit_line, first_line}
+use Rattle.rtk_rinex.specs.Header.{header_line, version_line, made_line, marker_line, position_lines, types_lines, last_lines, unit_line, first_line, header_text}
 use Rattle.rtk_rinex.specs.MixedHeader.{version_letter, mixed_version_line, unknown_lines, by_system, system_types_lines, phase_shift_line, glonass_lines, mixed_header_text}
 use Rattle.rtk_obs.specs.Reading.{IsMoment, reading_of}
-use Rattle.rtk_rinex.specs.Record.{EpochTableView}
+use Rattle.rtk_rinex.specs.Record.{EpochTableView, record_text}
 use Rattle.rtk_rinex.specs.MixedRecord.{mixed_record_text}
 use Rattle.rtk_rinex.specs.MixedForm.{form_of_head}
 use Rattle.rtk_rinex.specs.Table.{WellFormedTable, IsWellFormedTable, IsTableEpoch, table_text}
-use Rattle.rtk_rinex.specs.MixedTable.{MixedTable, IsMixedTable, IsMixedEpoch, mixed_table_text}
+use Rattle.rtk_rinex.specs.MixedTable.{MixedTable, IsMixedTable, IsMixedEpoch, mixed_table_text, has_shift_type, GpsShowsNoShifts}
 use Rattle.rtk_rinex.specs.CheckText.{satellite_lines}
 use Rattle.rtk_rinex.specs.CheckTable.{TableView, HoldsTable, IsWithoutTable, OneTable, OneFault}
 use Rattle.rtk_rinex.specs.MixedCheckTable.{HoldsMixedTable, IsWithoutMixedTable, MixedOneTable, MixedOneFault}
@@ -26,7 +26,7 @@ use Rattle.rtk_label.specs.LabelLaws.{BlankIsFile, FrontIsChanged, MixedLabelLaw
 use Rattle.rtk_label.specs.LabelWriting.{IsParted}
 use Rattle.rtk_label.specs.declared.time_lines.TimeLines.{TimeLines}
 use Rattle.rtk_commands.specs.CutInput.{part_of_file}
-use Rattle.rtk_commands.specs.FileTable.{FileTable, OfGps, OfSystems, IsFileTable, file_text, file_site, file_front, file_epochs, file_lines, file_with_lines, labelled_file, letter_in, is_gps_text, IsTextOfSomeFile, HoldsFile, IsTextOfNoFile, IsFaultOfFile, text_of, HasItsLetter}
+use Rattle.rtk_commands.specs.FileTable.{FileTable, OfGps, OfSystems, IsFileTable, file_text, file_site, file_front, file_epochs, file_lines, file_with_lines, labelled_file, letter_in, is_gps_text, GpsTablesAreFiles, IsTextOfSomeFile, HoldsFile, IsTextOfNoFile, IsFaultOfFile, text_of, HasItsLetter}
 use Rattle.rtk_commands.specs.WithLabel.{IsPartedTable}
 use Rattle.rtk_commands.specs.declared.any_table.AnyTable.{AnyTable}
 use Rattle.rtk_commands.specs.declared.any_table.AnyTable.TheVariants.{Gps, Mixed}
@@ -36,6 +36,25 @@ use Rattle.rtk_commands.specs.declared.any_table.AnyTable.TheVariants.{Gps, Mixe
 letter-of_line : (letter : ℕ) (rest : List ℕ) → letter_in (mixed_version_line letter ++ rest) ≡ letter
 unfolding header_line left
 letter-of_line letter rest = refl
+
+glue-gps : (v m k a b c d p t l r : List ℕ) → (((((((((v ++ m) ++ k) ++ a) ++ b) ++ c) ++ d) ++ p) ++ t) ++ l) ++ r
+    ≡ v ++ (m ++ (k ++ (a ++ (b ++ (c ++ (d ++ (p ++ (t ++ (l ++ r)))))))))
+glue-gps v m k a b c d p t l r = simp append_assoc
+
+gps-letter : (t : WellFormedTable) → letter_in (table_text t) ≡ 71
+unfolding header_text
+gps-letter t =
+    let made = reading_of t.head.made in
+    ap letter_in (glue-gps version_line (made_line made) (marker_line t.head.marker) (header_line (codes "GEODETIC") (codes "MARKER TYPE")) (header_line [] (codes "OBSERVER / AGENCY"))
+    (header_line [] (codes "REC # / TYPE / VERS")) (header_line [] (codes "ANT # / TYPE")) (position_lines t.site) (types_lines t.head.listed) (last_lines (reading_of t.first)) (flat_map record_text t.epochs))
+    ∙ letter-of_line 71 _
+
+-- the text of a table of GPS has this letter, and no type of a Doppler shift
+pub gps-tables : GpsShowsNoShifts → GpsTablesAreFiles
+gps-tables none t good = (
+  good,
+  ap (λ (x : ℕ). (x == 71) && not (has_shift_type (table_text t))) (gps-letter t) ∙ ap (λ (b : Bool). not b) (none t good),
+)
 
 glue-mixed : (v m k u p t s f h g e r : List ℕ) → ((((((((((v ++ m) ++ k) ++ u) ++ p) ++ t) ++ s) ++ f) ++ h) ++ g) ++ e) ++ r
     ≡ v ++ (m ++ (k ++ (u ++ (p ++ (t ++ (s ++ (f ++ (h ++ (g ++ (e ++ r))))))))))

@@ -338,14 +338,14 @@ gps-file header records u good is plain gps =
     All-weaker (IsMixedEpoch (form_of_head u.head)) (IsTableEpoch (length u.head.listed)) (λ e is. gps-epoch u.head e plain all is) u.epochs good.epochs in
     let of_gps : IsOfGps h u.head = record { marker = refl; listed = texts-of u.head.listed all; glonass = no-glonass u.head.listed u.head.glonass all good.head.glonass; made = refl; doppler = plain } in
     let table : IsWellFormedTable t =
-      record {
-        head = is_head;
-        site = good.site;
-        first = good.first;
-        starts = good.starts;
-        epochs = subst (λ (n : ℕ). All (IsTableEpoch n) u.epochs) (sym size) epochs;
-        rise = good.rise;
-      } in
+    record {
+      head = is_head;
+      site = good.site;
+      first = good.first;
+      starts = good.starts;
+      epochs = subst (λ (n : ℕ). All (IsTableEpoch n) u.epochs) (sym size) epochs;
+      rise = good.rise;
+    } in
     let same : mixed_table_text u ≡ table_text t =
     ap (λ (top : List ℕ). top ++ flat_map (mixed_record_text u.head.doppler) u.epochs) (header h u.head u.site u.first of_gps is_head)
     ∙ ap (λ (d : Bool). header_text h u.site u.first ++ flat_map (mixed_record_text d) u.epochs) plain

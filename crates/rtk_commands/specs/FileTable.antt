@@ -37,6 +37,10 @@ abbrev pub IsFileTable : FileTable → Type 0
 IsFileTable (OfGps t) = IsWellFormedTable t × (is_gps_text (table_text t) ≡ true)
 IsFileTable (OfSystems t) = IsMixedTable t × (is_gps_text (mixed_table_text t) ≡ false)
 
+-- each well-formed table of GPS is a file, since its text is read as what it is
+abbrev pub GpsTablesAreFiles : Type 0
+GpsTablesAreFiles = (t : WellFormedTable) → IsWellFormedTable t → IsFileTable (OfGps t)
+
 abbrev pub file_text : FileTable → List ℕ
 file_text (OfGps t) = table_text t
 file_text (OfSystems t) = mixed_table_text t
