@@ -176,6 +176,19 @@ impl MixedHead {
         }
     }
 
+    /// Returns the head of a file that shows Doppler shifts or not, and is as this one else.
+    pub fn with_doppler_if(self, is_shown: bool) -> MixedHead
+        ensures { result ≡ record { marker = self.marker; listed = self.listed; glonass = self.glonass; made = self.made; doppler = is_shown } }
+    {
+        MixedHead {
+            marker: self.marker,
+            listed: self.listed,
+            glonass: self.glonass,
+            made: self.made,
+            doppler: is_shown,
+        }
+    }
+
     /// Returns whether the file shows Doppler shifts.
     pub fn has_doppler(&self) -> bool
         ensures { result ≡ self.now.doppler }

@@ -34,3 +34,8 @@ first_without_rates ks listed =
     (lacking_or ks listed Glonass
     (lacking_or ks listed Galileo
     (lacking_or ks listed Beidou (lacking_or ks listed Qzss (lacking_or ks listed Sbas (lacking_or ks listed Navic None))))))
+
+-- the same, if Doppler shifts are asked for (true); so a file can show what is asked for if there is no such system
+abbrev pub without_rates : Bool → SystemKinds → List AnyCode → Option System
+without_rates false ks listed = None
+without_rates true ks listed = first_without_rates ks listed

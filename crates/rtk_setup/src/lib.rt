@@ -35,7 +35,7 @@ mod window;
 pub use counts::Counts;
 pub use leap_seconds::LeapSeconds;
 pub use links::MOST_LINKS;
-pub use rates::first_without_rates;
+pub use rates::without_rates;
 pub use reference::Reference;
 pub use setup::Setup;
 pub use setup_fault::SetupFault;

@@ -1,7 +1,7 @@
 //! The listed systems whose MSM tell no range rates. A file has Doppler shifts of range rates alone.
 
 ghost use Rattle.std.specs.Prelude.{◌≡◌};
-ghost use Rattle.rtk_setup.specs.Rates.{has_rates, lacks_rates, lacking_or, first_without_rates};
+ghost use Rattle.rtk_setup.specs.Rates.{has_rates, lacks_rates, lacking_or, first_without_rates, without_rates};
 
 use crate::setup::lists_system;
 use crate::system_kinds::SystemKinds;
@@ -41,9 +41,9 @@ fn lacking_or(
     }
 }
 
-/// Returns the first system, in the order of a file, of which some code is listed and whose MSM of these kinds has no
-/// range rates. A file with Doppler shifts would have none of this system.
-pub fn first_without_rates(kinds: SystemKinds, listed: &[AnyCode]) -> Option<System>
+// Returns the first system, in the order of a file, of which some code is listed and whose MSM of these kinds has no
+// range rates.
+fn first_without_rates(kinds: SystemKinds, listed: &[AnyCode]) -> Option<System>
     ensures { result ≡ first_without_rates kinds listed.now }
 {
     let navic = lacking_or(kinds, listed, System::Navic, None);
@@ -53,4 +53,16 @@ pub fn first_without_rates(kinds: SystemKinds, listed: &[AnyCode]) -> Option<Sys
     let galileo = lacking_or(kinds, listed, System::Galileo, beidou);
     let glonass = lacking_or(kinds, listed, System::Glonass, galileo);
     lacking_or(kinds, listed, System::Gps, glonass)
+}
+
+/// Returns the first system, in the order of a file, of which a file has no Doppler shifts though they are asked for: some
+/// code of it is listed, and its MSM of these kinds has no range rates. `None` if Doppler shifts are not asked for.
+pub fn without_rates(is_asked: bool, kinds: SystemKinds, listed: &[AnyCode]) -> Option<System>
+    ensures { result ≡ without_rates is_asked kinds listed.now }
+{
+    if is_asked {
+        first_without_rates(kinds, listed)
+    } else {
+        None
+    }
 }
