@@ -101,6 +101,11 @@ unfoldable pub doppler_line : Accepted → List CaptureSurvey → ℕ → List �
 doppler_line taken ss station = doppler_of_kind taken ss station Msm5 ++ doppler_of_kind taken ss station Msm7
 
 -- formula
+-- the same, unless the file shows Doppler shifts
+abbrev pub doppler_line_unless : Bool → Accepted → List CaptureSurvey → ℕ → List ℕ
+doppler_line_unless is_shown taken ss station = if is_shown then [] else doppler_line taken ss station
+
+-- formula
 -- the 1004 of a station, unless they are taken
 abbrev pub obs_1004_line : Bool → List CaptureSurvey → ℕ → List ℕ
 obs_1004_line is_taken ss station = if is_taken then [] else count_line_of (codes " not in the file: GPS ") 1004 (obs_1004_in_captures ss station)

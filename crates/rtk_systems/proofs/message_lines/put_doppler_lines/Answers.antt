@@ -2,7 +2,7 @@ use Rattle.std.proofs.Common.{ℕ, List, ◌++◌, ap, ◌∙◌, append_assoc}
 use Rattle.rtk_message.specs.declared.msm_kind.MsmKind.{MsmKind}
 use Rattle.rtk_message.specs.declared.msm_kind.MsmKind.TheVariants.{Msm5, Msm7}
 use Rattle.rtk_systems.specs.MessageLines.{doppler_of_kind, doppler_line}
-use Rattle.rtk_systems.proofs.message_lines.put_doppler.Goals as goal
+use Rattle.rtk_systems.proofs.message_lines.put_doppler_lines.Goals as goal
 
 pub returns : goal.returns
 unfolding doppler_line
