@@ -104,7 +104,8 @@ pub(crate) fn auto_words<'a>(
     ensures systems { IfOk result (λ words. SaysFlags options.now.systems words.wanted.systems) }
     ensures channels { IfOk result (λ words. SaysChannelsOrNone options.now.channels words.wanted.channels) }
     ensures leap_seconds { IfOk result (λ words. words.wanted.leap_seconds ≡ options.now.leap_seconds) }
-    ensures values { IfOk result (λ words. (words.wanted.station ≡ options.now.station) × (words.wanted.msm ≡ options.now.msm)) }
+    ensures values { IfOk result (λ words. (words.wanted.station ≡ options.now.station) × (words.wanted.msm ≡ options.now.msm)
+        × (words.wanted.doppler ≡ options.now.doppler)) }
     ensures near { IfOk result (λ words. SaysMomentOrNone options.now.near words.wanted.near) }
     ensures marker { IfOk result (λ words. SaysMarkerOrNone options.now.marker words.wanted.marker) }
     ensures made { IfOk result (λ words. SaysMomentOrNone options.now.made words.made) }
@@ -131,6 +132,7 @@ pub(crate) fn auto_words<'a>(
         near: reference,
         marker,
         window: options.window.unwrap_or(greatest_window()),
+        doppler: options.doppler,
     };
     Ok(AutoWords {
         wanted,

@@ -1,9 +1,10 @@
 //! The words of `convert`: what its options and links say.
 
-ghost use Rattle.std.specs.Prelude.{map, ◌≡◌, ◌≤◌, IfOk, IfErr, Decides};
+ghost use Rattle.std.specs.Prelude.{map, ◌≡◌, ◌≤◌, None, IfOk, IfErr, Decides};
 ghost use Rattle.rtk_rinex.specs.MixedHead.{has_glonass, IsGlonassView, TellsGlonass};
+ghost use Rattle.rtk_setup.specs.Rates.{without_rates};
 ghost use Rattle.rtk_cli.specs.FaultLines.{IsRefusal};
-ghost use Rattle.rtk_cli.specs.Steps.ConvertWords.{SaysConversion, RefusesConversion, IsLeapSecondsOf, SaysGlonass, IsHeadOf, IsGlonassCause, IsHeadCause, with_given, with_1012_if};
+ghost use Rattle.rtk_cli.specs.Steps.ConvertWords.{SaysConversion, RefusesConversion, IsLeapSecondsOf, SaysGlonass, IsHeadOf, IsGlonassCause, IsShiftsCause, IsHeadCause, with_given, with_1012_if};
 ghost use Rattle.rtk_cli.specs.Words.{AreLinkNames, IsWithinLimits};
 
 use crate::channel_list::channels_said;
@@ -15,7 +16,7 @@ use rtk_convert::LinkCount;
 use rtk_message::System;
 use rtk_obs::{AnyCode, Channels, GpsMs, leap_seconds_at};
 use rtk_rinex::{CreationTime, Glonass, Marker, MixedHead, is_mixed_list};
-use rtk_setup::{LeapSeconds, Setup, SystemKinds};
+use rtk_setup::{LeapSeconds, Setup, SystemKinds, without_rates};
 use rtk_streams::STDIN;
 use std::alloc::Global;
 
@@ -87,7 +88,23 @@ fn glonass_said(
     Ok(Some(glonass_of(channels, options.leap_seconds, near)))
 }
 
-// The head of a file with these codes, and what the options tell of GLONASS.
+// The head of a file with Doppler shifts, if they are asked for. The MSM of each listed system has range rates then.
+fn head_with_shifts(
+    head: MixedHead,
+    is_asked: bool,
+    kinds: SystemKinds,
+) -> Result<MixedHead, BadWords>
+    ensures head { IfOk result (λ h. h ≡ record head { doppler = is_asked }) }
+    ensures rates { IfOk result (λ h. without_rates is_asked kinds head.listed ≡ None) }
+    ensures cause { IfErr result (IsShiftsCause is_asked kinds head.listed) }
+{
+    match without_rates(is_asked, kinds, head.codes()) {
+        Some(system) => Err(BadWords::NoRates(system)),
+        None => Ok(head.with_doppler_if(is_asked)),
+    }
+}
+
+// The head of a file with these codes, and what the options tell of GLONASS and of Doppler shifts.
 fn head_said(
     alloc: Global,
     options: &ConvertOptions,
@@ -108,7 +125,8 @@ fn head_said(
     let Ok(head) = MixedHead::new(marker, listed.as_slice(), glonass, made) else {
         unreachable!();
     };
-    Ok(head)
+    let shown = head_with_shifts(head, options.doppler, options.kinds)?;
+    Ok(shown)
 }
 
 // The setup with these kinds.

@@ -45,6 +45,7 @@ mod moment_text;
 mod option_texts;
 mod options;
 mod parts;
+mod rates_line;
 mod refusing;
 mod running;
 mod show_words;

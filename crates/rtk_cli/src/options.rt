@@ -47,6 +47,8 @@ pub(crate) struct AutoOptions<'a> {
     pub(crate) window: Option<Window>,
     /// Which MSM is converted beside 1004.
     pub(crate) msm: Option<MsmKind>,
+    /// The file shows Doppler shifts.
+    pub(crate) doppler: bool,
     pub(crate) ways: Ways<'a>,
 }
 
@@ -72,6 +74,8 @@ pub(crate) struct ConvertOptions<'a> {
     pub(crate) leap_seconds: Option<LeapSeconds>,
     /// The 1012 are converted too.
     pub(crate) with_1012: bool,
+    /// The file shows Doppler shifts.
+    pub(crate) doppler: bool,
 }
 
 /// The options of `chart`.
@@ -170,6 +174,7 @@ pub(crate) fn auto_options<'a>(words: &ArgMatches<'a>) -> Option<AutoOptions<'a>
         leap_seconds: value_if_any(words.get_one::<u32>("leap-seconds").map(leap_seconds_of))?,
         window: value_if_any(words.get_one::<u32>("window").map(window_of))?,
         msm: value_if_any(words.get_one::<u32>("msm").map(msm_of))?,
+        doppler: words.get_flag("doppler"),
         ways: ways_of(words),
     })
 }
@@ -195,6 +200,7 @@ pub(crate) fn convert_options<'a>(words: &ArgMatches<'a>) -> Option<ConvertOptio
         channels: words.get_str("channels"),
         leap_seconds: value_if_any(words.get_one::<u32>("leap-seconds").map(leap_seconds_of))?,
         with_1012: words.get_flag("with-1012"),
+        doppler: words.get_flag("doppler"),
     })
 }
 
