@@ -25,10 +25,10 @@ abbrev pub is_gone : {A : Type 0} → Option A → Option A → Bool
 is_gone a b = is_some a && is_none b
 
 -- both files have a value, but not the same
-abbrev pub is_other : Option ℤ → Option ℤ → Bool
-is_other (Some a) (Some b) = not (int_eq a b)
-is_other (Some a) None = false
-is_other None b = false
+abbrev pub is_other_number : Option ℤ → Option ℤ → Bool
+is_other_number (Some a) (Some b) = not (int_eq a b)
+is_other_number (Some a) None = false
+is_other_number None b = false
 
 abbrev pub gone_lines : Pair Observed → Place → List Difference
 gone_lines p place =
@@ -79,7 +79,7 @@ half_lines d p place =
 abbrev pub shift_lines : Bool → Pair Observed → Place → List Difference
 shift_lines shifts p place =
     told_if (shifts && is_gone p.old.doppler_millihertz p.new.doppler_millihertz) Lost Doppler place
-    ++ told_if (is_other p.old.doppler_millihertz p.new.doppler_millihertz) Changed Doppler place
+    ++ told_if (is_other_number p.old.doppler_millihertz p.new.doppler_millihertz) Changed Doppler place
 
 -- ---- the cell
 

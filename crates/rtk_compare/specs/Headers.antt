@@ -12,7 +12,7 @@ use Rattle.rtk_compare.specs.declared.difference.What.{What}
 use Rattle.rtk_compare.specs.declared.difference.What.TheVariants.{Marker, Position, Height, Code, Doppler, Channel, LeapSeconds}
 use Rattle.rtk_compare.specs.declared.difference.Difference.{Difference}
 use Rattle.rtk_compare.specs.Places.{in_header, at_code, at_slot}
-use Rattle.rtk_compare.specs.Cells.{told_if, is_gone, is_other}
+use Rattle.rtk_compare.specs.Cells.{told_if, is_gone, is_other_number}
 
 -- something that both can have or not is lost, or has changed
 abbrev pub lines_of : Bool → Bool → Bool → What → List Difference
@@ -45,7 +45,7 @@ code_lines olds news = flat_map (λ c. code_line c news) olds
 abbrev pub slot_lines : GlonassView → GlonassView → ℕ → List Difference
 slot_lines g h slot =
     told_if (is_gone (channel_at g.channels slot) (channel_at h.channels slot)) Lost Channel (at_slot slot)
-    ++ told_if (is_other (channel_at g.channels slot) (channel_at h.channels slot)) Changed Channel (at_slot slot)
+    ++ told_if (is_other_number (channel_at g.channels slot) (channel_at h.channels slot)) Changed Channel (at_slot slot)
 
 abbrev pub channel_lines : GlonassView → GlonassView → List Difference
 channel_lines g h = flat_map (slot_lines g h) (range_with_len 1 27)

@@ -4,7 +4,7 @@ ghost use Rattle.std.specs.Prelude.{◌≡◌, ◌&&◌, ◌∷◌, not, List};
 ghost use Rattle.rtk_rinex.specs.declared.epoch_table.Observed.{Observed};
 ghost use Rattle.rtk_compare.specs.Pairs.{Pair};
 ghost use Rattle.rtk_compare.specs.Distances.{distances_of};
-ghost use Rattle.rtk_compare.specs.Cells.{is_gone, is_other, have_phases, gone_lines, value_lines, gone_slip_lines, slip_lines, half_lines, shift_lines, cell_lines};
+ghost use Rattle.rtk_compare.specs.Cells.{is_gone, is_other_number, have_phases, gone_lines, value_lines, gone_slip_lines, slip_lines, half_lines, shift_lines, cell_lines};
 ghost use Rattle.rtk_compare.specs.Differences.{Adds};
 ghost use Rattle.rtk_compare.specs.Steps.Tracks.{IsTrackOf, pair, lines_if_told};
 
@@ -116,8 +116,8 @@ fn put_halves(
 }
 
 // Have both files a Doppler shift, but not the same?
-fn is_other(old: Option<i64>, new: Option<i64>) -> bool
-    ensures { result ≡ is_other old new }
+fn is_other_number(old: Option<i64>, new: Option<i64>) -> bool
+    ensures { result ≡ is_other_number old new }
 {
     match (old, new) {
         (Some(old), Some(new)) => old != new,
@@ -131,7 +131,7 @@ fn put_shifts(shifts: bool, old: &Observed, new: &Observed, place: &Place, findi
 {
     let is_gone = is_gone(old.doppler_millihertz, new.doppler_millihertz);
     findings.push_if(shifts & is_gone, Class::Lost, What::Doppler, place);
-    let has_changed = is_other(old.doppler_millihertz, new.doppler_millihertz);
+    let has_changed = is_other_number(old.doppler_millihertz, new.doppler_millihertz);
     findings.push_if(has_changed, Class::Changed, What::Doppler, place);
 }
 

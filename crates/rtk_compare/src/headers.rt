@@ -3,7 +3,7 @@
 ghost use Rattle.std.specs.Prelude.{◌≡◌, bytes_eq};
 ghost use Rattle.rtk_obs.specs.Carriers.{IsSlot, channel_at};
 ghost use Rattle.rtk_rinex.specs.Header.{position_view};
-ghost use Rattle.rtk_compare.specs.Cells.{is_gone, is_other};
+ghost use Rattle.rtk_compare.specs.Cells.{is_gone, is_other_number};
 ghost use Rattle.rtk_compare.specs.Differences.{Adds};
 ghost use Rattle.rtk_compare.specs.Headers.{lines_of, is_known, is_same_place, position_differences, is_listed, code_line, code_lines, slot_lines, channel_lines, lines_of_told, told_beside, glonass_differences, marker_lines, shifts_line, header_lines};
 
@@ -119,7 +119,7 @@ fn channel_is_gone(old: Option<i8>, new: Option<i8>) -> bool
 
 // Have both files a channel, but not the same?
 fn is_other_channel(old: Option<i8>, new: Option<i8>) -> bool
-    ensures { result ≡ is_other old new }
+    ensures { result ≡ is_other_number old new }
 {
     match (old, new) {
         (Some(old), Some(new)) => old != new,

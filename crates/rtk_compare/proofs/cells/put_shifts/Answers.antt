@@ -8,4 +8,4 @@ pub returns : goal.returns
 returns c =
     let p = c.args.place.now in
     adds-more (told Lost Doppler p (ap (λ (b : Bool). c.args.shifts && b) c.is_gone-is_gone.ensures) c.push_if.ensures)
-    (told Changed Doppler p c.is_other-has_changed.ensures c.push_if-2.ensures)
+    (told Changed Doppler p c.is_other_number-has_changed.ensures c.push_if-2.ensures)
