@@ -59,7 +59,7 @@ def marked_slots(message: Message, channels: Channels) -> tuple[set[int], set[in
     return contradicted, missing
 
 
-def all_cells(message: Message, channels: Channels) -> list[MixedCell]:
+def all_cells(message: Message, channels: Channels, with_doppler: bool = False) -> list[MixedCell]:
     """The cells of known satellites and signals of an MSM, in the order of the message."""
     system, kind = type_of(message)
     bits = set_bits(message.header["satellite_mask"], 64)
@@ -74,8 +74,18 @@ def all_cells(message: Message, channels: Channels) -> list[MixedCell]:
         if name is not None and code is not None:
             told = normal.get(bit, NO_CHANNEL)
             frequency = carrier(system, code, None if told >= CONTRADICTED else told - 7)
-            cells.append((name, code, _cell(kind, message.header["number"], rows[bit], row, frequency)))
+            cell = _cell(kind, message.header["number"], rows[bit], row, frequency)
+            cells.append((name, code, cell._replace(doppler=doppler(rows[bit], row, frequency) if with_doppler else None)))
     return cells
+
+
+def doppler(satellite: Fields, row: Fields, frequency: int | None) -> int | None:
+    """The Doppler shift in thousandths of a Hz: the rate in 0.0001 m/s by the carrier, with the other sign, and the nearest to its
+    exact fraction. A message without rates tells none, nor does the least value of a field, and 0 is none."""
+    rough, fine = satellite.get("rough_rate", -(2**13)), row.get("fine_rate", -(2**14))
+    if frequency is None or rough == -(2**13) or fine == -(2**14):
+        return None
+    return nearest(-Fraction(10_000 * rough + fine, 10_000) * frequency * 1000 / LIGHT) or None
 
 
 def _cell(kind: int, number: int, satellite: Fields, row: Fields, frequency: int | None) -> Cell:

@@ -37,4 +37,4 @@ COUNTS_CUT_SHORT = False
 # A slot of GLONASS counts if it has a value of a listed code; else if it has a value of any code.
 LISTED_SLOTS = False
 # The words of `auto` beside those that it has for GPS.
-WORDS = ("--msm", "--codes", "--systems", "--channels", "--leap-seconds")
+WORDS = ("--msm", "--codes", "--systems", "--channels", "--leap-seconds", "--doppler")
