@@ -66,13 +66,12 @@ def a_whole_file_with_doppler() -> None:
 
 @test
 def rates_count_with_doppler_alone() -> None:
-    """Two messages whose rates differ are copies without the option; with it they conflict."""
+    """Two messages whose rates differ are copies without the option; with it they conflict, if their shifts differ."""
     row = row_named("R10")
-    other = bytes.fromhex(row.payload[:-2] + "94")
-    links = [frame_of(bytes.fromhex(row.payload)) + frame_of(other)]
-    for doppler, told in ((False, {"repeat": 1}), (True, {"conflict": 1})):
+    for doppler, end, told in ((False, "B8", {"repeat": 1}), (True, "94", {"repeat": 1}), (True, "B8", {"conflict": 1})):
+        links = [frame_of(bytes.fromhex(row.payload)) + frame_of(bytes.fromhex(row.payload[:-2] + end))]
         options = replace(options_of("R2P", "7", {10: -5}), doppler=doppler)
-        lines = [f"link 1 conflict 1087 {TOLD} R10 2P"] * doppler + ["other-channel -", "no-channel -"]
+        lines = [f"link 1 conflict 1087 {TOLD} R10 2P"] * ("conflict" in told) + ["other-channel -", "no-channel -"]
         same(f"{doppler}", convert_mixed(options, links).report, report(lines, frames=2, taken=1, epochs=1, **told))
 
 

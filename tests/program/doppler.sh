@@ -24,8 +24,9 @@ C41_1P=467001714B0D400000000000000040000000000001534122FB5060734F4240E8057A0190
 J01_1X=45D001714BE8000000400000000000000000000000DE8243FB5077C581CD5528A5DA0190
 S58_5I=453001714BE80000000000000001000000000002006083FFFB5200006000006C00020190
 I14_5A=471001714BE800000000020000000000000000020052C12CFB5000FA0001F40145000190
-# The 1087 with -299.9899 m/s, and a 1004 of GPS.
-R10_OTHER_RATE=43F001ACDECCC00000002000000000000000400000508BE9FB538ACFCB71B01FF4B00194
+# The 1087 with -299.9899 m/s, whose Doppler is the same to 0.001 Hz; with -299.989 m/s; and a 1004 of GPS.
+R10_NEXT_RATE=43F001ACDECCC00000002000000000000000400000508BE9FB538ACFCB71B01FF4B00194
+R10_OTHER_RATE=43F001ACDECCC00000002000000000000000400000508BE9FB538ACFCB71B01FF4B001B8
 G05_1004=3EC001714BE800101401F17DFFCFA79F2C00000000000000
 seven_codes=5X,R2P,E8X,C1P,J1X,S5I,I5A
 
@@ -94,12 +95,15 @@ G    8 C1C L1C D1C S1C C5X L5X D5X S5X                      SYS / # / OBS TYPES
 G05  37175538.352 7 195358771.586 7                        44.000    21135365.609 7  82939744.722 7      1177.225          44.500
 LINES
 same gps_alone told want
-# Copies whose rates differ conflict, if the rates are asked for.
+# Copies whose rates differ conflict, if the rates are asked for and their values of Doppler differ.
 python3 "$here/framed.py" $R10_2P $R10_OTHER_RATE >rates.rtcm
 convert R2P --msm 7 --channels 10:-5 rates.rtcm; grep -e repeat -e conflict err >told
 printf 'repeat 1\nconflict 0\n' >want; same rates_without_the_option told want
 convert R2P --msm 7 --channels 10:-5 --doppler rates.rtcm; grep -e repeat -e conflict err >told
 printf 'link 1 conflict 1087 2024-05-17 12:00:00.000 R10 2P\nrepeat 0\nconflict 1\n' >want; same rates_that_differ told want
+python3 "$here/framed.py" $R10_2P $R10_NEXT_RATE >rates.rtcm
+convert R2P --msm 7 --channels 10:-5 --doppler rates.rtcm; grep -e repeat -e conflict err >told
+printf 'repeat 1\nconflict 0\n' >want; same rates_of_the_same_shift told want
 
 # ---- systems without range rates
 
