@@ -124,7 +124,7 @@ for kinds in 5 7 4,G5 6,G7 7,E4; do
     convert 1C --msm $kinds --doppler nowhere
     expect "with_rates_$kinds" 1 '' 'rtcm2rinex: cannot open nowhere'
 done
-# pins: IsFirstCause
+# pins: IsFirstCause, IsShiftsCause
 run convert --station 1 --near 1980-01-06T00:00:00 --made $made --marker X --codes 1C --with-1012 --doppler stdin stdin
 expect needs_of_1012_before_rates 2 '' 'rtcm2rinex: --with-1012 needs R codes'
 run convert --station 1 --near 1980-01-06T00:00:00 --made $made --marker X --codes 1C --doppler stdin stdin
@@ -161,6 +161,7 @@ run check seven.rnx
 # pins: IsObservedWithDoppler
 expect check 0 'valid: 1 epochs, 7 satellite lines' ''
 run check gps.rnx
+# pins: has_shift_type, is_gps_text
 expect check_of_gps 0 'valid: 1 epochs, 1 satellite lines' ''
 sed 's/      1244.632  /      1244.632 7/' seven.rnx >bad.rnx
 run check bad.rnx
