@@ -210,6 +210,13 @@ others_of_capture number s = shown_count (others_held s.contents number + refuse
 abbrev pub others_in_captures : List CaptureSurvey → ℕ → ℕ
 others_in_captures ss number = shown_count (sum_by (others_of_capture number) ss)
 
+-- how many 1012 a capture has, whether they are read or not: they are no MSM
+abbrev pub all_1012_of_capture : CaptureSurvey → ℕ
+all_1012_of_capture s = shown_count (others_of_capture 1012 s + refused_of_number s.contents.unread 1012)
+
+abbrev pub all_1012_in_captures : List CaptureSurvey → ℕ
+all_1012_in_captures ss = shown_count (sum_by all_1012_of_capture ss)
+
 -- table
 -- how many messages of a number that is read a station has
 abbrev pub read_of_station : ℕ → StationSurvey → ℕ

@@ -110,6 +110,25 @@ pub(crate) fn others_in_captures(surveys: &[CaptureSurvey], number: u16) -> u64
     count
 }
 
+// How many 1012 a capture has, whether they are read or not: they are no MSM.
+fn all_1012_of_capture(survey: &CaptureSurvey) -> u64
+    ensures { result ≡ spec.all_1012_of_capture survey.now }
+{
+    let refused = refused_of_number(&survey.contents.unread, 1012);
+    others_of_capture(1012, survey).saturating_add(refused)
+}
+
+/// How many 1012 captures have, whether they are read or not.
+pub(crate) fn all_1012_in_captures(surveys: &[CaptureSurvey]) -> u64
+    ensures { result ≡ spec.all_1012_in_captures surveys.now }
+{
+    let mut count = 0u64;
+    for survey in surveys {
+        count = count.saturating_add(all_1012_of_capture(survey));
+    }
+    count
+}
+
 // How many messages of a number that is read captures have of a station.
 fn read_of_station(number: u16, station: &StationSurvey) -> u64
     ensures { result ≡ spec.read_of_station number station.now }
