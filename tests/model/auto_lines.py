@@ -18,7 +18,7 @@ from messages import Refusal, frames_of, read_message
 from mixed_cells import has_sbas
 from mixed_model import Options, channels_text
 from model import Conversion, civil, moment
-from msm import LEGACY, LEGACY_GLONASS, letter_of, read_any
+from msm import LEGACY, LEGACY_GLONASS, letter_of
 from summaries import UNTAKEN, look_of, sh_quoted
 from systems import GLONASS, GPS, SBAS, number_of
 from wire import MSMS, WEEK_MS, Fields, Message
@@ -283,8 +283,6 @@ def left_out_lines(found: Found, texts: list[bytes]) -> list[str]:
     read = [read_message(it.payload, MSMS) for text in texts for it in frames_of(text)]
     own = [it for it in read if isinstance(it, Message) and it.header["station"] == found.station]
     others = Counter(it.number for it in read if isinstance(it, Refusal) and it.fault == "M2")
-    if not stages.COUNTS_CUT_SHORT:
-        others -= Counter(cut_short_1012(texts))
     gps = {LEGACY, *MSMS} if stages.TELLS_1004 else {*MSMS}
     others.update(it.header["number"] for it in own if it.header["number"] in gps)
     told = {*gps, *UNTAKEN, *range(1009, 1013), *(it for it in range(1081, 1138) if 1 <= it % 10 <= 7)}
@@ -316,12 +314,6 @@ def slot_lines(found: Found) -> list[str]:
         lines += [f" several-channels R{slot:02} {' '.join(map(str, its))}" for slot, its in sorted(slots.several.items())]
     header = "as a header's GLONASS SLOT / FRQ # of the same days has them"
     return lines + [f" no-channel {slot_names(slots.without)}: give --channels, {header}"] * bool(slots.without)
-
-
-def cut_short_1012(texts: list[bytes]) -> list[int]:
-    """The number of each 1012 that is cut short."""
-    read = [read_any(it.payload, frozenset({LEGACY_GLONASS})) for text in texts for it in frames_of(text)]
-    return [it.number for it in read if isinstance(it, Refusal) and it.number == LEGACY_GLONASS]
 
 
 def slot_names(slots: Iterable[int]) -> str:

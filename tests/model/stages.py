@@ -32,8 +32,6 @@ TAKES_1012 = True
 TELLS_1004 = True
 # Channels that words give go before those that messages tell of the same slots; else nothing that messages tell is taken.
 JOINS_CHANNELS = True
-# 1012 that are cut short are counted among those that are not in the file.
-COUNTS_CUT_SHORT = False
 # A slot of GLONASS counts if it has a value of a listed code; else if it has a value of any code.
 LISTED_SLOTS = False
 # The words of `auto` beside those that it has for GPS.
