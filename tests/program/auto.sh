@@ -225,7 +225,7 @@ finds fifteen_weeks "$two 1013" "$one_command fifteen_weeks" '18 16 0 0 2 0 0 0 
 # pins: is_full, more_dates_line
 finds sixteen_weeks "$two 1013" "$one_command sixteen_weeks" '19 17 0 0 2 0 0 0 2' 0 one.rnx "$(weeks 16 sixteen_weeks)\n more-dates in sixteen_weeks"
 # A date after the time of making does not count, and is told.
-# pins: other_to_come
+# pins: date_to_come
 finds 'one to_come' "$noon until 2024-05-17T12:00:02 by 1013" "cat one to_come | $one_command stdin" '5 2 0 0 3 0 0 0 3' 0 '' \
     ' undated to_come: dated near the others\n other-date 2024-07-09T12:00:00 by 1013 of station 2003 in to_come: it is after the time of making'
 position=

@@ -92,9 +92,12 @@ other_dates_of near name d = other_dates_if_any near name d.told d.span
 
 -- formula
 -- a date that is passed over since it is to come
+unfoldable pub date_to_come : UtcDate → List ℕ → List ℕ
+date_to_come d name = codes " other-date" ++ to_come_line d name
+
 abbrev pub other_to_come : Option UtcDate → List ℕ → List ℕ
 other_to_come None name = []
-other_to_come (Some d) name = codes " other-date" ++ to_come_line d name
+other_to_come (Some d) name = date_to_come d name
 
 -- those of a capture: of its epochs; or if it has none, of an epoch at this moment; and one that is to come
 abbrev pub other_dates_at : ℕ → ℕ → CaptureSurvey → List ℕ → List ℕ

@@ -64,9 +64,13 @@ abbrev pub other_of_station : List ℕ → Equipment → Option StationSurvey �
 other_of_station name counts None = []
 other_of_station name counts (Some s) = other_equipment name counts (slice_get s.equipment.items 0)
 
+-- those of a capture of this name
+abbrev pub other_in_capture : ℕ → Equipment → CaptureSurvey → List ℕ → List ℕ
+other_in_capture station counts s name = other_of_station name counts (station_in station s)
+
 -- those of captures with these names, beside what they told last of all
 abbrev pub all_other_equipment : List (Bor (List ℕ)) → ℕ → Equipment → List CaptureSurvey → List ℕ
-all_other_equipment names station counts ss = lines_by (λ at s. other_of_station (capture_name names at) counts (station_in station s)) 0 ss
+all_other_equipment names station counts ss = lines_by (λ at s. other_in_capture station counts s (capture_name names at)) 0 ss
 
 -- what a person should know of the antenna and the receiver
 abbrev pub equipment_notes : List (Bor (List ℕ)) → List CaptureSurvey → ℕ → Equipment → List ℕ

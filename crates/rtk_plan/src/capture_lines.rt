@@ -145,6 +145,14 @@ fn put_dates_of_epochs(
 }
 
 // Appends a date that is passed over since it is to come.
+fn put_date_to_come(lines: &mut Vec<u8>, date: UtcDate, name: &str) -> Result<(), AllocError>
+    ensures { OnOk result (lines.new.items ≡ lines.old.items ++ spec.date_to_come date name.now) }
+{
+    lines.extend_from_slice(b" other-date")?;
+    put_to_come_line(lines, date, name)?;
+    Ok(())
+}
+
 fn put_other_to_come(
     lines: &mut Vec<u8>,
     date: Option<UtcDate>,
@@ -152,11 +160,10 @@ fn put_other_to_come(
 ) -> Result<(), AllocError>
     ensures { OnOk result (lines.new.items ≡ lines.old.items ++ spec.other_to_come date name.now) }
 {
-    let Some(date) = date else {
-        return Ok(());
-    };
-    lines.extend_from_slice(b" other-date")?;
-    put_to_come_line(lines, date, name)
+    match date {
+        Some(date) => put_date_to_come(lines, date, name),
+        None => Ok(()),
+    }
 }
 
 // Appends such dates of a capture: of its epochs; or if it has none, of an epoch at this moment; and one that is to

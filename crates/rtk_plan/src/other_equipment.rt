@@ -11,7 +11,7 @@ use crate::texts_left_out::put_texts_left_out;
 use rtk_captures::{Captures, put_name_line};
 use rtk_message::put_number;
 use rtk_setup::Setup;
-use rtk_survey::{Equipment, StationSurvey, Text, TextHistory, put_shown};
+use rtk_survey::{CaptureSurvey, Equipment, StationSurvey, Text, TextHistory, put_shown};
 use std::alloc::AllocError;
 
 fn put_field(lines: &mut Vec<u8>, words: &[u8], field: &[u8]) -> Result<(), AllocError>
@@ -194,6 +194,20 @@ fn put_other_of_station(
     }
 }
 
+// The same of a capture with this survey.
+fn put_other_in(
+    lines: &mut Vec<u8>,
+    survey: &CaptureSurvey,
+    station: u16,
+    counts: &Equipment,
+    name: &str,
+) -> Result<(), AllocError>
+    ensures { OnOk result (lines.new.items ≡ lines.old.items ++ spec.other_in_capture station counts.now survey.now name.now) }
+{
+    put_other_of_station(lines, name, counts, survey.contents.stations.get(&station))?;
+    Ok(())
+}
+
 // Appends what captures told of a station beside what they told last of all.
 fn put_all_other(
     lines: &mut Vec<u8>,
@@ -205,8 +219,7 @@ fn put_all_other(
         ++ spec.all_other_equipment captures.now.names.now station counts.now captures.now.surveys.now) }
 {
     for (at, survey) in captures.surveys.iter().enumerate() {
-        let heard = survey.contents.stations.get(&station);
-        put_other_of_station(lines, captures.name(at), counts, heard)?;
+        put_other_in(lines, survey, station, counts, captures.name(at))?;
     }
     Ok(())
 }
