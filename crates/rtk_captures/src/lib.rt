@@ -72,7 +72,7 @@ pub use reach::{Base, is_out_of_reach, least_told, near_of, place_captures, reac
 pub use refusal::{PlanFault, Refusal, refused};
 pub use span_line::{DateSource, DatedSpan, put_span};
 pub use station_capture::{
-    StationCapture, captures_of, is_station, others_passed_over, span_in, to_come_told, told_in,
+    StationCapture, captures_of, is_station, others_passed_over, span_in, to_come_told,
     weeks_passed_over,
 };
 pub use times::put_time;

@@ -123,7 +123,7 @@ pub fn span_in(station: u16, survey: &CaptureSurvey) -> Option<Span>
 }
 
 /// The first epochs that messages of a capture told of the station and that count, each that differs.
-pub fn told_in(station: u16, survey: &CaptureSurvey) -> &[Told]
+pub(crate) fn told_in(station: u16, survey: &CaptureSurvey) -> &[Told]
     ensures { result.now ≡ spec.told_in station survey.now }
 {
     match &survey.contents.target {
