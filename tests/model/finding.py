@@ -240,10 +240,12 @@ def second_begins(capture: Capture, told: list[Told], station: int) -> int | Non
     return capture.places[min(second, max(breaks, default=(0, second))[1])]
 
 
-def passed_over(told: list[Told], station: int) -> list[Told]:
-    """Those by 1019, if the station tells its own date, which counts."""
+def passed_over(told: list[Told], station: int) -> tuple[list[Told], list[Told]]:
+    """Those by 1019, if the station tells its own date, which counts; and those of other stations, if it or a 1019 tells one."""
     own = [it for it in told if it.fields.get("station") == station]
-    return [it for it in told if "week" in it.fields] if own else []
+    weeks = [it for it in told if "week" in it.fields]
+    others = [it for it in told if "station" in it.fields and it not in own]
+    return weeks if own else [], others if own or weeks else []
 
 
 def chain(first: int, times: list[int]) -> list[int]:
@@ -305,11 +307,22 @@ def first_told(now: int, captures: list[Capture], station: int) -> dict[int, Tol
     return {place: told[0] for place, told in enumerate(counted) if told}
 
 
+def waiting_in(capture: Capture) -> list[tuple[int, Fields]]:
+    """The dates that are looked at in a capture without an epoch, with their places."""
+    return [(at, it) for at, it in enumerate(capture.read) if not isinstance(it, Message)][:WAITING]
+
+
 def named_moment(now: int, capture: Capture, station: int) -> Told | None:
-    """The earliest moment that a date names in a capture without an epoch, among those that count as they do for a first epoch."""
-    dates = [(at, it) for at, it in enumerate(capture.read) if not isinstance(it, Message)][:WAITING]
-    named = [Told(moment, it, at) for at, it in dates for moment in [moment_named(now, it)] if moment is not None]
-    return min(counting([it for it in named if FIRST_NEAR <= it.first <= LAST_NEAR], station), key=lambda it: it.first, default=None)
+    """The earliest moment that a date names in a capture without an epoch, chosen as among those that tell a first epoch."""
+    named = [Told(moment, it, at) for at, it in waiting_in(capture) for moment in [moment_named(now, it)] if moment is not None]
+    counted = counting([it for it in named if FIRST_NEAR <= it.first <= LAST_NEAR], station)
+    return min(counted, key=lambda it: it.first, default=None)
+
+
+def tellings_near(now: int, capture: Capture, near: int) -> list[Told]:
+    """What the dates of a capture without an epoch tell of one at this moment."""
+    told = [(told_moment(now, it, near % WEEK_MS), it, at) for at, it in waiting_in(capture)]
+    return [Told(first, it, at) for first, it, at in told if first is not None and FIRST_NEAR <= first <= LAST_NEAR]
 
 
 def moment_named(now: int, fields: Fields) -> int | None:
@@ -381,7 +394,7 @@ def find(texts: list[bytes], now: int, wanted: Wanted = Wanted()) -> Found:
     times = [capture.times(number) for capture in captures]
     told = {} if near is not None else first_told(now, captures, number)
     named = [it for capture, of in zip(captures, times) if not of for it in [named_moment(now, capture, number)] if it is not None]
-    dating = [*told.values()] or ([] if near is not None else named)
+    dating = [*told.values()] or ([] if near is not None else counting(named, number))
     if near is None and not dating:
         raise Stopped("no date")
     base = near if near is not None else min(it.first for it in dating)

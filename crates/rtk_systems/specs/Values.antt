@@ -210,6 +210,22 @@ others_of_capture number s = shown_count (others_held s.contents number + refuse
 abbrev pub others_in_captures : List CaptureSurvey → ℕ → ℕ
 others_in_captures ss number = shown_count (sum_by (others_of_capture number) ss)
 
+-- how many messages of a number that a conversion of GPS reads can't be read
+abbrev pub refused_reading : Option MsmType → Unread → ℕ → ℕ
+refused_reading None u number = refused_of_number u number
+refused_reading (Some m) u number = if is_gps_system m.system then refused_of_number u number else 0
+
+abbrev pub refused_in_capture : ℕ → CaptureSurvey → ℕ
+refused_in_capture number s = refused_reading (type_of_number number) s.contents.unread number
+
+-- those of captures, of all stations: such a message tells no station
+abbrev pub refused_in_captures : List CaptureSurvey → ℕ → ℕ
+refused_in_captures ss number = shown_count (sum_by (refused_in_capture number) ss)
+
+-- so many messages of a number, and those that can't be read
+abbrev pub with_refused : List CaptureSurvey → ℕ → ℕ → ℕ
+with_refused ss number count = shown_count (count + refused_in_captures ss number)
+
 -- table
 -- how many messages of a number that is read a station has
 abbrev pub read_of_station : ℕ → StationSurvey → ℕ
@@ -231,4 +247,4 @@ read_in_captures ss number = shown_count (sum_by (read_in_capture number) ss)
 
 -- how many messages of a number captures have, whether they are read or not
 abbrev pub held_in_captures : List CaptureSurvey → ℕ → ℕ
-held_in_captures ss number = shown_count (others_in_captures ss number + read_in_captures ss number)
+held_in_captures ss number = with_refused ss number (shown_count (others_in_captures ss number + read_in_captures ss number))
