@@ -6,6 +6,8 @@ use Rattle.std.specs.List.{list_any, filter_map}
 use Rattle.rtk_message.specs.declared.any_message.AnyMessage.{AnyMessage}
 use Rattle.rtk_message.specs.declared.any_message.AnyMessage.TheVariants as any
 use Rattle.rtk_message.specs.Obs1012 as obs1012
+use Rattle.rtk_message.specs.declared.message.Message.{Message}
+use Rattle.rtk_message.specs.declared.message.Message.TheVariants.{Obs1004, Arp1005, Arp1006, Msm1074}
 use Rattle.rtk_message.specs.declared.system.System.{System}
 use Rattle.rtk_message.specs.declared.system.System.TheVariants.{Gps, Glonass, Galileo, Beidou, Qzss, Sbas, Navic}
 use Rattle.rtk_obs.specs.declared.any_code.AnyCode.{AnyCode}
@@ -14,6 +16,7 @@ use Rattle.rtk_obs.specs.AnyCode as any_code
 use Rattle.rtk_obs.specs.Clocks.{beidou_tow}
 use Rattle.rtk_obs.specs.GlonassCells.{entries_of_1012}
 use Rattle.rtk_obs.specs.GlonassTime.{glonass_tow}
+use Rattle.rtk_obs.specs.SbasCells.{signals_of_1004}
 use Rattle.rtk_obs.specs.SignalCells.{signal_entries}
 use Rattle.rtk_survey.specs.Tracing.{is_numbered, is_gps_number, is_beside_gps, has_value}
 
@@ -41,10 +44,21 @@ is_other_system Qzss = true
 is_other_system Sbas = true
 is_other_system Navic = true
 
--- the cells of a message of another system than GPS. Those of GLONASS have no phase: it would depend on the channels,
+-- a cell of another system than GPS
+abbrev pub is_beside_entry : SignalEntry → Bool
+is_beside_entry e = is_other_system (any_code.system_of e.code)
+
+-- the cells of satellites of SBAS in a 1004
+abbrev pub sbas_cells_of_four : Message → List SignalEntry
+sbas_cells_of_four (Obs1004 m) = filter is_beside_entry (signals_of_1004 m.satellites)
+sbas_cells_of_four (Arp1005 m) = []
+sbas_cells_of_four (Arp1006 m) = []
+sbas_cells_of_four (Msm1074 m) = []
+
+-- the cells of other systems than GPS of a message. Those of GLONASS have no phase: it would depend on the channels,
 -- which a capture need not tell
 abbrev pub cells_beside_gps : AnyMessage → List SignalEntry
-cells_beside_gps (any.Message m) = []
+cells_beside_gps (any.Message m) = sbas_cells_of_four m
 cells_beside_gps (any.Msm m) = if is_other_system m.system then signal_entries no_channels m else []
 cells_beside_gps (any.Obs1012 m) = entries_of_1012 no_channels m.satellites
 
@@ -88,10 +102,16 @@ told_time_of (any.Message m) = None
 told_time_of (any.Msm m) = Some (told_time m.system m.header.tow)
 told_time_of (any.Obs1012 m) = Some (told_time Glonass (obs1012.clock_of m))
 
--- a message of another system than GPS that has a cell with a range, a phase or a strength
+-- a message that has a cell of another system than GPS with a range, a phase or a strength
 abbrev pub gives_value_beside : AnyMessage → Bool
 gives_value_beside m = list_any signal_has_value (cells_beside_gps m)
 
 -- the times of such messages
 abbrev pub times_beside : List AnyMessage → List ℕ
 times_beside ms = filter_map told_time_of (filter gives_value_beside ms)
+
+-- ---- SBAS of 1004
+
+-- a 1004 in which a satellite of SBAS has a value
+abbrev pub gives_sbas : AnyMessage → Bool
+gives_sbas m = is_numbered 1004 m && gives_value_beside m

@@ -17,7 +17,8 @@ fn is_sbas(satellite: &Satellite) -> bool
     FIRST_SBAS <= satellite.satellite && satellite.satellite <= LAST_SBAS
 }
 
-fn have_sbas(satellites: &[Satellite]) -> bool
+/// Has one of the satellites an ID of SBAS?
+pub(crate) fn have_sbas(satellites: &[Satellite]) -> bool
     ensures { result ≡ list_any spec.is_sbas satellites.now }
 {
     satellites.iter().any(is_sbas)
