@@ -1,7 +1,7 @@
--- Messages of other systems than GPS: their times, and the satellites and codes of their cells.
+-- Messages of other systems than GPS, and SBAS of 1004: their times, and the satellites and codes of their cells.
 -- Lists of messages and entries are newest first.
--- Source: RTCM 10403.3, messages 1012, and 1081 to 1137
-use Rattle.std.specs.Prelude.{ℕ, ◌/◌, ◌%◌, ◌^◌, ◌==◌, ℤ, Bool, true, false, ◌&&◌, List, [], flat_map, filter, replicate, Option, None, Some, if◌then◌else◌}
+-- Source: RTCM 10403.3, messages 1004, 1012, and 1081 to 1137
+use Rattle.std.specs.Prelude.{ℕ, ◌/◌, ◌%◌, ◌^◌, ◌==◌, ℤ, Bool, true, false, ◌&&◌, ◌||◌, List, [], flat_map, filter, replicate, Option, None, Some, if◌then◌else◌}
 use Rattle.std.specs.List.{list_any, filter_map}
 use Rattle.rtk_message.specs.declared.any_message.AnyMessage.{AnyMessage}
 use Rattle.rtk_message.specs.declared.any_message.AnyMessage.TheVariants as any
@@ -18,15 +18,11 @@ use Rattle.rtk_obs.specs.GlonassCells.{entries_of_1012}
 use Rattle.rtk_obs.specs.GlonassTime.{glonass_tow}
 use Rattle.rtk_obs.specs.SbasCells.{signals_of_1004}
 use Rattle.rtk_obs.specs.SignalCells.{signal_entries}
-use Rattle.rtk_survey.specs.Tracing.{is_numbered, is_gps_number, is_beside_gps, has_value}
+use Rattle.rtk_survey.specs.Tracing.{is_numbered, is_beside_gps, has_value}
 
 -- a message of another system than GPS, of this number
 abbrev pub is_beside_numbered : ℕ → AnyMessage → Bool
 is_beside_numbered n m = is_beside_gps m && is_numbered n m
-
--- the messages of this number, if it is none of GPS
-abbrev pub messages_beside : ℕ → List AnyMessage → List AnyMessage
-messages_beside n ms = if is_gps_number n then [] else filter (is_numbered n) ms
 
 -- ---- satellites and codes
 
@@ -106,12 +102,19 @@ told_time_of (any.Obs1012 m) = Some (told_time Glonass (obs1012.clock_of m))
 abbrev pub gives_value_beside : AnyMessage → Bool
 gives_value_beside m = list_any signal_has_value (cells_beside_gps m)
 
--- the times of such messages
+-- the times of such messages; a 1004 tells the time of GPS, and has none here
 abbrev pub times_beside : List AnyMessage → List ℕ
 times_beside ms = filter_map told_time_of (filter gives_value_beside ms)
 
--- ---- SBAS of 1004
+-- ---- messages by number
 
--- a 1004 in which a satellite of SBAS has a value
-abbrev pub gives_sbas : AnyMessage → Bool
-gives_sbas m = is_numbered 1004 m && gives_value_beside m
+-- a message of another system than GPS, or one that gives a value of one: a 1004 in which a satellite of SBAS has a value
+abbrev pub has_part_beside : AnyMessage → Bool
+has_part_beside m = is_beside_gps m || gives_value_beside m
+
+abbrev pub is_part_numbered : ℕ → AnyMessage → Bool
+is_part_numbered n m = has_part_beside m && is_numbered n m
+
+-- such messages of this number
+abbrev pub messages_beside : ℕ → List AnyMessage → List AnyMessage
+messages_beside n ms = filter (is_part_numbered n) ms

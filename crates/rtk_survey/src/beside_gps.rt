@@ -1,6 +1,6 @@
-//! Messages of other systems than GPS: which they are, their times and their cells.
+//! Messages of other systems than GPS, and SBAS of 1004: which they are, their times and their cells.
 
-ghost use Rattle.std.specs.Prelude.{◌≡◌, ◌/◌, ◌%◌, ◌^◌, ◌<◌, ◌≤◌, [], filter, length, if◌then◌else◌};
+ghost use Rattle.std.specs.Prelude.{◌≡◌, ◌/◌, ◌%◌, ◌^◌, ◌<◌, [], filter, if◌then◌else◌};
 ghost use Rattle.rtk_message.specs.AnyDecoded.{IsValid};
 ghost use Rattle.rtk_message.specs.MsmForm.{IsValid as IsValidMsm};
 ghost use Rattle.rtk_message.specs.Decoded.{IsValid as IsValidFour};
@@ -14,12 +14,11 @@ ghost use Rattle.rtk_obs.specs.SignalCells.{signal_entries};
 ghost use Rattle.rtk_survey.specs.BesideGps as spec;
 ghost use Rattle.rtk_survey.specs.Tracing.{is_beside_gps};
 
-use arrayvec::ArrayVec;
 use crate::sbas::have_sbas;
+use arrayvec::ArrayVec;
 use rtk_message::{AnyMessage, Message, Msm, Obs1004, Obs1012, System};
 use rtk_obs::{
     Channels, SignalEntry, WEEK_MS, put_entries_1012, put_signal_entries, put_signals_1004,
-    sbas_laws,
 };
 
 const DAY_MS: u64 = 86_400_000;
@@ -129,34 +128,27 @@ fn is_beside_entry(entry: &SignalEntry) -> bool
     is_other_system(entry.code.system())
 }
 
-// Puts those of some cells that are of another system than GPS over a list.
-fn put_beside(all: &[SignalEntry], found: &mut ArrayVec<SignalEntry, 64>)
-    requires { length all.now ≤ 64 }
-    ensures { found.new.items ≡ filter spec.is_beside_entry all.now }
+// Leaves the cells of other systems than GPS.
+fn keep_beside(found: &mut ArrayVec<SignalEntry, 64>)
+    ensures { found.new.items ≡ filter spec.is_beside_entry found.old.items }
 {
-    found.clear();
-    for entry in all {
-        if is_beside_entry(entry) {
-            found.push(*entry);
-        }
-    }
+    found.retain(|entry| is_beside_entry(entry));
 }
 
-// Puts the cells of satellites of SBAS in a 1004 over a list.
+// Puts the cells of satellites of SBAS in a 1004 over a list. Few 1004 have one, so this is asked first.
 fn put_sbas_of_1004(message: &Obs1004, found: &mut ArrayVec<SignalEntry, 64>)
     requires { IsValid1004 message.now }
     ensures { found.new.items ≡ filter spec.is_beside_entry (signals_of_1004 message.now.satellites) }
 {
-    sbas_laws();
-    if !have_sbas(message.satellites.as_slice()) {
+    if have_sbas(message.satellites.as_slice()) {
+        put_signals_1004(message, found);
+        keep_beside(found);
+    } else {
         found.clear();
-        return;
     }
-    let mut all = ArrayVec::new();
-    put_signals_1004(message, &mut all);
-    put_beside(all.as_slice(), found);
 }
 
+// The same of a message that may be a 1004.
 fn put_sbas_of_four(message: &Message, found: &mut ArrayVec<SignalEntry, 64>)
     requires { IsValidFour message.now }
     ensures { found.new.items ≡ spec.sbas_cells_of_four message.now }

@@ -1,4 +1,4 @@
-//! Satellites of SBAS in a 1004, which a conversion leaves out.
+//! Satellites of SBAS in a 1004.
 
 ghost use Rattle.std.specs.Prelude.{◌≡◌};
 ghost use Rattle.std.specs.List.{list_any};
