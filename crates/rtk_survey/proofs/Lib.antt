@@ -25,6 +25,7 @@ pub mod PublicLaws
 pub mod PutLemmas
 pub mod ReadLemmas
 pub mod ResultLemmas
+pub mod SbasLemmas
 pub mod SignalLemmas
 pub mod StationLemmas
 pub mod SummaryTellingLemmas
