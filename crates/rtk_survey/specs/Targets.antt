@@ -26,7 +26,7 @@ use Rattle.rtk_survey.specs.Telling.{is_to_come}
 use Rattle.rtk_survey.specs.Tracing.{entries_of_message}
 use Rattle.rtk_survey.specs.declared.capture_dates.CaptureDates.{CaptureDates}
 use Rattle.rtk_survey.specs.declared.date_message.DateMessage.{DateMessage}
-use Rattle.rtk_survey.specs.declared.date_message.DateMessage.TheVariants.{Utc, Ephemeris}
+use Rattle.rtk_survey.specs.declared.date_message.DateMessage.TheVariants.{Utc, Ephemeris, OtherEphemeris}
 use Rattle.rtk_survey.specs.declared.date_message.UtcDate.{UtcDate}
 use Rattle.rtk_survey.specs.declared.dating_systems.DatingSystems.{DatingSystems}
 use Rattle.rtk_survey.specs.declared.equipment_message.EquipmentMessage.{EquipmentMessage}
@@ -195,6 +195,7 @@ first_to_come now (Some d) m = Some d
 first_to_come now None None = None
 first_to_come now None (Some (Utc d)) = if is_to_come now d then Some d else None
 first_to_come now None (Some (Ephemeris e)) = None
+first_to_come now None (Some (OtherEphemeris w)) = None
 
 abbrev pub to_come_with_reading : ℕ → Option UtcDate → Result AnyMessage AnyFault → List ℕ → Option UtcDate
 to_come_with_reading now known (Ok m) payload = known
