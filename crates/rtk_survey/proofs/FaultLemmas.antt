@@ -2,7 +2,7 @@
 use Rattle.std.proofs.Common.{◌≡◌, ◌≢◌, ◌+◌, ℕ, List, ◌∷◌, refl}
 use Rattle.std.specs.BTreeMap.{BTreeMap}
 use Rattle.rtk_message.specs.declared.any_fault.AnyFault.{AnyFault}
-use Rattle.rtk_message.specs.declared.any_fault.AnyFault.TheVariants.{NoNumber, Other, Short, EpochRange, TooManyCells}
+use Rattle.rtk_message.specs.declared.any_fault.AnyFault.TheVariants.{Other, Short, EpochRange, TooManyCells}
 use Rattle.rtk_survey.specs.Contents.{CountsFaults, count_at}
 use Rattle.rtk_survey.specs.Counting.{shown_count}
 use Rattle.rtk_survey.specs.Tracing.{is_no_number, is_other, is_short, is_outside_week, is_too_many_cells}
