@@ -294,7 +294,7 @@ def system_text(number: int) -> str:
     return SYSTEMS.get(number // 10, "GLONASS") if number > 1080 or 1009 <= number <= 1012 else "GPS"
 
 
-# pins: msm_line_of, doppler_line_of, obs_1004_line, is_gps_system, MessageLines.counted_line, long_line, unread_legacy_glonass
+# pins: msm_line_of, doppler_line_of, obs_1004_line, is_gps_system, ended_count_line, long_line, unread_legacy_glonass
 def left_out_lines(found: Found, texts: list[bytes]) -> list[str]:
     """How many messages are not converted, or without a part: of GPS those of the station, of other systems those of all stations."""
     chosen = found.chosen

@@ -23,9 +23,9 @@ from clocks import glonass_moment, leap_seconds_at, near_of_span
 from equipment import equipment_of
 from messages import Refusal, frames_of
 from model import civil, moment
-from msm import letter_of, read_frame
+from msm import read_frame
 from systems import GLONASS
-from valued import cells_in, has_value, name_of_code, names_in
+from valued import cells_in, has_value, letter_of_name, name_of_code, names_in
 from wire import WEEK_MS, BitReader, Fields, Message, table
 
 DAY_MS = 86_400_000
@@ -139,8 +139,8 @@ class Capture(NamedTuple):
         return [it.header["station"] for it in self.messages() if self.has_observation(it)]
 
     def has_observation(self, message: Message) -> bool:
-        """A range, a phase or a strength of a system that tells dates."""
-        return (letter_of(message) or "-") in self.dating and bool(names_in(message))
+        """A range, a phase or a strength of a system that tells dates, which in a 1004 may be SBAS."""
+        return any(letter_of_name(it) in self.dating for it in names_in(message))
 
     def observes(self, station: int, entry: Message | Fields) -> bool:
         return isinstance(entry, Message) and entry.header["station"] == station and self.has_observation(entry)

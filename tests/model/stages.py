@@ -25,7 +25,7 @@ CONVERTS_1012 = True
 CONVERTS_SBAS = True
 # `summary` and `auto` find 1012, MSM of GLONASS that do not know the day, and satellites of SBAS of a 1004.
 FINDS_1012 = True
-FINDS_SBAS = False
+FINDS_SBAS = True
 # `auto` converts 1012 where the epochs allow a reference.
 TAKES_1012 = True
 # 1004 that are not converted have a line.

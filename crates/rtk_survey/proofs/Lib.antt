@@ -20,7 +20,6 @@ pub mod MsmLemmas
 pub mod NamedLemmas
 pub mod NextLemmas
 pub mod PhaseLemmas
-pub mod PlacedLemmas
 pub mod PublicLaws
 pub mod PutLemmas
 pub mod ReadLemmas

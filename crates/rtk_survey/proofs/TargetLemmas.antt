@@ -175,10 +175,6 @@ pub answer-more : (q : Option Target) (fs more : List ReadFrame) (old new : Targ
 answer-more None fs more old new step is = cc
 answer-more (Some t) fs more old new step is = step t is
 
-pub answer-none : (q : Option Target) (fs more : List ReadFrame) → IsAnswer q fs None → IsAnswer q more None
-answer-none None fs more is = is
-answer-none (Some t) fs more is = is
-
 -- ---- where a second date begins
 
 pub parted-message : (q : Target) (fs : List ReadFrame) (t : TargetSurvey) (m : AnyMessage) (frame : ℕ) (new : TargetDates) (p : Parting)

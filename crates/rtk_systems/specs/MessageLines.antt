@@ -31,13 +31,13 @@ unread_gps taken ss = unread_lines_from (codes " not in the file: GPS ") taken s
 
 -- formula
 -- words, a count and an end; a count of 0 has no line
-abbrev pub counted_line : List ℕ → ℕ → List ℕ → List ℕ
-counted_line words count end = if count == 0 then [] else words ++ decimal count ++ end
+abbrev pub ended_count_line : List ℕ → ℕ → List ℕ → List ℕ
+ended_count_line words count end = if count == 0 then [] else words ++ decimal count ++ end
 
 -- formula
 -- the 1012 of captures in which they can't be dated
 abbrev pub long_line : ℕ → List ℕ
-long_line count = counted_line (codes " untaken GLONASS 1012 ") count (codes ": more than a day\n")
+long_line count = ended_count_line (codes " untaken GLONASS 1012 ") count (codes ": more than a day\n")
 
 -- 1012, unless they are taken; they may be left out since they can't be dated
 abbrev pub line_of_1012 : Bool → Accepted → List CaptureSurvey → List ℕ

@@ -124,12 +124,12 @@ has_code_in c (Some p) = get_or p.signals.codes (number_of c) false
 abbrev pub has_code_numbered : ℕ → AnyCode → StationSurvey → Bool
 has_code_numbered number c t = has_code_in c (get nat_cmp t.system_msm number)
 
--- a code of another system than GPS has a value in a message of a station that a conversion takes: an MSM, or a 1012, which
--- has codes of GLONASS alone
+-- a code of another system than GPS has a value in a message of a station that a conversion takes: an MSM, a 1012, which
+-- has codes of GLONASS alone, or a 1004, which has of these the code of SBAS alone
 abbrev pub has_code_beside : System → TakenMessages → AnyCode → StationSurvey → Bool
 has_code_beside system taken c t =
     has_code_numbered (number_of_type (record { system = system; kind = kind_of taken.kinds system })) c t
-    || (taken.obs1012 && has_code_numbered 1012 c t)
+    || ((taken.obs1012 && has_code_numbered 1012 c t) || has_code_numbered 1004 c t)
 
 -- a code of a system has a value in a message of a station that a conversion takes
 abbrev pub has_code_by : System → TakenMessages → AnyCode → StationSurvey → Bool

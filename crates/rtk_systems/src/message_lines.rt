@@ -82,7 +82,7 @@ fn put_unread_gps(
 
 // Appends a line of words, a count and an end, if the count is not 0.
 fn put_counted(lines: &mut Vec<u8>, words: &[u8], count: u64, end: &[u8]) -> Result<(), AllocError>
-    ensures { OnOk result (lines.new.items ≡ lines.old.items ++ spec.counted_line words.now count end.now) }
+    ensures { OnOk result (lines.new.items ≡ lines.old.items ++ spec.ended_count_line words.now count end.now) }
 {
     if count == 0 {
         return Ok(());
