@@ -43,7 +43,8 @@ IsEmptyCause station cs skip_empty other = ⊥
 abbrev pub has_several_dates : StationCapture → Bool
 has_several_dates c = nat_lt 1 c.dates
 
--- a capture is dated by the week of a 1019; or by the day of a 1013 or 1029
+-- a capture is dated by the week of a 1019, which means several; or by the day of a 1013 or 1029, or the week of a 1042,
+-- 1045 or 1046, which mean one
 abbrev pub is_dated_by_week : StationCapture → Bool
 is_dated_by_week c = option_map_or (λ t. has_week t.message) c.told false
 

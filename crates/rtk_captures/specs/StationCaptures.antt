@@ -1,7 +1,7 @@
 -- What a capture tells of a station, by its survey (this project's rule).
 use Rattle.std.specs.Prelude.{ℕ, ◌+◌, ◌-◌, ◌==◌, Bool, false, is_some, min, List, [], ◌∷◌, length, Option, None, Some, unwrap_or, if◌then◌else◌}
 use Rattle.rtk_survey.specs.Contents.{station_in}
-use Rattle.rtk_survey.specs.CaptureDates.{no_dates, counting, is_own, own_moment_of}
+use Rattle.rtk_survey.specs.CaptureDates.{no_dates, do_system_weeks_decide, counting, is_own, own_moment_of}
 use Rattle.rtk_survey.specs.Parting.{parted_frame}
 use Rattle.rtk_survey.specs.Targets.{all_dating, has_dated_observation}
 use Rattle.rtk_survey.specs.declared.capture_dates.CaptureDates.{CaptureDates}
@@ -82,9 +82,10 @@ beside_others [] [] others = []
 beside_others [] (x ∷ xs) others = others
 beside_others (x ∷ xs) weeks others = others
 
--- the first epochs that ephemerides, and those that other stations tell and that do not count
+-- the first epochs that ephemerides of GPS, and those that other stations tell and that do not count; ephemerides of other
+-- systems may tell that the week of GPS is an earlier one
 abbrev pub weeks_passed_over : Tellings → List Told
-weeks_passed_over t = beside_own t.own.items t.weeks.items
+weeks_passed_over t = if do_system_weeks_decide t then t.weeks.items else beside_own t.own.items t.weeks.items
 
 abbrev pub others_passed_over : Tellings → List Told
 others_passed_over t = beside_others t.own.items t.weeks.items t.others.items

@@ -15,14 +15,17 @@ all_waiting c [] = c
 all_waiting c (d ∷ ds) = all_waiting (with_waiting c d) ds
 
 -- what messages tell, by the present, of an epoch of a station at a time of week that is the only one, and came after them
-abbrev pub dates_at : ℕ → ℕ → ℕ → List DateMessage → CaptureDates
-dates_at now station tow ds = with_epoch_time now station (all_waiting no_dates ds) tow
+abbrev pub dates_at : ℕ → ℕ → ℕ → List DateMessage → List DateMessage → CaptureDates
+dates_at now station tow ds weeks = with_epoch_time now station (all_waiting (all_waiting no_dates ds) weeks) tow
 
 -- the messages of a capture that wait for an epoch: none does once one came, so these are of a capture without one; no other
 -- station is known in it
 abbrev pub dates_waiting : ℕ → ℕ → Option TargetSurvey → CaptureDates
 dates_waiting n tow None = no_dates
-dates_waiting n tow (Some t) = if unwrap_or t.dates.station n == n then dates_at t.present n tow t.dates.capture.waiting.items else no_dates
+dates_waiting n tow (Some t) =
+    if unwrap_or t.dates.station n == n
+    then dates_at t.present n tow t.dates.capture.waiting.items t.dates.capture.waiting_weeks.items
+    else no_dates
 
 -- a capture that has nothing of the station tells nothing of it
 abbrev pub dates_if_heard : Bool → CaptureDates → CaptureDates

@@ -154,6 +154,7 @@ fn source_of_message(message: DateMessage, station: u16) -> DateSource
         DateMessage::Utc(date) if date.station == station => DateSource::Station(date.number),
         DateMessage::Utc(date) => DateSource::OtherStation(date.number, date.station),
         DateMessage::Ephemeris(_) => DateSource::Ephemerides,
+        DateMessage::OtherEphemeris(date) => DateSource::OtherEphemerides(date.number),
     }
 }
 
@@ -213,7 +214,8 @@ fn message_that_names(
 {
     let own = first_of_moments(captures, least, NamedBy::Own, first);
     let week = first_of_moments(captures, least, NamedBy::Week, own);
-    first_of_moments(captures, least, NamedBy::Any, week)
+    let day = first_of_moments(captures, least, NamedBy::Day, week);
+    first_of_moments(captures, least, NamedBy::Any, day)
 }
 
 fn source_if_any(message: Option<DateMessage>, station: u16) -> DateSource

@@ -27,6 +27,8 @@ pub(crate) enum NamedBy {
     Own,
     /// By 1019.
     Week,
+    /// By 1013 and 1029 of whatever station.
+    Day,
     /// By whatever message.
     Any,
 }
@@ -48,13 +50,23 @@ fn least_first(captures: &[StationCapture]) -> Option<GpsMs>
     least
 }
 
-/// Does a message tell the week alone?
+/// Does a message tell a week that means several?
 pub(crate) fn has_week(message: DateMessage) -> bool
     ensures { result ≡ spec.has_week message }
 {
     match message {
-        DateMessage::Utc(_) => false,
+        DateMessage::Utc(_) | DateMessage::OtherEphemeris(_) => false,
         DateMessage::Ephemeris(_) => true,
+    }
+}
+
+// Does a message tell a day?
+fn has_day(message: DateMessage) -> bool
+    ensures { result ≡ spec.has_day message }
+{
+    match message {
+        DateMessage::Utc(_) => true,
+        DateMessage::Ephemeris(_) | DateMessage::OtherEphemeris(_) => false,
     }
 }
 
@@ -63,6 +75,15 @@ fn is_named_by_week(moment: Option<Told>) -> bool
 {
     match moment {
         Some(told) => has_week(told.message),
+        None => false,
+    }
+}
+
+fn is_named_by_day(moment: Option<Told>) -> bool
+    ensures { result ≡ spec.is_named_by_day moment }
+{
+    match moment {
+        Some(told) => has_day(told.message),
         None => false,
     }
 }
@@ -80,6 +101,7 @@ pub(crate) fn moment_named(named: NamedBy, capture: &StationCapture) -> Option<T
     match named {
         NamedBy::Own => moment_if(capture.is_own_moment, capture.moment),
         NamedBy::Week => moment_if(is_named_by_week(capture.moment), capture.moment),
+        NamedBy::Day => moment_if(is_named_by_day(capture.moment), capture.moment),
         NamedBy::Any => capture.moment,
     }
 }
@@ -104,15 +126,16 @@ fn or_moment(first: Option<GpsMs>, other: Option<GpsMs>) -> Option<GpsMs>
     }
 }
 
-// The least moment that captures without an epoch name: by messages of the station, if they name none by 1019, and
-// else by messages of other stations.
+// The least moment that captures without an epoch name: by messages of the station, if they name none by 1019, if
+// none by messages of other stations, and else by 1042, 1045 and 1046.
 fn least_moment(captures: &[StationCapture]) -> Option<GpsMs>
     ensures { result ≡ spec.least_moment captures.now }
 {
     let own = least_of_moments(captures, NamedBy::Own);
     let week = least_of_moments(captures, NamedBy::Week);
+    let day = least_of_moments(captures, NamedBy::Day);
     let any = least_of_moments(captures, NamedBy::Any);
-    or_moment(own, or_moment(week, any))
+    or_moment(own, or_moment(week, or_moment(day, any)))
 }
 
 /// The least first epoch that captures tell; if none tells one, the least moment that captures without an

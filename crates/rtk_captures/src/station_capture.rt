@@ -134,10 +134,14 @@ pub(crate) fn told_in(station: u16, survey: &CaptureSurvey) -> &[Told]
     }
 }
 
-/// The first epochs that 1019 tell and that do not count, since 1013 or 1029 of the station tell some.
+/// The first epochs that 1019 tell and that do not count, since 1013 or 1029 of the station tell some, or since 1042, 1045
+/// or 1046 tell an earlier week.
 pub fn weeks_passed_over(told: &Tellings) -> &[Told]
     ensures { result.now ≡ spec.weeks_passed_over told.now }
 {
+    if told.do_system_weeks_decide() {
+        return told.weeks.as_slice();
+    }
     if told.own.is_empty() {
         return &[];
     }
@@ -188,7 +192,7 @@ fn is_own(station: u16, message: DateMessage) -> bool
 {
     match message {
         DateMessage::Utc(date) => date.station == station,
-        DateMessage::Ephemeris(_) => false,
+        DateMessage::Ephemeris(_) | DateMessage::OtherEphemeris(_) => false,
     }
 }
 

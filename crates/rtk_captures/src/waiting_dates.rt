@@ -7,14 +7,28 @@ use crate::station_capture::is_heard;
 use rtk_obs::{GpsMs, WEEK_MS};
 use rtk_survey::{CaptureDates, CaptureSurvey, DateMessage, TargetSurvey};
 
-// What messages tell of an epoch of a station that is the only one, and came after them, by its time of week.
-fn dates_at(now: GpsMs, station: u16, tow: u32, messages: &[DateMessage]) -> CaptureDates
-    ensures { result ≡ spec.dates_at now station tow messages.now }
+// Messages that wait for the first epoch.
+fn wait_with_all(dates: &mut CaptureDates, messages: &[DateMessage])
+    ensures { dates.new ≡ spec.all_waiting dates.old messages.now }
 {
-    let mut dates = CaptureDates::new();
     for message in messages {
         dates.wait(*message);
     }
+}
+
+// What messages tell of an epoch of a station that is the only one, and came after them, by its time of week.
+fn dates_at(
+    now: GpsMs,
+    station: u16,
+    tow: u32,
+    messages: &[DateMessage],
+    weeks: &[DateMessage],
+) -> CaptureDates
+    ensures { result ≡ spec.dates_at now station tow messages.now weeks.now }
+{
+    let mut dates = CaptureDates::new();
+    wait_with_all(&mut dates, messages);
+    wait_with_all(&mut dates, weeks);
     dates.take_epoch(now, station, tow);
     dates
 }
@@ -26,7 +40,8 @@ fn dates_waiting(station: u16, tow: u32, target: &Option<TargetSurvey>) -> Captu
     match target {
         Some(target) if target.dates.station.unwrap_or(station) == station => {
             let waiting = target.dates.capture.waiting.as_slice();
-            dates_at(target.present, station, tow, waiting)
+            let weeks = target.dates.capture.waiting_weeks.as_slice();
+            dates_at(target.present, station, tow, waiting, weeks)
         }
         _ => CaptureDates::new(),
     }

@@ -44,7 +44,7 @@ use Rattle.rtk_plan.specs.declared.known_lines.Known.{Known}
 use Rattle.rtk_plan.specs.declared.planning.Plan.{Plan}
 use Rattle.rtk_plan.specs.declared.reported.Reported.{Reported}
 use Rattle.rtk_captures.specs.declared.span_line.DateSource.{DateSource}
-use Rattle.rtk_captures.specs.declared.span_line.DateSource.TheVariants.{Words, Station, OtherStation, Ephemerides}
+use Rattle.rtk_captures.specs.declared.span_line.DateSource.TheVariants.{Words, Station, OtherStation, Ephemerides, OtherEphemerides}
 use Rattle.rtk_captures.specs.declared.station_capture.StationCapture.{StationCapture}
 use Rattle.rtk_plan.specs.declared.written_file.Step.{Step}
 use Rattle.rtk_plan.specs.declared.written_file.WrittenFile.{WrittenFile}
@@ -125,6 +125,7 @@ undated_lines Words names cs = []
 undated_lines (Station number) names cs = all_undated names cs
 undated_lines (OtherStation number station) names cs = all_undated names cs
 undated_lines Ephemerides names cs = all_undated names cs
+undated_lines (OtherEphemerides number) names cs = all_undated names cs
 
 -- formula
 -- a code whose satellites have more than twice as many phases in another one

@@ -260,7 +260,10 @@ pub(crate) fn put_undated(
 {
     match plan.span.source {
         DateSource::Words => Ok(()),
-        DateSource::Station(_) | DateSource::OtherStation(_, _) | DateSource::Ephemerides => {
+        DateSource::Station(_)
+        | DateSource::OtherStation(_, _)
+        | DateSource::Ephemerides
+        | DateSource::OtherEphemerides(_) => {
             put_all_undated(lines, captures, plan.captures.as_slice())
         }
     }

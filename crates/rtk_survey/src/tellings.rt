@@ -157,8 +157,8 @@ impl Tellings {
         }
     }
 
-    // Does a 1042, 1045 or 1046 tell that the week of a 1019 is an earlier one than the latest?
-    fn do_system_weeks_decide(&self) -> bool
+    /// Does a 1042, 1045 or 1046 tell that the week of a 1019 is an earlier one than the latest?
+    pub fn do_system_weeks_decide(&self) -> bool
         ensures { result ≡ do_system_weeks_decide self.now }
     {
         let weeks = self.weeks.as_slice();

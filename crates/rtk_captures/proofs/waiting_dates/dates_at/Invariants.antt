@@ -1,7 +1,0 @@
-use Rattle.std.proofs.Common.{◌≡◌, drop}
-use Rattle.rtk_survey.specs.CaptureDates.{no_dates}
-use Rattle.rtk_captures.specs.WaitingDates.{all_waiting}
-use Rattle.rtk_captures.proofs.waiting_dates.dates_at.Given as goal
-
-abbrev pub invariant-loop-message : goal.invariant-loop-message
-invariant-loop-message l = all_waiting l.dates (drop l.message-index l.messages) ≡ all_waiting no_dates l.messages
