@@ -106,6 +106,7 @@ CAPTURES = {
     "by_other": date(43_200, station=7) + epochs(NOON),
     "passed_over": date(43_200, 60_500) + date(43_200, 40_000) + date(86_401) + week(10, 604_784) + epochs(10),
     "with_sbas": date(43_200) + epochs(NOON, satellites=(5, 40)) + epochs(NOON + 1, satellites=(58, 5)) + epochs(NOON + 2),
+    "sbas_alone": date(43_200) + epochs(NOON, satellites=(40,)),
     "without_sbas": date(43_200) + epochs(NOON, satellites=(39, 5, 59)),
     # an epoch two days after the others, and one that is a day and a ms after them, or a ms less
     "astray": date(43_200) + epochs(NOON, NOON + 172_800, NOON + 2),
