@@ -292,8 +292,20 @@ finds only_null "$two 1013" "$one_command only_null" '4 2 0 0 2 0 0 0 2' 0 one.r
 finds unfit "$two 1013" "$one_command unfit$(labelled " --antenna-type GPPNULLANTENNAS --antenna-number blank --receiver-number --'it'\\''s'")" '4 2 0 0 2 0 0 0 2' 0 one.rnx \
     ' not-in-label receiver-type has more than 20 characters: of 21 characters here\n not-in-label receiver-version has characters that are no printable ASCII: tab\\x09'
 finds padded "$two 1013" "$one_command padded$(labelled " --antenna-type 'TRM55971.00     NONE' --antenna-number 144 --receiver-type 'TRIMBLE NETR9' --receiver-number 5148K72868")" '4 2 0 0 2 0 0 0 2' 0 one.rnx
+# Satellites of SBAS in a 1004 are taken, unless their system is not asked for. A 1004 that has no other dates those of SBAS.
+finds with_sbas "$noon until 2024-05-17T12:00:02 by 1013" "$(command $noon 1C,2W,S1C) with_sbas" '4 1 0 0 3 0 0 0 3' 0 ''
 # pins: Sbas.is_sbas, sbas_line
-finds with_sbas "$noon until 2024-05-17T12:00:02 by 1013" "$one_command with_sbas" '4 1 0 0 3 0 0 0 3' 0 '' ' not in the file: SBAS of 1004, 2 messages'
+finds '--systems G with_sbas' "$noon until 2024-05-17T12:00:02 by 1013" "$one_command with_sbas" '4 1 0 0 3 0 0 0 3' 0 '' ' not in the file: SBAS of 1004, 2 messages'
+finds sbas_alone "$noon until $noon by 1013" "$(command $noon S1C) sbas_alone" '2 1 0 0 1 0 0 0 1' 0 ''
+finds '--systems S sbas_alone' "$noon until $noon by 1013" "$(command $noon S1C) sbas_alone" '2 1 0 0 1 0 0 0 1' 0 ''
+auto --systems G sbas_alone
+expect sbas_alone_of_gps 3 '' 'rtcm2rinex: the captures have no GPS observations that are read
+ holds GPS 1004, 1 messages'
+# summary of SBAS in a 1004: its satellites and its code, also in the command
+"$program" summary with_sbas | grep -E '^ (satellites|codes|unchecked|next)' >told
+printf ' %s\n' 'satellites G05 G07 S20 S38' 'codes 1C,2W,S1C' \
+    "next rtcm2rinex convert --station 2003 --near $noon --made \"\$(date -u +%FT%T)\" --marker 2003 --codes 1C,2W,S1C with_sbas" >want
+same summary_of_sbas told want
 finds without_sbas "$noon until $noon by 1013" "$one_command without_sbas" '2 1 0 0 1 0 0 0 1' 0 ''
 # pins: next_before, is_stray, stray_line
 finds astray "$noon until 2024-05-19T12:00:00 by 1013" "$one_command astray" '4 1 0 0 3 0 0 0 3' 0 '' \

@@ -116,6 +116,7 @@ CAPTURES = {
     "sixteen_weeks": ONE + b"".join(date(43_200, 60_440 - 7 * it, 7) for it in range(16)),
     "to_come": date(43_200, 60_500) + epochs(NOON + 2),
     "with_sbas": date(43_200) + epochs(NOON, satellites=(5, 40)) + epochs(NOON + 1, satellites=(58, 5)) + epochs(NOON + 2),
+    "sbas_alone": date(43_200) + epochs(NOON, satellites=(40,)),
     "without_sbas": date(43_200) + epochs(NOON, satellites=(39, 5, 59)),
     # an epoch two days after the others, and one that is a day and a ms after them, or a ms less
     "astray": date(43_200) + epochs(NOON, NOON + 172_800, NOON + 2),
