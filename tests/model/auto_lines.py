@@ -177,7 +177,8 @@ def source_of(found: Found, asked: Asked, epochs: list[int]) -> str:
         first = min(epochs, default=found.near)
         others = [f"{civil(at):%Y-%m-%d}" for at in (first - 1024 * WEEK_MS, first + 1024 * WEEK_MS) if 0 <= at <= LAST_MADE + 999]
         return f"1019 (or {', '.join(others)})"
-    return str(found.by["number"]) + (f" of station {found.by['station']}" if found.by["station"] != found.station else "")
+    station = found.by.get("station", found.station)
+    return str(found.by["number"]) + (f" of station {station}" if station != found.station else "")
 
 
 # pins: all_slots, said_channel, said_channels, leap_option, systems_in_order, kinds_or, kind_digit, first_and_exceptions, msm_option_text

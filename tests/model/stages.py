@@ -36,5 +36,7 @@ JOINS_CHANNELS = True
 COUNTS_CUT_SHORT = False
 # A slot of GLONASS counts if it has a value of a listed code; else if it has a value of any code.
 LISTED_SLOTS = False
+# 1042, 1045 and 1046 date where nothing else does, and end the choice between the weeks of a 1019.
+DATES_BY_SYSTEMS = True
 # The words of `auto` beside those that it has for GPS.
 WORDS = ("--msm", "--codes", "--systems", "--channels", "--leap-seconds")
