@@ -25,7 +25,7 @@ CONVERTS_1012 = True
 CONVERTS_SBAS = True
 # `summary` and `auto` find 1012, MSM of GLONASS that do not know the day, and satellites of SBAS of a 1004.
 FINDS_1012 = True
-FINDS_SBAS = False
+FINDS_SBAS = True
 # `auto` converts 1012 where the epochs allow a reference.
 TAKES_1012 = True
 # 1004 that are not converted have a line.
@@ -34,5 +34,7 @@ TELLS_1004 = True
 JOINS_CHANNELS = True
 # A slot of GLONASS counts if it has a value of a listed code; else if it has a value of any code.
 LISTED_SLOTS = False
+# 1042, 1045 and 1046 date where nothing else does, and end the choice between the weeks of a 1019.
+DATES_BY_SYSTEMS = True
 # The words of `auto` beside those that it has for GPS.
 WORDS = ("--msm", "--codes", "--systems", "--channels", "--leap-seconds")

@@ -56,6 +56,9 @@ CAPTURES = {
     "one": ONE,
     "one.nmea": b"$GPGGA,120000,,,,,0*4A\r\n".join((b"", date(43_200), epochs(NOON), epochs(NOON + 1), b"")),
     "nmea": b"$GPGGA,120000,,,,,0*4A\r\n",
+    # a frame of 46 bytes whose last byte is another one, and one of 25 bytes without its last five
+    "bad_frame": ONE[:-1] + bytes([ONE[-1] ^ 1]),
+    "cut_place": capture(point(1005)) + capture(point(1005))[:-5],
     "empty": b"",
     "zip": b"PK\3\4",
     "sbf": b"$@\x12\x34\xAB\x0F",
@@ -79,6 +82,9 @@ CAPTURES = {
     "unread": b"".join(
         unread(it)
         for it in (1001, *[1003] * 12, 1072, 1009, 1012, *range(1081, 1132, 10), *range(1087, 1138, 10))),
+    # a 1004 and MSM of GPS that end behind their numbers
+    "short_msm": ONE + unread(1077) + unread(1076) + unread(1077),
+    "only_short": unread(1004) + unread(1077) + unread(1077),
     # numbers that no message has
     "reserved": b"".join(frame_of((it << 4).to_bytes(2, "big")) for it in range(1080, 1139) if it % 10 in (8, 9, 0)),
     "differ": ONE + date(43_202, 60_440) + week(10, NOON),
@@ -105,7 +111,12 @@ CAPTURES = {
     "early_week": week(2, 0) + epochs(60),
     "by_other": date(43_200, station=7) + epochs(NOON),
     "passed_over": date(43_200, 60_500) + date(43_200, 40_000) + date(86_401) + week(10, 604_784) + epochs(10),
+    # dates of another station, each a week before the one that is told before it
+    "fifteen_weeks": ONE + b"".join(date(43_200, 60_440 - 7 * it, 7) for it in range(15)),
+    "sixteen_weeks": ONE + b"".join(date(43_200, 60_440 - 7 * it, 7) for it in range(16)),
+    "to_come": date(43_200, 60_500) + epochs(NOON + 2),
     "with_sbas": date(43_200) + epochs(NOON, satellites=(5, 40)) + epochs(NOON + 1, satellites=(58, 5)) + epochs(NOON + 2),
+    "sbas_alone": date(43_200) + epochs(NOON, satellites=(40,)),
     "without_sbas": date(43_200) + epochs(NOON, satellites=(39, 5, 59)),
     # an epoch two days after the others, and one that is a day and a ms after them, or a ms less
     "astray": date(43_200) + epochs(NOON, NOON + 172_800, NOON + 2),
@@ -117,6 +128,9 @@ CAPTURES = {
     "dated_place": date(43_260) + place(),
     "old_place": date(43_200, 60_300) + place(),
     "week_place": week(2314 % 1024, NOON) + place(),
+    # a date of another station a week before; and two dates of the station, of which the earlier one comes last
+    "other_place": date(43_200, 60_440, 7) + place(),
+    "two_places": date(43_200, 60_454) + date(43_200) + place(),
     "stray": date(43_200) + epochs(NOON) + cell_of(NOON, 1077) + cell_of(NOON, 1074) + cell_of(NOON + 1, 1074),
     "of_1077": date(43_200) + cell_of(NOON, 1077) + cell_of(NOON + 1, 1077),
     # three epochs of 1074 at the time of these two, and two of 1077 after them

@@ -7,7 +7,7 @@ ghost use Rattle.rtk_systems.specs.MessageLines as spec;
 
 use crate::held_messages::{
     all_1012_in_captures, held_in_captures, messages_in_captures, obs_1004_in_captures,
-    others_in_captures, sbas_in_captures,
+    others_in_captures, sbas_in_captures, with_refused,
 };
 use rtk_message::{Accepted, MsmKind, put_named};
 use rtk_survey::CaptureSurvey;
@@ -82,7 +82,7 @@ fn put_unread_gps(
 
 // Appends a line of words, a count and an end, if the count is not 0.
 fn put_counted(lines: &mut Vec<u8>, words: &[u8], count: u64, end: &[u8]) -> Result<(), AllocError>
-    ensures { OnOk result (lines.new.items ≡ lines.old.items ++ spec.counted_line words.now count end.now) }
+    ensures { OnOk result (lines.new.items ≡ lines.old.items ++ spec.ended_count_line words.now count end.now) }
 {
     if count == 0 {
         return Ok(());
@@ -216,18 +216,20 @@ pub fn put_unread(
     Ok(())
 }
 
-// Appends the line of a number of which a station has so many messages, unless it is taken.
+// Appends the line of a number of which a station has so many messages that are read, unless it is taken.
 fn put_msm_numbered(
     lines: &mut Vec<u8>,
+    surveys: &[CaptureSurvey],
     taken: Accepted,
     number: u16,
-    count: u64,
+    read: u64,
 ) -> Result<(), AllocError>
-    ensures { OnOk result (lines.new.items ≡ lines.old.items ++ spec.msm_line_of taken number count) }
+    ensures { OnOk result (lines.new.items ≡ lines.old.items ++ spec.msm_line_of taken surveys.now number read) }
 {
     if taken.accepts(number) {
         return Ok(());
     }
+    let count = with_refused(surveys, number, read);
     put_count_line(lines, b" not in the file: GPS ", number, count)
 }
 
@@ -242,7 +244,7 @@ fn put_msm(
     ensures { OnOk result (lines.new.items ≡ lines.old.items ++ spec.msm_line taken surveys.now station msm) }
 {
     let count = messages_in_captures(surveys, station, msm);
-    put_msm_numbered(lines, taken, msm.number(), count)?;
+    put_msm_numbered(lines, surveys, taken, msm.number(), count)?;
     Ok(())
 }
 
