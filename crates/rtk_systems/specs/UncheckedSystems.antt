@@ -1,5 +1,5 @@
 -- The systems whose clocks no chain compares with that of another system (this project's rule).
-use Rattle.std.specs.Prelude.{ℕ, ◌==◌, Bool, true, false, not, ◌&&◌, ◌||◌, is_some, List, [], ◌∷◌, ◌++◌, flat_map, codes, Option, None, Some, if◌then◌else◌}
+use Rattle.std.specs.Prelude.{ℕ, ◌==◌, Bool, true, false, not, ◌&&◌, ◌||◌, nat_lt, is_some, List, [], ◌∷◌, ◌++◌, flat_map, codes, Option, None, Some, if◌then◌else◌}
 use Rattle.std.specs.BTreeMap.{get}
 use Rattle.std.specs.List.{list_any}
 use Rattle.std.specs.Ordering.{nat_cmp}
@@ -46,9 +46,16 @@ has_1012 t = is_some (get nat_cmp t.system_msm 1012)
 abbrev pub sends_beside : System → StationSurvey → Bool
 sends_beside system t = list_any (has_msm system t) kinds_in_order || (is_glonass_system system && has_1012 t)
 
+-- table
+-- a message with the clock of GPS came: a 1004 or an MSM
+abbrev pub sends_gps : StationSurvey → Bool
+sends_gps t =
+    nat_lt 0 t.counts.obs_1004
+    || (nat_lt 0 t.msm.msm4.messages || (nat_lt 0 t.msm.msm5.messages || (nat_lt 0 t.msm.msm6.messages || nat_lt 0 t.msm.msm7.messages)))
+
 -- a message with the clock of a system came
 abbrev pub sends_system : System → StationSurvey → Bool
-sends_system system t = if is_gps_system system then is_some t.times.first else sends_beside system t
+sends_system system t = if is_gps_system system then sends_gps t else sends_beside system t
 
 abbrev pub station_sends : System → Option StationSurvey → Bool
 station_sends system None = false

@@ -68,11 +68,20 @@ fn sends_beside(system: System, station: &StationSurvey) -> bool
     has_some_msm(system, station) || (is_glonass_system(system) && has_1012(station))
 }
 
+fn sends_gps(station: &StationSurvey) -> bool
+    ensures { result ≡ spec.sends_gps station.now }
+{
+    0 < station.counts.obs_1004
+        || (0 < station.msm.msm4.messages
+            || (0 < station.msm.msm5.messages
+                || (0 < station.msm.msm6.messages || 0 < station.msm.msm7.messages)))
+}
+
 fn sends_system(system: System, station: &StationSurvey) -> bool
     ensures { result ≡ spec.sends_system system station.now }
 {
     if is_gps_system(system) {
-        station.times.first.is_some()
+        sends_gps(station)
     } else {
         sends_beside(system, station)
     }
