@@ -16,7 +16,7 @@ use Rattle.rtk_survey.specs.declared.survey.CaptureSurvey.{CaptureSurvey}
 use Rattle.rtk_systems.specs.ClockOffsets.{clocks_compared}
 use Rattle.rtk_survey.specs.Contents.{station_in}
 use Rattle.rtk_systems.specs.SystemMsms.{systems_in_order}
-use Rattle.rtk_systems.specs.Values.{is_gps_system}
+use Rattle.rtk_systems.specs.Values.{is_gps_system, is_glonass_system}
 
 -- ---- the systems that a station sends
 
@@ -28,18 +28,7 @@ has_msm system t kind = is_some (get nat_cmp t.system_msm (number_of_type (recor
 abbrev pub kinds_in_order : List MsmKind
 kinds_in_order = Msm4 ∷ Msm5 ∷ Msm6 ∷ Msm7 ∷ []
 
--- table
--- 1012 has the clock of GLONASS
-abbrev pub is_glonass_system : System → Bool
-is_glonass_system Gps = false
-is_glonass_system Glonass = true
-is_glonass_system Galileo = false
-is_glonass_system Beidou = false
-is_glonass_system Qzss = false
-is_glonass_system Sbas = false
-is_glonass_system Navic = false
-
--- a 1012 came
+-- a 1012 came, which has the clock of GLONASS
 abbrev pub has_1012 : StationSurvey → Bool
 has_1012 t = is_some (get nat_cmp t.system_msm 1012)
 

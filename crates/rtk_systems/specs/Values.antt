@@ -35,6 +35,16 @@ is_gps_system Qzss = false
 is_gps_system Sbas = false
 is_gps_system Navic = false
 
+-- table
+abbrev pub is_glonass_system : System → Bool
+is_glonass_system Gps = false
+is_glonass_system Glonass = true
+is_glonass_system Galileo = false
+is_glonass_system Beidou = false
+is_glonass_system Qzss = false
+is_glonass_system Sbas = false
+is_glonass_system Navic = false
+
 -- ---- epochs
 
 abbrev pub no_epochs : Epochs

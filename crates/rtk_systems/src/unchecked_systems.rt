@@ -9,7 +9,7 @@ ghost use Rattle.rtk_systems.specs.UncheckedSystems as spec;
 
 use crate::clock_offsets::clocks_compared;
 use crate::system_msms::{SYSTEMS, system_letter};
-use crate::values::is_gps_system;
+use crate::values::{is_glonass_system, is_gps_system};
 use rtk_message::{MsmKind, MsmType, System};
 use rtk_setup::Setup;
 use rtk_survey::{CaptureSurvey, StationSurvey};
@@ -40,20 +40,6 @@ fn has_some_msm(system: System, station: &StationSurvey) -> bool
     ensures { result ≡ list_any (spec.has_msm system station.now) spec.kinds_in_order }
 {
     KINDS.iter().any(|kind| has_msm(system, station, *kind))
-}
-
-fn is_glonass_system(system: System) -> bool
-    ensures { result ≡ spec.is_glonass_system system }
-{
-    match system {
-        System::Glonass => true,
-        System::Gps
-        | System::Galileo
-        | System::Beidou
-        | System::Qzss
-        | System::Sbas
-        | System::Navic => false,
-    }
 }
 
 fn has_1012(station: &StationSurvey) -> bool

@@ -37,6 +37,21 @@ pub fn is_gps_system(system: System) -> bool
     }
 }
 
+/// Is this GLONASS, whose clocks tell UTC?
+pub(crate) fn is_glonass_system(system: System) -> bool
+    ensures { result ≡ spec.is_glonass_system system }
+{
+    match system {
+        System::Glonass => true,
+        System::Gps
+        | System::Galileo
+        | System::Beidou
+        | System::Qzss
+        | System::Sbas
+        | System::Navic => false,
+    }
+}
+
 // ---- epochs
 
 fn no_epochs() -> Epochs
