@@ -137,7 +137,7 @@ fn put_clocks_in(
         plan.asked,
         surveys,
         station,
-        plan.leap_seconds,
+        &plan.leap_seconds,
     )?;
     put_unchecked(lines, setup, surveys, station)?;
     put_other_leap_in(lines, captures, setup)?;
