@@ -99,7 +99,7 @@ def refusal_pattern(stopped: Stopped, asked: Asked, texts: list[bytes]) -> str:
 
 def stations_text(stations: tuple[object, ...], captures: list[finding.Capture]) -> str:
     """A line for each of these stations and each capture with observations of it, with how many epochs its messages have."""
-    times = {(it, at): [of.header["tow"] for of in capture.of_station(it) if (letter_of(of) or "-") in stages.HEARD]
+    times = {(it, at): [of.header["tow"] for of in capture.of_station(it) if (letter_of(of) or "-") in stages.DATING]
              for it in stations for at, capture in enumerate(captures, 1) if it in capture.observing()}
     return "".join(f" station {it} in {name_of(at - 1)}: {len(list(groupby(of)))} epochs\n" for (it, at), of in times.items())
 

@@ -8,7 +8,7 @@ from collections import Counter
 from datetime import datetime, timedelta
 from itertools import groupby
 
-from chains import Date, clock_lines, is_wrong, offsets_of, week_lines
+from chains import TIMING, Date, clock_lines, is_wrong, offsets_of, week_lines
 from channels import most_told, told_by
 from choosing import DEFAULT_KIND, has_value_of_1012, kind_of, names_shown, numbers_of, slots_shown
 from equipment import Told, equipment_lines, equipment_of
@@ -100,7 +100,7 @@ def station_lines(name: str, station: int, messages: list[Message], dated: list[
     counts = Counter(it.header["number"] for it in messages)
     observations = [it for it in messages if letter_of(it) == GPS.letter]
     others = [it for it in messages if letter_of(it) not in (None, GPS.letter)]
-    times = [it.header["tow"] for it in observations]
+    times = [it.header["tow"] for it in messages if (letter_of(it) or "-") in TIMING]
     shown = [entry for it in observations for entry in entries_of(it)]
     found = {satellite for it in messages for satellite, _ in shown_in(it)}
     names = {name for it in messages for name in names_in(it)}
