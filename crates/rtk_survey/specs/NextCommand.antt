@@ -59,7 +59,7 @@ abbrev pub is_time_near_if_any : ℕ → Option ℕ → Bool
 is_time_near_if_any near None = false
 is_time_near_if_any near (Some tow) = is_time_near near tow
 
--- 1012, which tell no day, are dated right near a date: the first and the last time of week of GPS lie within half a day of it
+-- 1012, which tell no day, are dated right near a date: the first and the last GPS time of week lie within half a day of it
 abbrev pub dates_1012 : Option UtcDate → Option ℕ → Option ℕ → Bool
 dates_1012 None first last = false
 dates_1012 (Some d) first last = is_time_near_if_any (moment_of d) first && is_time_near_if_any (moment_of d) last

@@ -47,7 +47,7 @@ pub struct MessageCounts {
 #[derive(Drop)]
 pub struct StationSurvey {
     pub counts: MessageCounts,
-    /// The times of week of its observation messages of GPS.
+    /// The times of week of its observation messages of GPS, Galileo, QZSS, SBAS and NavIC.
     pub times: Times,
     /// The satellites and codes of GPS that have a value.
     pub signals: Signals,

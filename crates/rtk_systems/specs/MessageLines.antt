@@ -7,7 +7,7 @@ use Rattle.rtk_message.specs.declared.msm_kind.MsmKind.TheVariants.{Msm4, Msm5, 
 use Rattle.rtk_message.specs.Accepted.{accepts}
 use Rattle.rtk_message.specs.Systems.{number_of_kind}
 use Rattle.rtk_survey.specs.declared.survey.CaptureSurvey.{CaptureSurvey}
-use Rattle.rtk_systems.specs.Values.{held_in_captures, messages_in_captures, obs_1004_in_captures, others_in_captures, sbas_in_captures, with_refused}
+use Rattle.rtk_systems.specs.Values.{all_1012_in_captures, held_in_captures, messages_in_captures, obs_1004_in_captures, others_in_captures, sbas_in_captures, with_refused}
 
 -- formula
 -- words, a message number and its count; a count of 0 has no line
@@ -39,10 +39,15 @@ ended_count_line words count end = if count == 0 then [] else words ++ decimal c
 abbrev pub long_line : ℕ → List ℕ
 long_line count = ended_count_line (codes " untaken GLONASS 1012 ") count (codes ": more than a day\n")
 
--- 1012, unless they are taken; they may be left out since they can't be dated
+-- formula
+-- 1012, unless they are taken
+abbrev pub untaken_1012_line : Accepted → List CaptureSurvey → List ℕ
+untaken_1012_line taken ss =
+    if accepts taken 1012 then [] else count_line_of (codes " not in the file: GLONASS ") 1012 (all_1012_in_captures ss)
+
+-- the same; they may be left out since they can't be dated
 abbrev pub line_of_1012 : Bool → Accepted → List CaptureSurvey → List ℕ
-line_of_1012 is_long taken ss =
-    if is_long then long_line (others_in_captures ss 1012) else unread_line (codes " not in the file: GLONASS ") taken ss 1012
+line_of_1012 is_long taken ss = if is_long then long_line (all_1012_in_captures ss) else untaken_1012_line taken ss
 
 -- table
 -- observations of GLONASS by themselves: 1009 to 1012

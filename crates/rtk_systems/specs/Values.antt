@@ -226,6 +226,10 @@ refused_in_captures ss number = shown_count (sum_by (refused_in_capture number) 
 abbrev pub with_refused : List CaptureSurvey → ℕ → ℕ → ℕ
 with_refused ss number count = shown_count (count + refused_in_captures ss number)
 
+-- how many 1012 captures have, whether they are read or not
+abbrev pub all_1012_in_captures : List CaptureSurvey → ℕ
+all_1012_in_captures ss = with_refused ss 1012 (others_in_captures ss 1012)
+
 -- table
 -- how many messages of a number that is read a station has
 abbrev pub read_of_station : ℕ → StationSurvey → ℕ

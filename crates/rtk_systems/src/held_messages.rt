@@ -145,6 +145,13 @@ pub(crate) fn with_refused(surveys: &[CaptureSurvey], number: u16, count: u64) -
     count.saturating_add(refused_in_captures(surveys, number))
 }
 
+/// How many 1012 captures have, whether they are read or not.
+pub(crate) fn all_1012_in_captures(surveys: &[CaptureSurvey]) -> u64
+    ensures { result ≡ spec.all_1012_in_captures surveys.now }
+{
+    with_refused(surveys, 1012, others_in_captures(surveys, 1012))
+}
+
 // How many messages of a number that is read captures have of a station.
 fn read_of_station(number: u16, station: &StationSurvey) -> u64
     ensures { result ≡ spec.read_of_station number station.now }

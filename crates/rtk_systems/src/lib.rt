@@ -10,7 +10,7 @@
 //! use rtk_obs::AnyCode;
 //! use rtk_setup::SystemKinds;
 //! use rtk_survey::survey_capture;
-//! use rtk_systems::{SystemFlags, codes_in_captures};
+//! use rtk_systems::{SystemFlags, TakenMessages, codes_in_captures};
 //! use std::alloc::{AllocError, Global};
 //!
 //! // A frame with a 1004 of station 2003, with values of one satellite in C/A code.
@@ -22,8 +22,11 @@
 //!     let Ok(survey) = survey_capture(alloc, &mut capture, None, 100) else {
 //!         return Ok(false);
 //!     };
-//!     let kinds = SystemKinds::all(MsmKind::Msm4);
-//!     let codes = codes_in_captures(alloc, &[survey], 2003, SystemFlags::ALL, kinds)?;
+//!     let taken = TakenMessages {
+//!         kinds: SystemKinds::all(MsmKind::Msm4),
+//!         obs1012: false,
+//!     };
+//!     let codes = codes_in_captures(alloc, &[survey], 2003, SystemFlags::ALL, taken)?;
 //!     Ok(codes.as_slice() == [AnyCode::G1C].as_slice())
 //! }
 //! ```

@@ -6,8 +6,8 @@ ghost use Rattle.std.specs.Prelude.{◌≡◌, ◌≤◌, ◌+◌, ◌++◌, IfO
 ghost use Rattle.rtk_systems.specs.MessageLines as spec;
 
 use crate::held_messages::{
-    held_in_captures, messages_in_captures, obs_1004_in_captures, others_in_captures,
-    sbas_in_captures, with_refused,
+    all_1012_in_captures, held_in_captures, messages_in_captures, obs_1004_in_captures,
+    others_in_captures, sbas_in_captures, with_refused,
 };
 use rtk_message::{Accepted, MsmKind, put_named};
 use rtk_survey::CaptureSurvey;
@@ -104,6 +104,21 @@ fn put_long(lines: &mut Vec<u8>, count: u64) -> Result<(), AllocError>
 }
 
 // Appends the line of 1012, unless they are taken.
+fn put_untaken_1012(
+    lines: &mut Vec<u8>,
+    surveys: &[CaptureSurvey],
+    taken: Accepted,
+) -> Result<(), AllocError>
+    ensures { OnOk result (lines.new.items ≡ lines.old.items ++ spec.untaken_1012_line taken surveys.now) }
+{
+    if taken.accepts(1012) {
+        return Ok(());
+    }
+    let count = all_1012_in_captures(surveys);
+    put_count_line(lines, b" not in the file: GLONASS ", 1012, count)
+}
+
+// Appends the line of 1012, which may be left out since they can't be dated.
 fn put_1012(
     lines: &mut Vec<u8>,
     surveys: &[CaptureSurvey],
@@ -113,9 +128,9 @@ fn put_1012(
     ensures { OnOk result (lines.new.items ≡ lines.old.items ++ spec.line_of_1012 is_long taken surveys.now) }
 {
     if is_long {
-        put_long(lines, others_in_captures(surveys, 1012))
+        put_long(lines, all_1012_in_captures(surveys))
     } else {
-        put_unread_line(lines, surveys, b" not in the file: GLONASS ", taken, 1012)
+        put_untaken_1012(lines, surveys, taken)
     }
 }
 

@@ -7,7 +7,7 @@ use Rattle.rtk_systems.specs.SlotChannels.{AreSecondsChosen}
 use Rattle.rtk_captures.specs.CaptureCauses.{AreTooMany}
 use Rattle.rtk_survey.specs.Surveys.{places_of}
 use Rattle.rtk_captures.specs.Linking.{AreLinksOf}
-use Rattle.rtk_captures.specs.Dating.{IsInReach, IsNearOf, captures_of}
+use Rattle.rtk_captures.specs.Dating.{IsInReach, IsNearOf}
 use Rattle.rtk_captures.specs.declared.refusal.Refusal.{Refusal}
 use Rattle.rtk_captures.specs.declared.refusal.Refusal.TheVariants.{NoCode, OutsideDates}
 use Rattle.rtk_captures.specs.declared.station_capture.StationCapture.{StationCapture}
