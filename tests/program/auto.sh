@@ -71,6 +71,7 @@ done 3<<'ROWS'
 3|as_great|a capture tells two dates; part it, or choose one by --near\n 2024-05-17T12:00:02 by 1013 of station 2003 in as_great\n 2024-05-24T12:00:02 by 1013 of station 2003 in as_great\n as_great: the second date begins at byte 107; these commands part it there:\nhead -c 107 as_great >as_great.1\ntail -c +108 as_great >as_great.2
 3|two_before|the captures tell dates that differ; choose one by --near\n 2024-05-17T12:00:00 by 1013 of station 2003 in two_before\n 2024-05-24T12:00:00 by 1013 of station 2003 in two_before
 3|weeks|the captures tell dates that differ; choose one by --near\n 2024-05-17T12:00:00 by 1019 in weeks\n 2024-05-10T12:00:00 by 1019 in weeks
+3|two_system_weeks|the captures tell dates that differ; choose one by --near\n 2024-05-17T12:00:00 by 1042 in two_system_weeks\n 2024-05-10T12:00:00 by 1046 in two_system_weeks
 3|last_week one|the captures tell dates that differ; choose one by --near\n 2024-05-10T12:00:02 by 1019 in last_week\n 2024-05-17T12:00:00 by 1013 of station 2003 in one
 3|one half_week|the captures are longer than half a week; convert them in parts\n 2024-05-21T00:00:00 until 2024-05-21T00:00:00 in half_week: 1 epochs\n 2024-05-17T12:00:00 until 2024-05-17T12:00:01 in one: 2 epochs
 3|one over_half_week|the captures tell dates that differ; choose one by --near\n 2024-05-17T12:00:00 by 1013 of station 2003 in one\n 2024-05-21T00:00:01 by 1019 in over_half_week
@@ -192,6 +193,18 @@ finds '--station 7 stations' "$noon until $noon by 1013 of station 2003" \
     "$(echo "$one_command" | sed 's/2003/0007/g; s/station 0007/station 7/') stations" '4 1 0 2 1 0 0 0 1' 0 ''
 # pins: source_text, number_and_station
 finds by_other "$noon until $noon by 1013 of station 7" "$one_command by_other" '2 1 0 0 1 0 0 0 1' 0 ''
+# pins: source_of_message, source_text
+for row in 'by_galileo 1045 2' 'by_galileo_later 1046 2' 'by_beidou 1042 3'; do
+    set -- $row
+    finds $1 "$noon until $noon by $2" "$one_command $1" "$3 $(($3 - 1)) 0 0 1 0 0 0 1" 0 ''
+done
+# A date of another station counts before the week of Galileo; and a 1019 of the same week does.
+finds by_other_and_galileo "$noon until $noon by 1013 of station 7" "$one_command by_other_and_galileo" '3 2 0 0 1 0 0 0 1' 0 ''
+finds same_system_week "$noon until $noon by 1019 (or 2004-10-01, 2044-01-01)" "$one_command same_system_week" '3 2 0 0 1 0 0 0 1' 0 ''
+# The week of Galileo tells that the 1019 means the week 1,024 before the latest one.
+finds rolled_over "2004-10-01T12:00:00 until 2004-10-01T12:00:00 by 1045" "$(command 2004-10-01T12:00:00) rolled_over" '3 2 0 0 1 0 0 0 1' 0 '' \
+    ' other-date 2024-05-17T12:00:00 by 1019 in rolled_over'
+finds own_and_rolled_over "$two 1013" "$one_command own_and_rolled_over" '5 3 0 0 2 0 0 0 2' 0 one.rnx
 # pins: weeks_ms, neighbours_text, week_text
 finds by_week "$noon until $noon by 1019 (or 2004-10-01, 2044-01-01)" "$one_command by_week" '2 1 0 0 1 0 0 0 1' 0 ''
 for row in '1981-01-01 1980-01-20 1999-09-05' '2024-06-01 2019-04-21 1999-09-05, 2038-12-05' '2100-12-31 2097-10-20 2078-03-06'; do
@@ -325,6 +338,9 @@ position=
 # pins: own_moment, own_moment_of_ephemeris
 finds 'undated dated_place' "$noon until $noon by 1013" "cat dated_place undated | $one_command stdin" '3 1 0 0 2 0 0 0 1' 0 '' ' undated undated: dated near the others\n no-epoch dated_place'
 finds 'undated week_place' "$noon until $noon by 1019 (or 2004-10-01, 2044-01-01)" "cat week_place undated | $one_command stdin" '3 1 0 0 2 0 0 0 1' 0 '' ' undated undated: dated near the others\n no-epoch week_place'
+finds 'undated galileo_place' "$noon until $noon by 1045" "cat galileo_place undated | $one_command stdin" '3 1 0 0 2 0 0 0 1' 0 '' ' undated undated: dated near the others\n no-epoch galileo_place'
+finds 'galileo_place other_place undated' "2024-05-10T12:00:00 until 2024-05-10T12:00:00 by 1013 of station 7" "cat galileo_place other_place undated | $(command 2024-05-10T12:00:00) stdin" '5 2 0 0 2 1 0 0 1' 0 '' \
+    ' undated undated: dated near the others\n other-date 2024-05-17T12:00:00 by 1045 in galileo_place\n no-epoch galileo_place\n no-epoch other_place'
 cp week_place a_place # which names the moment of the first epoch too
 finds 'a_place one' "$two 1013" "cat a_place one | $one_command stdin" '5 2 0 0 3 0 0 0 2' 0 '' ' no-epoch a_place'
 finds 'old_place later one' "$noon until 2024-05-17T12:00:03 by 1013" "cat old_place one later | $one_command stdin" '7 2 0 0 5 0 0 0 4' 0 '' ' undated later: dated near the others\n other-date 2023-12-22T12:00:00 by 1013 of station 2003 in old_place\n no-epoch old_place'

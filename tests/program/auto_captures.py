@@ -6,7 +6,7 @@ from pathlib import Path
 sys.path.insert(0, str(Path(__file__).resolve().parents[1] / "model"))
 
 import model  # noqa: E402
-from finding import EPHEMERIS, TEXT  # noqa: E402
+from finding import EPHEMERIS, OTHER_EPHEMERIDES, TEXT  # noqa: E402
 from station import capture, date, frame_of_row, legacy_of, msm_of, point  # noqa: E402
 from wire import WEEK_MS, frame_of  # noqa: E402
 
@@ -23,6 +23,12 @@ def epochs(*seconds, satellites=(5, 7), **fields):
 
 def week(number, second):
     return frame_of_row(EPHEMERIS, number=1019, satellite=5, week=number, toe=second // 16)
+
+
+def system_week(number, week, second):
+    """A 1042, 1045 or 1046 of this week of its system."""
+    fields, unit, _, _ = OTHER_EPHEMERIDES[number]
+    return frame_of_row(fields, number=number, satellite=5, system_week=week, toe=1000 * second // unit)
 
 
 def text_date(second, day, station=2003):
@@ -105,6 +111,16 @@ CAPTURES = {
     "same_week": ONE + week(2314 % 1024, NOON),
     "weeks": week(2314 % 1024, NOON) + week(2313 % 1024, NOON) + epochs(NOON),
     "by_week": week(2314 % 1024, NOON) + epochs(NOON),
+    # 2024-05-17 is of week 2314 of GPS, 1290 of Galileo and 958 of BeiDou; and week 1290 of GPS is 266 of Galileo
+    "by_galileo": system_week(1045, 1290, NOON) + epochs(NOON),
+    "by_galileo_later": epochs(NOON) + system_week(1046, 1290, NOON),
+    "by_beidou": system_week(1042, 958, NOON) + system_week(1046, 1290, NOON) + epochs(NOON),
+    "two_system_weeks": system_week(1042, 958, NOON) + system_week(1046, 1289, NOON) + epochs(NOON),
+    "by_other_and_galileo": system_week(1045, 1289, NOON) + date(43_200, station=7) + epochs(NOON),
+    "same_system_week": week(2314 % 1024, NOON) + system_week(1045, 1290, NOON) + epochs(NOON),
+    "rolled_over": week(2314 % 1024, NOON) + system_week(1045, 266, NOON) + epochs(NOON),
+    "own_and_rolled_over": week(2314 % 1024, NOON) + system_week(1045, 266, NOON) + ONE,
+    "galileo_place": system_week(1045, 1290, NOON) + place(),
     "last_week": week(2313 % 1024, NOON) + epochs(NOON + 2),
     "half_week": week(2315 % 1024, 172_800) + epochs(172_800),
     "over_half_week": week(2315 % 1024, 172_800) + epochs(172_801),
