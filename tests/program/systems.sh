@@ -375,7 +375,7 @@ finds no_channel without.rnx '5X,R1C --msm 7,R4 --window 4096 --channels none no
 chain() { python3 "$here/framed.py" "$@"; }
 chain $(more $G05_5X 467001714BE800${C41_1P#??????????????}) $I14_5A >beidou_ahead.rtcm
 convert 5X,I5A --msm 7 beidou_ahead.rtcm; cp out without.rnx
-# pins: is_wrong_offset, behind_of, gps_ahead
+# pins: is_wrong_offset, gps_ahead
 finds beidou_14_s_ahead without.rnx '5X,I5A --msm 7 --window 4096 beidou_ahead.rtcm' '3 1 0 0 2 0 0 0 1' \
     " clock C +14.000 1 of 1\n$doppler not in the file: BeiDou 1127, 1 messages\n" beidou_ahead.rtcm
 # GLONASS a day ahead is left out, and 1 ms ahead it stays in records of its own.
