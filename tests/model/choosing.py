@@ -119,7 +119,7 @@ def names_shown(messages: Iterable[Message], numbers: set[int]) -> list[str]:
 # ---------------------------------------------------------------- clocks
 
 
-# pins: compared_systems, kinds_in_order, times_chains, timing_before, is_glonass_system
+# pins: compared_systems, kinds_in_order, times_chains, timing_before, is_glonass_system, has_gps_messages
 def total_offsets(captures: list[Sent], date: Date) -> Offsets:
     """How often each clock is ahead by each offset, in all captures."""
     totals: Offsets = {letter: Counter() for letter in LETTERS}

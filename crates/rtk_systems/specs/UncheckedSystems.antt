@@ -37,14 +37,14 @@ sends_beside system t = list_any (has_msm system t) kinds_in_order || (is_glonas
 
 -- table
 -- a message with the clock of GPS came: a 1004 or an MSM
-abbrev pub sends_gps : StationSurvey → Bool
-sends_gps t =
+abbrev pub has_gps_messages : StationSurvey → Bool
+has_gps_messages t =
     nat_lt 0 t.counts.obs_1004
     || (nat_lt 0 t.msm.msm4.messages || (nat_lt 0 t.msm.msm5.messages || (nat_lt 0 t.msm.msm6.messages || nat_lt 0 t.msm.msm7.messages)))
 
 -- a message with the clock of a system came
 abbrev pub sends_system : System → StationSurvey → Bool
-sends_system system t = if is_gps_system system then sends_gps t else sends_beside system t
+sends_system system t = if is_gps_system system then has_gps_messages t else sends_beside system t
 
 abbrev pub station_sends : System → Option StationSurvey → Bool
 station_sends system None = false

@@ -54,8 +54,8 @@ fn sends_beside(system: System, station: &StationSurvey) -> bool
     has_some_msm(system, station) || (is_glonass_system(system) && has_1012(station))
 }
 
-fn sends_gps(station: &StationSurvey) -> bool
-    ensures { result ≡ spec.sends_gps station.now }
+fn has_gps_messages(station: &StationSurvey) -> bool
+    ensures { result ≡ spec.has_gps_messages station.now }
 {
     0 < station.counts.obs_1004
         || (0 < station.msm.msm4.messages
@@ -67,7 +67,7 @@ fn sends_system(system: System, station: &StationSurvey) -> bool
     ensures { result ≡ spec.sends_system system station.now }
 {
     if is_gps_system(system) {
-        sends_gps(station)
+        has_gps_messages(station)
     } else {
         sends_beside(system, station)
     }
