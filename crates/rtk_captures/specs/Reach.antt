@@ -1,5 +1,5 @@
 -- The dates of captures that were read (this project's rule).
-use Rattle.std.specs.Prelude.{ℕ, ◌-◌, ◌%◌, Bool, false, ◌||◌, not, nat_le, min, max, List, [], ◌∷◌, Option, None, Some, if◌then◌else◌}
+use Rattle.std.specs.Prelude.{ℕ, ◌-◌, ◌%◌, Bool, true, false, ◌||◌, not, nat_le, min, max, List, [], ◌∷◌, Option, None, Some, if◌then◌else◌}
 use Rattle.rtk_obs.specs.declared.time.TheConstants.{LAST_MS}
 use Rattle.rtk_survey.specs.Placing.{least_with_if_any, placed, is_dated_near}
 use Rattle.rtk_survey.specs.declared.date_message.DateMessage.{DateMessage}
