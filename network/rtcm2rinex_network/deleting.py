@@ -196,6 +196,8 @@ def unneeded(folder: Folder, rows: Sequence[Row], options: Options) -> List[Path
     found = []
     lengths = {row.name9: lengths_of(folder, row, options) for row in rows}
     every = [it for it in LENGTHS if any(it in of_row for of_row in lengths.values())]
+    for name9 in (it for it, of_row in lengths.items() if folder.captures and not of_row):
+        print(f"{name9}: there is no file yet, so the captures of its time stay")
     for hour, paths in sorted(folder.captures.items()):
         spans = [(span, rows_of_span(folder, rows, span)) for span in spans_of(hour, every)]
         keys = [(row, span) for span, needing in spans for row in needing if span.length in lengths[row.name9]]
