@@ -40,10 +40,14 @@ abbrev pub long_line : ℕ → List ℕ
 long_line count = ended_count_line (codes " untaken GLONASS 1012 ") count (codes ": more than a day\n")
 
 -- formula
+-- so many messages of GLONASS of a number, unless they are taken
+abbrev pub glonass_line_of : Accepted → ℕ → ℕ → List ℕ
+glonass_line_of taken number count =
+    if accepts taken number then [] else count_line_of (codes " not in the file: GLONASS ") number count
+
 -- 1012, unless they are taken
 abbrev pub untaken_1012_line : Accepted → List CaptureSurvey → List ℕ
-untaken_1012_line taken ss =
-    if accepts taken 1012 then [] else count_line_of (codes " not in the file: GLONASS ") 1012 (all_1012_in_captures ss)
+untaken_1012_line taken ss = glonass_line_of taken 1012 (all_1012_in_captures ss)
 
 -- the same; they may be left out since they can't be dated
 abbrev pub line_of_1012 : Bool → Accepted → List CaptureSurvey → List ℕ

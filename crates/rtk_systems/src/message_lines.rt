@@ -103,6 +103,21 @@ fn put_long(lines: &mut Vec<u8>, count: u64) -> Result<(), AllocError>
     )
 }
 
+// Appends the line of so many messages of GLONASS of a number, unless they are taken.
+fn put_glonass_numbered(
+    lines: &mut Vec<u8>,
+    taken: Accepted,
+    number: u16,
+    count: u64,
+) -> Result<(), AllocError>
+    ensures { OnOk result (lines.new.items ≡ lines.old.items ++ spec.glonass_line_of taken number count) }
+{
+    if taken.accepts(number) {
+        return Ok(());
+    }
+    put_count_line(lines, b" not in the file: GLONASS ", number, count)
+}
+
 // Appends the line of 1012, unless they are taken.
 fn put_untaken_1012(
     lines: &mut Vec<u8>,
@@ -111,11 +126,8 @@ fn put_untaken_1012(
 ) -> Result<(), AllocError>
     ensures { OnOk result (lines.new.items ≡ lines.old.items ++ spec.untaken_1012_line taken surveys.now) }
 {
-    if taken.accepts(1012) {
-        return Ok(());
-    }
     let count = all_1012_in_captures(surveys);
-    put_count_line(lines, b" not in the file: GLONASS ", 1012, count)
+    put_glonass_numbered(lines, taken, 1012, count)
 }
 
 // Appends the line of 1012, which may be left out since they can't be dated.
