@@ -68,8 +68,9 @@ other_date_lines near s name ts = flat_map (other_date_line near s name) ts
 abbrev pub is_full : List Told → Bool
 is_full ts = nat_le 16 (length ts)
 
+-- of the messages that date, and of those whose dates are told beside them
 abbrev pub may_have_more : Tellings → Bool
-may_have_more t = (is_full t.own.items || is_full t.weeks.items) || is_full t.others.items
+may_have_more t = (is_full (counting t) || is_full t.weeks.items) || is_full t.others.items
 
 -- formula
 abbrev pub more_dates_line : List ℕ → Tellings → List ℕ

@@ -77,9 +77,7 @@ fn is_full(told: &[Told]) -> bool
 fn may_have_more(told: &Tellings) -> bool
     ensures { result ≡ spec.may_have_more told.now }
 {
-    is_full(told.own.as_slice())
-        || is_full(told.weeks.as_slice())
-        || is_full(told.others.as_slice())
+    is_full(told.counting()) || is_full(told.weeks.as_slice()) || is_full(told.others.as_slice())
 }
 
 // Appends a line if so many dates are kept of a capture that others may have been told.
