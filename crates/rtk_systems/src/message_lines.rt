@@ -127,7 +127,8 @@ fn put_untaken_1012(
     ensures { OnOk result (lines.new.items ≡ lines.old.items ++ spec.untaken_1012_line taken surveys.now) }
 {
     let count = all_1012_in_captures(surveys);
-    put_glonass_numbered(lines, taken, 1012, count)
+    put_glonass_numbered(lines, taken, 1012, count)?;
+    Ok(())
 }
 
 // Appends the line of 1012, which may be left out since they can't be dated.
