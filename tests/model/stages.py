@@ -19,9 +19,8 @@ TELLS_CHANNELS = True
 # `convert` takes 1012, and satellites of SBAS of a 1004 where a code of SBAS is listed.
 CONVERTS_1012 = True
 CONVERTS_SBAS = True
-# `summary` and `auto` find 1012, MSM of GLONASS that do not know the day, and satellites of SBAS of a 1004.
+# `summary` and `auto` find 1012, and MSM of GLONASS that do not know the day.
 FINDS_1012 = True
-FINDS_SBAS = True
 # `auto` converts 1012 where the epochs allow a reference.
 TAKES_1012 = True
 # 1004 that are not converted have a line.
