@@ -19,7 +19,7 @@ from .names import Name, hour_of_capture, read_name
 from .places import folder_with, form_of, forms_of, is_compact, names_below, plain_name
 from .placing import is_at
 from .settings import DAY, HOUR, Settings, read_settings
-from .table import Row, find_row, rows_with_faults
+from .table import Row, rows_of_station, rows_with_faults
 from .times import LENGTHS, Span
 
 SCRIPT = "delete-captures"
@@ -272,16 +272,21 @@ def has_deleted(row: Row, rows: Sequence[Row], options: Options) -> bool:
     return True
 
 
-def rows_wanted(settings: Settings, words: Sequence[str], at: float) -> Tuple[List[Row], List[Row]]:
-    """The rows that are wanted, one of each station, and all rows. Refuses if a row is bad, since it may need captures too."""
+def rows_wanted(settings: Settings, words: Sequence[str]) -> Tuple[List[Row], List[Row]]:
+    """The rows that are wanted, one of each station, also of one that retired; and all rows. Refuses if a row is bad, since it may need
+    captures too."""
     rows = []
     for row, fault in rows_with_faults(settings.stations):
         if fault:
             raise Refused(f"{settings.stations}:{row.number}: {fault}")
         rows.append(row)
-    if words:
-        return [find_row(settings.stations, word, at) for word in words], rows
-    return list({(row.name9, row.directory): row for row in rows}.values()), rows
+    wanted = [] if words else rows
+    for word in words:
+        mine = rows_of_station(settings.stations, word)
+        if any(it.name9 != other.name9 and it.dates.meets(other.dates) for it in mine for other in mine):
+            raise Refused(f"{word} is in the table {settings.stations} more than once")
+        wanted += mine
+    return list({(row.name9, row.directory): row for row in wanted}.values()), rows
 
 
 def delete_captures(words: Sequence[str]) -> int:
@@ -294,7 +299,7 @@ def delete_captures(words: Sequence[str]) -> int:
     settings = read_settings()
     now = time.time() + settings.leap_seconds
     chosen = Options(now - DAY * int(days), "--delete" in options, "--moved" in options, "--faulty" in options, only)
-    rows, every = rows_wanted(settings, wanted, now)
+    rows, every = rows_wanted(settings, wanted)
     done = [has_deleted(row, every, chosen) for row in rows]
     sys.stdout.flush()
     return DONE if all(done) else REFUSED

@@ -112,6 +112,8 @@ def make_folder(folder: Path) -> None:
     except OSError as fault:
         if folder.exists():
             raise Refused(f"{folder} is no folder") from None
+        if folder.is_symlink():
+            raise Again(f"{folder} is a link that leads nowhere") from None
         raise blamed(str(folder.parent), f"can't make {folder}: {fault.strerror}") from None
     give_to_owner(folder, folder.parent)
 
