@@ -183,20 +183,30 @@ def lengths_of(folder: Folder, row: Row, options: Options) -> List[str]:
     return [it for it in LENGTHS if it in (options.lengths or there)]
 
 
+def rows_of_span(folder: Folder, rows: Sequence[Row], span: Span) -> List[Row]:
+    """The rows that may need the captures of a span: those that hold then, and those that have a list of it. If there is none, nobody knows
+    whose the captures are, so all may."""
+    return [it for it in rows if it.dates.has(span.begin) or folder.lists_of(it, span)] or list(rows)
+
+
 def unneeded(folder: Folder, rows: Sequence[Row], options: Options) -> List[Path]:
-    """The captures that may go: each span is final to which they belong, for each row with this folder. Tells of the old spans that are
-    not final."""
+    """The captures that may go: each span is final to which they belong, for each row with this folder that may need them. Tells of the old
+    spans that are not final. A row that has no file yet may need all of its time."""
     known: Dict[Tuple[str, Span], str] = {}
     found = []
     lengths = {row.name9: lengths_of(folder, row, options) for row in rows}
+    every = [it for it in LENGTHS if any(it in of_row for of_row in lengths.values())]
+    for name9 in (it for it, of_row in lengths.items() if folder.captures and not of_row):
+        print(f"{name9}: there is no file yet, so the captures of its time stay")
     for hour, paths in sorted(folder.captures.items()):
-        keys = [(row, span) for row in rows for span in spans_of(hour, lengths[row.name9])]
+        spans = [(span, rows_of_span(folder, rows, span)) for span in spans_of(hour, every)]
+        keys = [(row, span) for span, needing in spans for row in needing if span.length in lengths[row.name9]]
         for row, span in keys:
             if (row.name9, span) not in known:
                 known[row.name9, span] = why = fault_of_span(folder, row, span, options)
                 if why and span.end <= options.before:
                     print(f"{row.name9} {span}: not final: {why}")
-        has_all = all(lengths[row.name9] for row in rows)
+        has_all = bool(keys) and all(lengths[row.name9] for _, needing in spans for row in needing)
         if has_all and not any(known[row.name9, span] for row, span in keys):
             found += paths
     return found

@@ -182,12 +182,16 @@ def is_at(file: IO[Any], path: Path) -> bool:
 
 
 def remove(path: Path) -> None:
-    """Removes a folder with all that it has, or a file."""
-    import shutil  # here, because most runs do without it, and it would take a part of their time
-
-    shutil.rmtree(path, ignore_errors=True)
-    if path.is_file():
-        path.unlink()
+    """Removes a folder with all that it has, or a file. What can't be removed stays."""
+    try:
+        if path.is_dir() and not path.is_symlink():
+            for it in list(path.iterdir()):
+                remove(it)
+            path.rmdir()
+        else:
+            path.unlink()
+    except OSError:
+        pass
 
 
 def remove_left(folder: Path, name: str) -> None:
