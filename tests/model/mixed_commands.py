@@ -1,8 +1,8 @@
-"""`check`, `label`, `cut` and `quality` on mixed files that chance makes, and `show` on such captures, beside the model.
+"""`check`, `label`, `cut`, `quality` and `chart` on mixed files that chance makes, and `show` on such captures, beside the model.
 
     mixed_commands.py PROGRAM COUNT    so many changed files, a third as many labelled ones, and a tenth as many parts, as many
                                        with lines of their records, as many with some systems alone, as many whose numbers are
-                                       told, and as many captures
+                                       told, as many that are drawn, and as many captures
 
 The last line is 'N passed, M failed'.
 """
@@ -21,6 +21,7 @@ import mixed_cases
 import mixed_damages
 import mixed_labels
 import mixed_parts
+import mixed_pictures
 import mixed_qualities
 import mixed_shown
 import time_lines
@@ -29,7 +30,7 @@ from mixed_tables import some_table
 from parts import Part, part_of
 from program import Program
 from properties import ends_with
-from systems import LETTERS
+from systems import LETTERS, SATELLITES
 
 END = b"END OF HEADER       \n"
 
@@ -144,6 +145,34 @@ def numbers(count: int) -> Iterator[Due]:
             yield Due(["quality", *words], told.encode(), 0, due(text).encode(), b"")
 
 
+def some_choice(rng: Random, text: str) -> tuple[list[str], set[str] | None]:
+    """The words that choose satellites, and these: all, those of some systems, or some of the file and others."""
+    kind = rng.choice(("all", "systems", "satellites"))
+    if kind == "all":
+        return [], None
+    if kind == "systems":
+        letters = "".join(rng.sample(LETTERS, rng.randint(1, 4)))
+        return ["--systems", letters], {name for name in SATELLITES if name[0] in letters}
+    found = sorted({line[:3] for line in text.partition(END.decode())[2].splitlines() if line[0] != ">"})
+    names = {*rng.sample(found, min(len(found), rng.randint(0, 3))), *rng.sample(SATELLITES, 2)}
+    return ["--satellites", ",".join(names)], names
+
+
+def charts(count: int) -> Iterator[Due]:
+    """In characters, of files without and with lines of their records, and of one in which each satellite has a row."""
+    rng = Random(mixed_pictures.SEED)
+    files = [*(mixed_parts.some_file(rng)[0] for _ in range(count)), mixed_parts.a_day(rng)[0], mixed_parts.all_satellites(rng)[0]]
+    for text in files:
+        told = rng.choice((text, time_lines.with_lines(text, True, True)))
+        width = rng.choice((40, 80, 400, rng.randint(40, 400)))
+        chosen, names = some_choice(rng, text)
+        words = ["chart", "--text", "--columns", str(width), *chosen]
+        if mixed_pictures.is_there(text, names):
+            yield Due(words, told.encode(), 0, mixed_pictures.text_picture(text, width, names).encode(), b"")
+        else:
+            yield Due(words, told.encode(), 3, b"", b"rtcm2rinex: none of the chosen satellites is in the file\n")
+
+
 def shows(count: int) -> Iterator[Due]:
     rng = Random(mixed_shown.SEED)
     for _ in range(count):
@@ -157,7 +186,7 @@ def main() -> None:
     with tempfile.TemporaryDirectory() as folder:
         chdir(folder)
         program = Program(path)
-        files = (*checks(count), *labels(count // 3), *cuts(count // 10), *lines(count // 10), *kept(count // 10), *numbers(count // 10))
+        files = (*checks(count), *labels(count // 3), *cuts(count // 10), *lines(count // 10), *kept(count // 10), *numbers(count // 10), *charts(count // 10))
         for number, due in enumerate((*files, *shows(count // 10))):
             differs = ends_with(program.on(due.text, *due.words), due.status, due.out, due.err)
             passed, failed = passed + (not differs), failed + bool(differs)

@@ -191,20 +191,23 @@ class Drawn:
         return ticks
 
 
-def text_picture(text: str, width: int, chosen: set[str] | None = None) -> str:
-    """The picture of a file, so many characters wide, of these satellites or of all."""
-    it = Drawn(text, width - 5, chosen)
-    if not it.epochs:
-        return f"marker {it.marker}\nno records\n"
+def heading_lines(it: Drawn) -> list[str]:
+    """The lines above the satellites of a picture in characters."""
     out = [f"marker {it.marker}", f"from {moment(it.first)} GPS time", f"until {moment(it.last)} GPS time"]
     if it.interval:
         out += [f"interval {fixed(it.interval, 3)}", f"column {fixed(it.length, 3)}"]
     out += [f"records {len(it.epochs)}", f"satellites {len(it.names)}"]
-    out += [f"slips {it.kinds['slip']}", f"returns {it.kinds['return']}", f"rises {it.kinds['rise']}", f"missing {it.missing}"]
-    out.append("GPS")
-    for name in it.names:
-        out.append(f"{name}|{''.join(character(part, name, it.had[name], c in it.out[name]) for c, part in enumerate(it.parts))}|")
-    out.append(f"gap|{''.join('/' if c in it.gaps and part else 'x' if c in it.gaps else ' ' for c, part in enumerate(it.parts))}|")
+    return [*out, f"slips {it.kinds['slip']}", f"returns {it.kinds['return']}", f"rises {it.kinds['rise']}", f"missing {it.missing}"]
+
+
+def row_of(it: Drawn, name: str) -> str:
+    """The row of a satellite."""
+    return f"{name}|{''.join(character(part, name, it.had[name], c in it.out[name]) for c, part in enumerate(it.parts))}|"
+
+
+def rows_below(it: Drawn, width: int) -> list[str]:
+    """The rows of missing epochs and of the time."""
+    out = [f"gap|{''.join('/' if c in it.gaps and part else 'x' if c in it.gaps else ' ' for c, part in enumerate(it.parts))}|"]
     ticks = it.ticks(12 * it.length)
     out.append("    " + "".join("+" if c in ticks else "-" for c in range(it.columns)))
     labels = [" "] * width
@@ -213,12 +216,25 @@ def text_picture(text: str, width: int, chosen: set[str] | None = None) -> str:
         if 4 + c + len(label) <= width:
             labels[c : c + len(label)] = label
             end = max(end, c + len(label))
-    out.append("    " + "".join(labels[:end]))
-    # so many satellites behind "never 2W:" leave no more room than for one
-    most = (width - 9) // 4
+    return [*out, "    " + "".join(labels[:end])]
+
+
+def never_lines(it: Drawn, width: int, title: str, at: int, names: list[str]) -> list[str]:
+    """The lines of those of these satellites that have a code nowhere: as many stand behind its title as have room."""
+    start = f"never {title}:"
+    never = [name for name in names if at not in it.had[name]]
+    most = (width - len(start)) // 4
+    return [" ".join([start, *never[begin : begin + most]]) for begin in range(0, len(never), most)]
+
+
+def text_picture(text: str, width: int, chosen: set[str] | None = None) -> str:
+    """The picture of a file, so many characters wide, of these satellites or of all."""
+    it = Drawn(text, width - 5, chosen)
+    if not it.epochs:
+        return f"marker {it.marker}\nno records\n"
+    out = [*heading_lines(it), "GPS", *(row_of(it, name) for name in it.names), *rows_below(it, width)]
     for at, code in enumerate(it.codes):
-        never = [name for name in it.names if at not in it.had[name]]
-        out += [" ".join([f"never {code}:", *never[begin : begin + most]]) for begin in range(0, len(never), most)]
+        out += never_lines(it, width, code, at, it.names)
     return "\n".join([*out, *SIGNS]) + "\n"
 
 

@@ -8,7 +8,7 @@ chart() { run chart "$@"; }
 picture=$(cat "$root/examples/marks.txt")
 svg=$(cat "$root/examples/marks.svg")
 
-# pins: text_heading, satellite_rows, axis_row, label_row
+# pins: text_heading, satellite_rows, gps_names, axis_row, label_row
 chart --text "$marks";              expect chart_of_a_file 0 "$picture" ''
 chart --text --columns 80 "$marks"; expect chart_80_wide 0 "$picture" ''
 # pins: STYLE, LEGEND, svg_picture, svg_start, svg_legend, svg_body, svg_of_epochs, bands_text, ticks_text, satellite_label
@@ -112,19 +112,77 @@ for list in G G5 G005 G33 G00 g05 G05, ,G05 'G05 G12' G05,,G12 S19 R28 ''; do
 done
 chart --systems X --satellites X "$marks"; expect the_systems_first 2 '' 'rtcm2rinex: bad --systems'
 
-# Files of other systems, also without a record; a file that `check` refuses is none of them.
+# A file of any systems in characters: each system stands below its name. The picture was worked out by hand from the digits of
+# the file. E11, C41 and J01 slip in the second record, C41 with a half cycle. No record has a phase of R26, nor 6I, 7I and 5P of C41.
 cp "$mixed" mixed
+cat >want <<'END'
+marker BASE
+from 2024-05-17 12:00:00.000 GPS time
+until 2024-05-17 12:00:04.000 GPS time
+interval 1.000
+column 1.000
+records 4
+satellites 8
+slips 3
+returns 0
+rises 0
+missing 1
+GPS
+G11|777 7|
+GLONASS
+R10|666  |
+R26|5    |
+Galileo
+E11|7SH 7|
+BeiDou
+C41|7B7  |
+QZSS
+J01|7S  7|
+SBAS
+S58|1    |
+NavIC
+I14|6   6|
+gap|   x |
+    +----
+    12:00:00
+never R2P: R26
+never C6I: C41
+never C7I: C41
+never C5P: C41
+END
+sed -n '/^S slip/,$p' "$root/examples/marks.txt" >signs
+cat signs >>want
+# pins: titled_rows, system_title, title_of, systems_picture, ShowsSystems
+chart --text mixed;        leaves chart_of_mixed 0 want /dev/null
+chart --text stdin <mixed; leaves chart_of_mixed_of_standard_input 0 want /dev/null
+# Of chosen satellites: those of C and S are the second 32 of their systems.
+sed '/^[GREJI]..|/d;/^G[PL]/d;/^Galileo/d;/^QZSS/d;/^NavIC/d;/^never R/d;s/^satellites 8/satellites 2/;s/^slips 3/slips 1/' want >chosen
+# pins: group_place, second_group
+for choice in '--systems SC' '--satellites C41,S58,G01' '--systems S --satellites C41'; do
+    chart --text $choice mixed; leaves "chart_of_mixed_$(echo "$choice" | tr -cs A-Za-z0-9 _)" 0 chosen /dev/null
+done
+chart --text --satellites C09,S26 mixed
+expect none_of_mixed 3 '' 'rtcm2rinex: none of the chosen satellites is in the file'
 of_galileo >galileo
+chart --text --systems GRCJSI galileo
+expect none_of_galileo 3 '' 'rtcm2rinex: none of the chosen satellites is in the file'
 sed 31q "$mixed" >heading
+chart --text heading
+expect chart_of_mixed_without_records 0 "$(printf 'marker BASE\nno records')" ''
+chart --text --systems G heading
+expect none_of_mixed_without_records 3 '' 'rtcm2rinex: none of the chosen satellites is in the file'
+
+# In SVG there is no picture of a file with other systems, also without a record; a file that `check` refuses is none of them.
 for name in mixed galileo heading; do
-    for words in '' --text '--systems G' '--systems E' '--satellites G11,E11'; do
+    for words in '' '--systems G' '--systems E' '--satellites G11,E11'; do
         chart $words $name
-        expect "chart_of_$name$(echo "$words" | tr -d ' ')" 3 '' 'rtcm2rinex: other systems than GPS'
+        expect "svg_of_$name$(echo "$words" | tr -d ' ')" 3 '' 'rtcm2rinex: other systems than GPS: add --text'
     done
 done
-chart stdin <mixed; expect chart_of_mixed_of_standard_input 3 '' 'rtcm2rinex: other systems than GPS'
 sed '36s/25110278.381/       0.000/' mixed >bad
-chart bad;               expect chart_of_a_bad_mixed_file 3 '' 'line 36: C3 Value'
+for form in '' --text; do
+    chart $form bad; expect "chart_of_a_bad_mixed_file$form" 3 '' 'line 36: C3 Value'
+done
 chart --systems X mixed; expect the_words_before_a_mixed_file 2 '' 'rtcm2rinex: bad --systems'
 
 # twice OPTION WORD..: an option that stands twice is refused

@@ -217,7 +217,8 @@ for row in 'E both_mixed 4' 'J both_mixed 3' 'S noon 1'; do
     run cut --systems "$1" told_mixed; leaves "lines_of_system_$1" 0 want counts
 done
 behind last labelled_mixed >wrong;               refused '11: C1 HeaderLine' wrong
-run chart labelled_mixed; expect chart_of_mixed 3 '' 'rtcm2rinex: other systems than GPS'
+"$program" chart --text "$mixed" >want
+run chart --text labelled_mixed; leaves chart_of_mixed 0 want /dev/null
 run check labelled_mixed; expect no_mixed_file_of_check 3 'line 2: C1 HeaderLine' ''
 sed '9s/^        0.0000/        1.5000/' "$mixed" >told
 all told; expect a_told_height_of_mixed 2 '' 'rtcm2rinex: bad --delta-height: the file tells a height'

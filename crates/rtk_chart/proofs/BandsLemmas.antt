@@ -97,11 +97,11 @@ band-start-few spacing top satellite stripe height low even high =
       name,
       seven-long
           (number_between (codes "<g transform='translate(110 ") top (codes ")'>\n<title>"))
-          (satellite_label satellite)
+          (satellite_label 71 satellite)
           (number_between (codes "</title>\n<rect class='b") stripe (codes "' x='-110' width='1620'"))
           (number_between (codes " height='") height (codes "'/>\n"))
           (number_between (name_start spacing) (height / 2 + name_drop spacing) (codes "'>"))
-          (satellite_label satellite) (codes "</text>\n"),
+          (satellite_label 71 satellite) (codes "</text>\n"),
     )
 
 outages-few : (outages : List Bool) (n place high : ℕ) → high ≤ 366 → length (outage_boxes outages n place high) ≤ 24 + 22 * boxes_over (outage_flags outages n place)

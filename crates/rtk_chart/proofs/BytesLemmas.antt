@@ -294,7 +294,7 @@ bars-small spacing bins place at code few listed =
       name,
       two,
       bar,
-      eight-long before (satellite_label (place + 1)) (codes " ") (name_of code) (drawn_bar bins place at)
+      eight-long before (satellite_label 71 (place + 1)) (codes " ") (name_of code) (drawn_bar bins place at)
           (code_start spacing) (name_of code) (codes "</text>\n</g>\n"),
     )
 

@@ -5,10 +5,13 @@ pub mod ChartLemmas
 pub mod ChoiceLemmas
 pub mod FileLemmas
 pub mod GridLemmas
+pub mod GroupLemmas
 pub mod HeadingLemmas
+pub mod LabelLemmas
 pub mod LawLemmas
 pub mod ListLemmas
 pub mod MarkLemmas
+pub mod MixedLemmas
 pub mod PieceLemmas
 pub mod RestLemmas
 pub mod ScaleLemmas

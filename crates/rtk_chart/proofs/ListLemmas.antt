@@ -8,8 +8,8 @@ use Rattle.std.proofs.lemmas.List.FromFn.{fill_by_all, length-range_with_len, ge
 use Rattle.std.proofs.lemmas.Grind.{flat_map-append}
 use Rattle.std.specs.Prelude.{flat_map}
 use Rattle.std.specs.List.{range_with_len, list_any, sum_by}
-use Rattle.rtk_obs.specs.declared.code.Code.{Code}
 use Rattle.rtk_chart.specs.TextPicture.{never_lines, all_never_lines}
+use Rattle.rtk_chart.specs.declared.groups.Names.{Names}
 use Rattle.rtk_chart.specs.declared.time_bin.TimeBin.{TimeBin}
 
 or-true : (b : Bool) → (b || true) ≡ true
@@ -225,12 +225,12 @@ sum-both p q r (x ∷ xs) all =
 -- ---- codes that satellites have nowhere
 
 -- the lines of one code more
-pub never-more : (bins : List TimeBin) (each i : ℕ) (codes : List Code) (d : Code) (all mid after : List ℕ) → i < length codes
-    → all ≡ mid ++ all_never_lines bins each i (drop i codes) → after ≡ mid ++ never_lines bins each i (get_or codes i d)
-    → all ≡ after ++ all_never_lines bins each (i + 1) (drop (i + 1) codes)
-never-more bins each i codes d all mid after within so_far more =
+pub never-more : {C : Type 0} (title : C → List ℕ) (names : Names) (bins : List TimeBin) (each i : ℕ) (codes : List C) (d : C) (all mid after : List ℕ) → i < length codes
+    → all ≡ mid ++ all_never_lines title names bins each i (drop i codes) → after ≡ mid ++ never_lines names bins each i (title (get_or codes i d))
+    → all ≡ after ++ all_never_lines title names bins each (i + 1) (drop (i + 1) codes)
+never-more {C} title names bins each i codes d all mid after within so_far more =
     let c = get_or codes i d in
     let rest = drop (i + 1) codes in
-    so_far ∙ ap (λ (cs : List Code). mid ++ all_never_lines bins each i cs) (drop_more codes i d within)
-    ∙ sym (append_assoc mid (never_lines bins each i c) (all_never_lines bins each (i + 1) rest))
-    ∙ ap (λ (t : List ℕ). t ++ all_never_lines bins each (i + 1) rest) (sym more)
+    so_far ∙ ap (λ (cs : List C). mid ++ all_never_lines title names bins each i cs) (drop_more codes i d within)
+    ∙ sym (append_assoc mid (never_lines names bins each i (title c)) (all_never_lines title names bins each (i + 1) rest))
+    ∙ ap (λ (t : List ℕ). t ++ all_never_lines title names bins each (i + 1) rest) (sym more)

@@ -181,7 +181,7 @@ numbers-few records satellites slips returns rises missing few-1 few-2 few-3 few
 -- ---- the lines `never`
 
 never-name-few : (bins : List TimeBin) (at place : ℕ) → length (never_name bins at place) ≤ 4
-never-name-few bins at place = if-few (is_never bins at place) (32 ∷ satellite_label (place + 1)) 4 (omega arith)
+never-name-few bins at place = if-few (is_never bins at place) (32 ∷ satellite_label 71 (place + 1)) 4 (omega arith)
 
 never-names-few : (bins : List TimeBin) (at : ℕ) → length (flat_map (never_name bins at) (range_with_len 0 32)) ≤ 128
 never-names-few bins at =

@@ -12,6 +12,7 @@ use Rattle.rtk_chart.specs.Grid.{bin_in, bins_of, has_missing, gaps_of, recorded
 use Rattle.rtk_chart.specs.Ticks.{tick_at}
 use Rattle.rtk_chart.specs.TextPicture.{character_at, row_head, satellite_row, gap_mark_at, gap_row, axis_mark, axis_row}
 use Rattle.rtk_chart.specs.Laws.{FillsRoom, FillsWidth}
+use Rattle.rtk_chart.specs.declared.groups.Names.{Names}
 use Rattle.rtk_chart.specs.declared.scale.Scale.{Scale}
 use Rattle.rtk_chart.specs.declared.time_bin.TimeBin.{TimeBin}
 use Rattle.rtk_chart.proofs.ScaleLemmas.{mul-pos, bins-few}
@@ -60,12 +61,12 @@ scale-fills first last allowed interval some =
 three-long : (a b c : List ℕ) → length ((a ++ b) ++ c) ≡ length a + length b + length c
 three-long a b c = omega (arith, length-append (a ++ b) c, length-append a b)
 
-row-long : (bins : List TimeBin) (outages : List Bool) (place n : ℕ) → length bins ≡ n → length (satellite_row bins outages place) ≡ n + 6
+row-long : (names : Names) (bins : List TimeBin) (outages : List Bool) (place n : ℕ) → length bins ≡ n → length (satellite_row names bins outages place) ≡ n + 6
 unfolding satellite_row
-row-long bins outages place n many =
+row-long names bins outages place n many =
     let marks : List ℕ = map (character_at bins outages place) (range_with_len 0 (length bins)) in
     let same : length marks ≡ n = length-map-range_with_len (character_at bins outages place) 0 (length bins) ∙ many in
-    three-long (row_head (place + 1)) marks (codes "|\n") ∙ ap (λ (k : ℕ). 4 + k + 2) same ∙ omega arith
+    three-long (row_head names.letter (names.before + place + 1)) marks (codes "|\n") ∙ ap (λ (k : ℕ). 4 + k + 2) same ∙ omega arith
 
 gap-long : (recorded gaps : List Bool) (n : ℕ) → length gaps ≡ n → length (gap_row recorded gaps) ≡ n + 6
 unfolding gap_row
@@ -89,11 +90,11 @@ gaps-many : (s : Scale) (es : List EpochTableView) → length (gaps_of s es) ≡
 unfolding gaps_of
 gaps-many s es = length-map-range_with_len (has_missing s es) 0 s.bins
 
-pub rows-long : (s : Scale) (es : List EpochTableView) (outages : List Bool) (place step : ℕ)
-    → (length (satellite_row (bins_of s es) outages place) ≡ s.bins + 6) × (length (gap_row (recorded_of s es) (gaps_of s es)) ≡ s.bins + 6)
+pub rows-long : (s : Scale) (es : List EpochTableView) (names : Names) (outages : List Bool) (place step : ℕ)
+    → (length (satellite_row names (bins_of s es) outages place) ≡ s.bins + 6) × (length (gap_row (recorded_of s es) (gaps_of s es)) ≡ s.bins + 6)
     × (length (axis_row s step) ≡ s.bins + 5)
-rows-long s es outages place step =
-    (row-long (bins_of s es) outages place s.bins (bins-many s es), gap-long (recorded_of s es) (gaps_of s es) s.bins (gaps-many s es), axis-long s step)
+rows-long s es names outages place step =
+    (row-long names (bins_of s es) outages place s.bins (bins-many s es), gap-long (recorded_of s es) (gaps_of s es) s.bins (gaps-many s es), axis-long s step)
 
 -- ---- how wide a column is
 

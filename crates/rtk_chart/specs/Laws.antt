@@ -8,6 +8,7 @@ use Rattle.rtk_chart.specs.Grid.{bins_of, has_missing_before, gaps_of, recorded_
 use Rattle.rtk_chart.specs.Means.{bins_per_column, strengths_in, columns_of, all_without, mean_at}
 use Rattle.rtk_chart.specs.TextPicture.{satellite_row, gap_row, axis_row}
 use Rattle.rtk_chart.specs.SvgPath.{edge_of}
+use Rattle.rtk_chart.specs.declared.groups.Names.{Names}
 use Rattle.rtk_chart.specs.declared.scale.Scale.{Scale}
 
 -- with bins of this length there are at most as many as allowed
@@ -36,8 +37,8 @@ ScalesFillRoom = (first last allowed : ℕ) (interval : Option ℕ) → 0 < allo
 -- satellites and of missing epochs end in a bar before it
 abbrev pub RowsHaveAllBins : Type 0
 RowsHaveAllBins =
-    (s : Scale) (es : List EpochTableView) (outages : List Bool) (place step : ℕ)
-    → (length (satellite_row (bins_of s es) outages place) ≡ s.bins + 6) × (length (gap_row (recorded_of s es) (gaps_of s es)) ≡ s.bins + 6)
+    (s : Scale) (es : List EpochTableView) (names : Names) (outages : List Bool) (place step : ℕ)
+    → (length (satellite_row names (bins_of s es) outages place) ≡ s.bins + 6) × (length (gap_row (recorded_of s es) (gaps_of s es)) ≡ s.bins + 6)
     × (length (axis_row s step) ≡ s.bins + 5)
 
 -- the columns of a picture in SVG fill 1440 units, side by side: each is as wide as its share of them in whole

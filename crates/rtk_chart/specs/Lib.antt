@@ -2,12 +2,15 @@ pub mod Chart
 pub mod Choice
 pub mod Epochs
 pub mod Grid
+pub mod GroupLaws
+pub mod Groups
 pub mod Heading
 pub mod HeadingLaws
 pub mod Laws
 pub mod Layers
 pub mod MarkLaws
 pub mod Means
+pub mod MixedChart
 pub mod Scale
 pub mod Signs
 pub mod Size

@@ -154,7 +154,7 @@ code_start Close = codes "<text class='code tiny' transform='scale(1 2)' x='-6' 
 -- the line of a code of a satellite, as in G05 1C
 unfoldable pub code_line : Spacing → List TimeBin → ℕ → ℕ → Code → List ℕ
 code_line spacing bins place at code =
-    number_between (codes "<g transform='translate(0 ") (line_top spacing (codes_before bins place at)) (line_start spacing) ++ satellite_label (place + 1)
+    number_between (codes "<g transform='translate(0 ") (line_top spacing (codes_before bins place at)) (line_start spacing) ++ satellite_label 71 (place + 1)
     ++ codes " " ++ name_of code ++ drawn_bar bins place at ++ code_start spacing ++ name_of code ++ codes "</text>\n</g>\n"
 
 -- formula
@@ -205,10 +205,10 @@ name_drop Close = 7
 -- the beginning of a band: its satellite, and its stripe, 0 for none
 unfoldable pub band_start : Spacing → ℕ → ℕ → ℕ → ℕ → List ℕ
 band_start spacing top satellite stripe height =
-    number_between (codes "<g transform='translate(110 ") top (codes ")'>\n<title>") ++ satellite_label satellite
+    number_between (codes "<g transform='translate(110 ") top (codes ")'>\n<title>") ++ satellite_label 71 satellite
     ++ number_between (codes "</title>\n<rect class='b") stripe (codes "' x='-110' width='1620'")
     ++ number_between (codes " height='") height (codes "'/>\n")
-    ++ number_between (name_start spacing) (height / 2 + name_drop spacing) (codes "'>") ++ satellite_label satellite ++ codes "</text>\n"
+    ++ number_between (name_start spacing) (height / 2 + name_drop spacing) (codes "'>") ++ satellite_label 71 satellite ++ codes "</text>\n"
 
 -- the bins of so many in which a satellite has an outage
 abbrev pub outage_flags : List Bool → ℕ → ℕ → List Bool
@@ -242,7 +242,7 @@ bands_text spacing listed bins outages = flat_map (band_if_drawn spacing listed 
 
 -- formula
 abbrev pub never_name : List TimeBin → ℕ → ℕ → List ℕ
-never_name bins at place = if is_never bins at place then 32 ∷ satellite_label (place + 1) else []
+never_name bins at place = if is_never bins at place then 32 ∷ satellite_label 71 (place + 1) else []
 
 -- some satellite has the code at a place nowhere
 abbrev pub is_lacked : List TimeBin → ℕ → Bool

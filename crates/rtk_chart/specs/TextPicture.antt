@@ -10,6 +10,7 @@ use Rattle.rtk_chart.specs.Signs.{is_tracked, has_slip, has_return, has_rise, ha
 use Rattle.rtk_chart.specs.Heading.{interval_lines}
 use Rattle.rtk_chart.specs.Ticks.{tick_step, tick_at, tick_label, label_length}
 use Rattle.rtk_chart.specs.declared.scale.Scale.{Scale}
+use Rattle.rtk_chart.specs.declared.groups.Names.{Names}
 use Rattle.rtk_chart.specs.declared.text_picture.TheConstants.{SIGNS}
 use Rattle.rtk_chart.specs.declared.tracking.Tracking.{Tracking}
 use Rattle.rtk_chart.specs.declared.time_bin.TimeBin.{TimeBin}
@@ -47,15 +48,20 @@ character_of has out tracking =
 
 -- ---- rows
 
+-- constant
+-- the satellites of GPS, whose places are their numbers
+abbrev pub gps_names : Names
+gps_names = record { letter = 71; before = 0 }
+
 -- formula
--- as in G05
-abbrev pub satellite_label : ℕ → List ℕ
-satellite_label satellite = 71 ∷ (48 + satellite / 10) ∷ (48 + satellite % 10) ∷ []
+-- the letter of the system and two digits, as in G05
+abbrev pub satellite_label : ℕ → ℕ → List ℕ
+satellite_label letter number = letter ∷ (48 + number / 10) ∷ (48 + number % 10) ∷ []
 
 -- formula
 -- as in G05|
-abbrev pub row_head : ℕ → List ℕ
-row_head satellite = 71 ∷ (48 + satellite / 10) ∷ (48 + satellite % 10) ∷ 124 ∷ []
+abbrev pub row_head : ℕ → ℕ → List ℕ
+row_head letter number = letter ∷ (48 + number / 10) ∷ (48 + number % 10) ∷ 124 ∷ []
 
 -- formula
 -- what a bin shows of a satellite
@@ -64,16 +70,17 @@ character_at bins outages place c =
     character_of (has_code bins place) (is_out outages place c) (tracking_at place (get_or bins c no_bin))
 
 -- formula
-unfoldable pub satellite_row : List TimeBin → List Bool → ℕ → List ℕ
-satellite_row bins outages place =
-    row_head (place + 1) ++ map (character_at bins outages place) (range_with_len 0 (length bins)) ++ codes "|\n"
+unfoldable pub satellite_row : Names → List TimeBin → List Bool → ℕ → List ℕ
+satellite_row names bins outages place =
+    row_head names.letter (names.before + place + 1) ++ map (character_at bins outages place) (range_with_len 0 (length bins)) ++ codes "|\n"
 
-abbrev pub row_if_drawn : List TimeBin → List Bool → ℕ → List ℕ
-row_if_drawn bins outages place = if is_drawn bins place then satellite_row bins outages place else []
+abbrev pub row_if_drawn : Names → List TimeBin → List Bool → ℕ → List ℕ
+row_if_drawn names bins outages place = if is_drawn bins place then satellite_row names bins outages place else []
 
 -- formula
-unfoldable pub satellite_rows : List TimeBin → List Bool → List ℕ
-satellite_rows bins outages = flat_map (row_if_drawn bins outages) (range_with_len 0 32)
+-- the rows of the satellites that have one in the file
+unfoldable pub satellite_rows : Names → List TimeBin → List Bool → List ℕ
+satellite_rows names bins outages = flat_map (row_if_drawn names bins outages) (range_with_len 0 32)
 
 -- table
 -- an x where epochs are missing and none is there, and a / where some are missing
@@ -149,25 +156,26 @@ abbrev pub line_end : ℕ → List ℕ
 line_end n = if n == 0 then [] else 10 ∷ []
 
 -- formula
--- what stands before a satellite, as in never 2W: if it is the first of a line, after so many satellites
-abbrev pub never_start : Code → ℕ → ℕ → List ℕ
-never_start code each n = if n % each == 0 then line_end n ++ codes "never " ++ name_of code ++ codes ":" else []
+-- what stands before a satellite, with the name of the code, as in never 2W: if it is the first of a line, after so many
+-- satellites
+abbrev pub never_start : List ℕ → ℕ → ℕ → List ℕ
+never_start title each n = if n % each == 0 then line_end n ++ codes "never " ++ title ++ codes ":" else []
 
 -- formula
-abbrev pub never_part : List TimeBin → Code → ℕ → ℕ → ℕ → List ℕ
-never_part bins code at each place =
-    if is_never bins at place then never_start code each (never_before bins at place) ++ 32 ∷ satellite_label (place + 1) else []
+abbrev pub never_part : Names → List TimeBin → List ℕ → ℕ → ℕ → ℕ → List ℕ
+never_part names bins title at each place =
+    if is_never bins at place then never_start title each (never_before bins at place) ++ 32 ∷ satellite_label names.letter (names.before + place + 1) else []
 
 -- formula
 -- the satellites that have the code at a place nowhere, so many in a line
-unfoldable pub never_lines : List TimeBin → ℕ → ℕ → Code → List ℕ
-never_lines bins each at code =
-    flat_map (never_part bins code at each) (range_with_len 0 32) ++ line_end (never_before bins at 32)
+unfoldable pub never_lines : Names → List TimeBin → ℕ → ℕ → List ℕ → List ℕ
+never_lines names bins each at title =
+    flat_map (never_part names bins title at each) (range_with_len 0 32) ++ line_end (never_before bins at 32)
 
--- the codes from a place on
-abbrev pub all_never_lines : List TimeBin → ℕ → ℕ → List Code → List ℕ
-all_never_lines bins each at [] = []
-all_never_lines bins each at (c ∷ cs) = never_lines bins each at c ++ all_never_lines bins each (at + 1) cs
+-- the codes from a place on, each with its name
+abbrev pub all_never_lines : {C : Type 0} → (C → List ℕ) → Names → List TimeBin → ℕ → ℕ → List C → List ℕ
+all_never_lines title names bins each at [] = []
+all_never_lines title names bins each at (c ∷ cs) = never_lines names bins each at (title c) ++ all_never_lines title names bins each (at + 1) cs
 
 -- ---- the picture
 
@@ -211,7 +219,8 @@ time_rows s width = axis_row s (text_tick_step s) ++ label_row s width (text_tic
 -- what stands below the heading of a picture of this width: what the bins show, and what the signs mean
 unfoldable pub text_body : List Code → Scale → ℕ → List TimeBin → List Bool → List Bool → List Bool → List ℕ
 text_body listed s width bins outages recorded gaps =
-    codes "GPS\n" ++ satellite_rows bins outages ++ gap_row recorded gaps ++ time_rows s width ++ all_never_lines bins (never_in_line width) 0 listed ++ SIGNS.now
+    codes "GPS\n" ++ satellite_rows gps_names bins outages ++ gap_row recorded gaps ++ time_rows s width
+    ++ all_never_lines name_of gps_names bins (never_in_line width) 0 listed ++ SIGNS.now
 
 -- the picture of a file with records: its marker, its codes, its scale, its width, the numbers of its
 -- records, slips, returns, rises and missing epochs, and what its bins show

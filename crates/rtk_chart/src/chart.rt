@@ -12,8 +12,8 @@ use crate::text_picture::{text_of_none, text_picture};
 use rtk_rinex::TextTable;
 use std::alloc::{AllocError, Global};
 
-// How many characters of a row are no bins: three of the label, and two bars, as in G05|5555|.
-const FRAME: u16 = 5;
+/// How many characters of a row are no bins: three of the label, and two bars, as in G05|5555|.
+pub(crate) const FRAME: u16 = 5;
 
 /// The picture of a table in characters: a heading, a row for each satellite, with a character for each
 /// bin of time, the codes that satellites have nowhere, and what the signs mean. Rows are at most so many

@@ -23,8 +23,8 @@ pub enum Choice {
     These(Chosen),
 }
 
-// The satellite of this index is chosen.
-fn is_chosen(chosen: &Chosen, satellite: u8) -> bool
+/// The satellite of this index is chosen.
+pub(crate) fn is_chosen(chosen: &Chosen, satellite: u8) -> bool
     ensures { result ≡ is_chosen chosen.now satellite }
 {
     let place = usize::from(satellite.saturating_sub(1));

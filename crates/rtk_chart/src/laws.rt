@@ -3,10 +3,11 @@
 
 ghost use Rattle.rtk_chart.specs.Laws.{BinsAreFew, ShorterBinsAreTooMany, ScalesFillRoom, RowsHaveAllBins, ColumnsFillWidth, MissingMarksAreEpochs, MeansAreOfStrengths};
 ghost use Rattle.rtk_chart.specs.MarkLaws.{CodesShowEpochs, SatellitesShowEpochs, CodesAreOfEpochs, GapsAreMissing, OutagesAreOfEpochs, MissingAreOfSteps, SlipsAndRisesAreDigits};
+ghost use Rattle.rtk_chart.specs.GroupLaws.{SatellitesAreLabelled};
 ghost use Rattle.rtk_chart.specs.HeadingLaws.{TablesHaveNumbers, TextHasHeading, EqualTextHeadings, SvgHasHeading, EqualSvgHeadings};
 ghost use Rattle.rtk_chart.specs.SizeLaws.{SvgHasItsHeight, DaysFitScreen, NoneIsHigher, BarsAreSmall, NoBarIsLarger, BandsAreSmall, PicturesAreSmall, DaysAreSmall};
 
-use rtk_obs::one_reading;
+use rtk_obs::{one_reading, satellite_laws};
 use rtk_tracking::bits_are_of_three_kinds;
 
 /// A bin, which is drawn as a column, is as few intervals long as leave room for the file: so long,
@@ -48,6 +49,14 @@ pub fn marks_are_of_epochs()
 pub fn means_are_of_strengths()
     ensures { MeansAreOfStrengths }
 {}
+
+/// In a picture of a file of any systems each satellite is drawn in one of the two groups of its system, and in no other
+/// one. Its label there is its name in RINEX.
+pub fn satellites_are_labelled()
+    ensures { SatellitesAreLabelled }
+{
+    satellite_laws();
+}
 
 /// Missing epochs are counted step by step, and slips, returns and rises digit by digit: each digit with bit 0
 /// is one of the three.

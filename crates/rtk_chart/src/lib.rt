@@ -52,9 +52,13 @@
 mod chart;
 mod choice;
 mod code_marks;
+mod drawn;
 mod grid;
+mod group_rows;
+mod groups;
 mod laws;
 mod layer;
+mod mixed_chart;
 mod never;
 mod observations;
 mod outages;
@@ -83,10 +87,12 @@ mod tracking;
 
 pub use chart::{chart_svg, chart_text, chosen_svg, chosen_text};
 pub use choice::{Choice, Chosen};
+pub use group_rows::is_there_of_any;
 pub use laws::{
     bins_are_least, bins_fill_room, counts_are_of_epochs, files_have_numbers, marks_are_of_epochs,
-    means_are_of_strengths, missing_marks_are_epochs, svg_bars_are_small,
+    means_are_of_strengths, missing_marks_are_epochs, satellites_are_labelled, svg_bars_are_small,
     svg_headings_tell_numbers, svg_heights_are_of_what_is_drawn, svg_pictures_are_small,
     text_headings_tell_numbers,
 };
+pub use mixed_chart::mixed_chart_text;
 pub use passes::is_there;

@@ -4,6 +4,7 @@ ghost use Rattle.std.specs.Prelude.{◌≡◌, List, [], ◌∷◌, OnOk};
 ghost use Rattle.rtk_rinex.specs.Record.{EpochTableView};
 ghost use Rattle.rtk_chart.specs.Steps.Standing.{StandsForSurvey};
 
+use rtk_obs::GpsMs;
 use rtk_rinex::EpochTable;
 use rtk_tracking::StepCounts;
 use std::alloc::{AllocError, Global};
@@ -24,6 +25,16 @@ impl Survey {
             records: 0,
             steps: StepCounts::new(alloc),
         }
+    }
+
+    /// Counts one more record, which is at this moment.
+    pub(crate) fn count_moment(&mut self, time: GpsMs) -> Result<(), AllocError>
+        ensures { OnOk result ((es : List EpochTableView) (e : EpochTableView) → e.time ≡ time → StandsForSurvey self.old es
+            → StandsForSurvey self.new (e ∷ es)) }
+    {
+        self.steps.note_time(time)?;
+        self.records = self.records.saturating_add(1);
+        Ok(())
     }
 
     /// Counts one more record.

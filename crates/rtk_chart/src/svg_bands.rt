@@ -71,12 +71,12 @@ fn put_band_start(
     ensures { OnOk result (text.new.items ≡ text.old.items ++ band_start spacing top satellite stripe height) }
 {
     put_between(text, b"<g transform='translate(110 ", top, b")'>\n<title>")?;
-    put_label(text, satellite)?;
+    put_label(text, b'G', satellite)?;
     put_between(text, STRIPE_START, stripe, b"' x='-110' width='1620'")?;
     put_between(text, b" height='", height, b"'/>\n")?;
     let name_y = height / 2 + spacing.name_drop();
     put_between(text, spacing.name_start(), name_y, b"'>")?;
-    put_label(text, satellite)?;
+    put_label(text, b'G', satellite)?;
     text.extend_from_slice(b"</text>\n")?;
     Ok(())
 }

@@ -112,7 +112,7 @@ fn put_code_line(
         top,
         spacing.line_start(),
     )?;
-    put_label(text, place as u8 + 1)?;
+    put_label(text, b'G', place as u8 + 1)?;
     text.extend_from_slice(b" ")?;
     text.extend_from_slice(&code.name())?;
     put_drawn_bar(alloc, text, bins, place, at)?;

@@ -41,7 +41,7 @@ fn put_name(text: &mut Vec<u8>, bins: &[TimeBin], at: usize, place: usize) -> Re
         return Ok(());
     }
     text.extend_from_slice(b" ")?;
-    put_label(text, place as u8 + 1)
+    put_label(text, b'G', place as u8 + 1)
 }
 
 fn put_names(text: &mut Vec<u8>, bins: &[TimeBin], at: usize) -> Result<(), AllocError>

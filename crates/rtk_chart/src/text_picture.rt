@@ -3,10 +3,11 @@
 ghost use Rattle.std.specs.Prelude.{◌≡◌, ◌≤◌, ◌<◌, ◌++◌, ℕ, Bool, false, length, get_or, OnOk, IfOk};
 ghost use Rattle.rtk_tracking.specs.Standing.{AreMarked};
 ghost use Rattle.rtk_chart.specs.Scale.{IsScale};
-ghost use Rattle.rtk_chart.specs.TextPicture.{strength_mark, phase_mark, character_of, satellite_row, row_if_drawn, satellite_rows, drawn_before, gap_mark, gap_row, named_count_line, moment_line, text_heading, text_of_none};
-ghost use Rattle.rtk_chart.specs.Steps.Pictures.{body_of_grid, numbers_of_grid, text_of_grid};
+ghost use Rattle.rtk_chart.specs.TextPicture.{strength_mark, phase_mark, character_of, satellite_row, row_if_drawn, satellite_rows, drawn_before, gap_mark, gap_row, named_count_line, moment_line, text_heading, number_lines, text_of_none};
+ghost use Rattle.rtk_chart.specs.Steps.Pictures.{body_of_grid, text_of_grid};
 
 use crate::grid::Grid;
+use crate::groups::{Names, gps_names};
 use crate::never::{never_in_line, put_never};
 use crate::outages::is_out;
 use crate::scale::Scale;
@@ -84,17 +85,19 @@ pub(crate) fn drawn_before(bins: &[TimeBin], place: usize) -> u64
 // be missing in a bin.
 fn put_row(
     text: &mut Vec<u8>,
+    names: Names,
     bins: &[TimeBin],
     outages: &[bool],
     place: usize,
 ) -> Result<(), AllocError>
+    requires names { names.before ≤ 67 }
     requires place { place < 32 }
     requires few { length bins.now ≤ 1440 }
-    ensures { OnOk result (text.new.items ≡ text.old.items ++ satellite_row bins.now outages.now place) }
+    ensures { OnOk result (text.new.items ≡ text.old.items ++ satellite_row names bins.now outages.now place) }
 {
-    let satellite = place as u8 + 1;
+    let number = names.before + place as u8 + 1;
     let had = codes_had(bins, place);
-    text.extend_from_slice(&[b'G', b'0' + satellite / 10, b'0' + satellite % 10, b'|'])?;
+    text.extend_from_slice(&[names.letter, b'0' + number / 10, b'0' + number % 10, b'|'])?;
     for bin in 0..bins.len() {
         let out = is_out(outages, place, bin);
         text.push(character_of(&had, out, bins[bin].satellite(place)))?;
@@ -105,26 +108,35 @@ fn put_row(
 
 fn put_row_if_drawn(
     text: &mut Vec<u8>,
+    names: Names,
     bins: &[TimeBin],
     outages: &[bool],
     place: usize,
 ) -> Result<(), AllocError>
+    requires names { names.before ≤ 67 }
     requires place { place < 32 }
     requires few { length bins.now ≤ 1440 }
-    ensures { OnOk result (text.new.items ≡ text.old.items ++ row_if_drawn bins.now outages.now place) }
+    ensures { OnOk result (text.new.items ≡ text.old.items ++ row_if_drawn names bins.now outages.now place) }
 {
     if is_drawn(bins, place) {
-        put_row(text, bins, outages, place)?;
+        put_row(text, names, bins, outages, place)?;
     }
     Ok(())
 }
 
-fn put_rows(text: &mut Vec<u8>, bins: &[TimeBin], outages: &[bool]) -> Result<(), AllocError>
-    requires { length bins.now ≤ 1440 }
-    ensures { OnOk result (text.new.items ≡ text.old.items ++ satellite_rows bins.now outages.now) }
+/// Appends the rows of the satellites that are in the file.
+pub(crate) fn put_rows(
+    text: &mut Vec<u8>,
+    names: Names,
+    bins: &[TimeBin],
+    outages: &[bool],
+) -> Result<(), AllocError>
+    requires names { names.before ≤ 67 }
+    requires few { length bins.now ≤ 1440 }
+    ensures { OnOk result (text.new.items ≡ text.old.items ++ satellite_rows names bins.now outages.now) }
 {
     for place in 0..32 {
-        put_row_if_drawn(text, bins, outages, place)?;
+        put_row_if_drawn(text, names, bins, outages, place)?;
     }
     Ok(())
 }
@@ -146,7 +158,12 @@ fn gap_mark(recorded: bool, missing: bool) -> u8
     }
 }
 
-fn put_gap_row(text: &mut Vec<u8>, recorded: &[bool], gaps: &[bool]) -> Result<(), AllocError>
+/// Appends the row of the bins with missing epochs.
+pub(crate) fn put_gap_row(
+    text: &mut Vec<u8>,
+    recorded: &[bool],
+    gaps: &[bool],
+) -> Result<(), AllocError>
     ensures { OnOk result (text.new.items ≡ text.old.items ++ gap_row recorded.now gaps.now) }
 {
     text.extend_from_slice(b"gap|")?;
@@ -175,7 +192,12 @@ fn put_moment_line(text: &mut Vec<u8>, words: &[u8], moment: GpsMs) -> Result<()
     Ok(())
 }
 
-fn put_heading(text: &mut Vec<u8>, marker: &[u8], scale: &Scale) -> Result<(), AllocError>
+/// Appends the marker and the span of a file with records.
+pub(crate) fn put_heading(
+    text: &mut Vec<u8>,
+    marker: &[u8],
+    scale: &Scale,
+) -> Result<(), AllocError>
     requires { IsScale scale.now }
     ensures { OnOk result (text.new.items ≡ text.old.items ++ text_heading marker.now scale.now) }
 {
@@ -187,21 +209,26 @@ fn put_heading(text: &mut Vec<u8>, marker: &[u8], scale: &Scale) -> Result<(), A
     Ok(())
 }
 
-fn put_numbers(
+/// Appends the lines of the interval and of the numbers in a heading.
+pub(crate) fn put_numbers(
     text: &mut Vec<u8>,
     scale: &Scale,
-    survey: &Survey,
-    grid: &Grid,
+    records: u64,
+    satellites: u64,
+    slips: u64,
+    returns: u64,
+    rises: u64,
+    missing: u64,
 ) -> Result<(), AllocError>
-    ensures { OnOk result (text.new.items ≡ text.old.items ++ numbers_of_grid scale.now survey.now grid.now) }
+    ensures { OnOk result (text.new.items ≡ text.old.items ++ number_lines scale.now records satellites slips returns rises missing) }
 {
     put_interval(text, scale.interval, scale.bin_ms)?;
-    put_line(text, b"records ", survey.records)?;
-    put_line(text, b"satellites ", drawn_before(grid.bins.as_slice(), 32))?;
-    put_line(text, b"slips ", grid.slips)?;
-    put_line(text, b"returns ", grid.returns)?;
-    put_line(text, b"rises ", grid.rises)?;
-    put_line(text, b"missing ", grid.missing)?;
+    put_line(text, b"records ", records)?;
+    put_line(text, b"satellites ", satellites)?;
+    put_line(text, b"slips ", slips)?;
+    put_line(text, b"returns ", returns)?;
+    put_line(text, b"rises ", rises)?;
+    put_line(text, b"missing ", missing)?;
     Ok(())
 }
 
@@ -218,11 +245,13 @@ fn put_body(
     requires width { 40 ≤ width }
     ensures { OnOk result (text.new.items ≡ text.old.items ++ body_of_grid codes.now scale.now width grid.now) }
 {
+    let names = gps_names();
+    let bins = grid.bins.as_slice();
     text.extend_from_slice(b"GPS\n")?;
-    put_rows(text, grid.bins.as_slice(), grid.outages.as_slice())?;
+    put_rows(text, names, bins, grid.outages.as_slice())?;
     put_gap_row(text, grid.recorded.as_slice(), grid.gaps.as_slice())?;
     put_time(text, scale, width)?;
-    put_never(text, grid.bins.as_slice(), never_in_line(width), codes)?;
+    put_never(text, names, bins, never_in_line(width), codes)?;
     text.extend_from_slice(SIGNS)?;
     Ok(())
 }
@@ -242,9 +271,19 @@ pub(crate) fn text_picture(
     requires width { 40 ≤ width }
     ensures { IfOk result (λ text. text.items ≡ text_of_grid marker.now codes.now scale.now width survey.now grid.now) }
 {
+    let satellites = drawn_before(grid.bins.as_slice(), 32);
     let mut text = Vec::new(alloc);
     put_heading(&mut text, marker, scale)?;
-    put_numbers(&mut text, scale, survey, grid)?;
+    put_numbers(
+        &mut text,
+        scale,
+        survey.records,
+        satellites,
+        grid.slips,
+        grid.returns,
+        grid.rises,
+        grid.missing,
+    )?;
     put_body(&mut text, codes, scale, width, grid)?;
     Ok(text)
 }

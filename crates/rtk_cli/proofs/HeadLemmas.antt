@@ -6,7 +6,7 @@ use Rattle.rtk_rinex.specs.MixedHead.{GlonassView, MixedHeadView, IsMixedList, T
 use Rattle.rtk_rinex.specs.declared.mixed_head_fault.MixedHeadFault.{MixedHeadFault}
 use Rattle.rtk_rinex.specs.declared.mixed_head_fault.MixedHeadFault.TheVariants as fault
 use Rattle.rtk_setup.specs.Rates.{without_rates}
-use Rattle.rtk_cli.specs.declared.options.ConvertOptions.{ConvertOptions}
+use Rattle.rtk_cli.specs.declared.convert_words.ConvertOptions.{ConvertOptions}
 use Rattle.rtk_cli.specs.declared.words.BadWords.{BadWords}
 use Rattle.rtk_cli.specs.declared.words.BadWords.TheVariants.{Codes, Channels, NoChannels, NoGlonass, NoRates}
 use Rattle.rtk_cli.specs.Steps.AnyCodeList.{in_file_order}

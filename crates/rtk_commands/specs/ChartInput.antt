@@ -1,12 +1,15 @@
 -- The command `chart`: what it writes of a table.
 use Rattle.std.specs.Prelude.{◌≡◌, ◌⊎◌, ℕ, Bool, true, false, List, [], Option, None, Some}
 use Rattle.std.specs.Int.{IsInRange}
+use Rattle.rtk_rinex.specs.MixedTable.{mixed_table_text}
 use Rattle.rtk_rinex.specs.Table.{table_text}
 use Rattle.rtk_label.specs.Labelled.{LabelView}
 use Rattle.rtk_label.specs.declared.time_lines.TimeLines.{TimeLines}
 use Rattle.rtk_tracking.specs.Epochs.{HoldsOfEpochs}
 use Rattle.rtk_chart.specs.Choice.{is_there}
 use Rattle.rtk_chart.specs.Chart.{ShowsChosen, ShowsChosenInSvg}
+use Rattle.rtk_chart.specs.Groups.{HoldsOfMixed}
+use Rattle.rtk_chart.specs.MixedChart.{ShowsSystems}
 use Rattle.rtk_chart.specs.declared.choice.Choice.{Choice}
 use Rattle.rtk_commands.specs.declared.charting.Chart.{Chart}
 use Rattle.rtk_commands.specs.declared.file_answer.FileAnswer.{FileAnswer}
@@ -33,7 +36,31 @@ DrawsFile chart file answer bytes =
     ((answer ≡ Written) × Has chart.choice file true × IsPicture chart.width chart.choice file bytes)
     ⊎ ((answer ≡ NoneChosen) × Has chart.choice file false × (bytes ≡ []))
 
--- the same of a file of GPS, whatever its label and its time lines; of one with other systems nothing
+-- the same of a file with other systems
+abbrev pub HasOfSystems : Choice → List ℕ → Bool → Type 0
+HasOfSystems choice file some = HoldsOfMixed file (λ es. some ≡ is_there choice es)
+
+abbrev pub DrawsSystems : ℕ → Choice → List ℕ → FileAnswer → List ℕ → Type 0
+DrawsSystems width choice file answer bytes =
+    ((answer ≡ Written) × HasOfSystems choice file true × ShowsSystems choice file width bytes)
+    ⊎ ((answer ≡ NoneChosen) × HasOfSystems choice file false × (bytes ≡ []))
+
+-- in SVG there is no picture of a file with other systems
+abbrev pub DrawsMixedFile : Option ℕ → Choice → List ℕ → FileAnswer → List ℕ → Type 0
+DrawsMixedFile None choice file answer bytes = (answer ≡ OtherSystems) × (bytes ≡ [])
+DrawsMixedFile (Some width) choice file answer bytes = DrawsSystems width choice file answer bytes
+
+-- a picture of the choice of a file with other systems
+abbrev pub IsMixedPicture : Option ℕ → Choice → List ℕ → List ℕ → Type 0
+IsMixedPicture None choice file picture = ⊥
+IsMixedPicture (Some width) choice file picture = ShowsSystems choice file width picture
+
+-- a picture of what is chosen of a file
+abbrev pub IsPictureOf : Chart → FileTable → List ℕ → Type 0
+IsPictureOf chart (OfGps t) picture = IsPicture chart.width chart.choice (table_text t) picture
+IsPictureOf chart (OfSystems t) picture = IsMixedPicture chart.width chart.choice (mixed_table_text t) picture
+
+-- the same of a file, whatever its label and its time lines
 abbrev pub DrawsTable : Chart → FileTable → TimeLines → LabelView → FileAnswer → List ℕ → Type 0
 DrawsTable chart (OfGps t) w l answer bytes = DrawsFile chart (table_text t) answer bytes
-DrawsTable chart (OfSystems t) w l answer bytes = (answer ≡ OtherSystems) × (bytes ≡ [])
+DrawsTable chart (OfSystems t) w l answer bytes = DrawsMixedFile chart.width chart.choice (mixed_table_text t) answer bytes

@@ -1,7 +1,6 @@
 -- Laws of what is written: after the bytes that a writer held before stands exactly the line, the
 -- picture, the numbers, the part or the file with a label of the whole text, and nothing else.
 use Rattle.std.specs.Prelude.{◌≡◌, ℕ, Bool, false, List, ◌++◌, Some}
-use Rattle.rtk_rinex.specs.Table.{WellFormedTable, IsWellFormedTable, table_text}
 use Rattle.rtk_quality.specs.declared.form.Form.{Form}
 use Rattle.rtk_cut.specs.declared.part.Part.{Part}
 use Rattle.rtk_cut.specs.declared.counts.CutCounts.{CutCounts}
@@ -10,11 +9,11 @@ use Rattle.rtk_label.specs.declared.time_lines.TimeLines.{TimeLines}
 use Rattle.rtk_commands.specs.declared.charting.Chart.{Chart}
 use Rattle.rtk_commands.specs.declared.file_answer.FileAnswer.TheVariants.{Written, Cut}
 use Rattle.rtk_commands.specs.CheckInput.{SaysVerdict, Tells}
-use Rattle.rtk_commands.specs.ChartInput.{IsPicture, DrawsTable}
+use Rattle.rtk_commands.specs.ChartInput.{IsPictureOf, DrawsTable}
 use Rattle.rtk_commands.specs.QualityInput.{TellsNumbersOf, TellsTable}
 use Rattle.rtk_commands.specs.CutInput.{part_of_file, part_counts, CutsTable}
 use Rattle.rtk_commands.specs.LabelInput.{LabelsTable}
-use Rattle.rtk_commands.specs.FileTable.{FileTable, OfGps, IsFileTable, file_text, file_site, labelled_file}
+use Rattle.rtk_commands.specs.FileTable.{FileTable, IsFileTable, file_text, file_site, labelled_file}
 use Rattle.rtk_commands.specs.FileText.{WritesAll}
 use Rattle.rtk_commands.specs.WithLabel.{IsWithLabel, WritesOfTable}
 
@@ -28,8 +27,7 @@ LineFollows =
 abbrev pub PictureFollows : Type 0
 PictureFollows =
     (chart : Chart) (text first last : List ℕ) → WritesAll (WritesOfTable (DrawsTable chart) text Written) (Some first) (Some last)
-    → (t : WellFormedTable) × IsWellFormedTable t × IsWithLabel text (OfGps t)
-    × ((picture : List ℕ) × IsPicture chart.width chart.choice (table_text t) picture × (last ≡ first ++ picture))
+    → (f : FileTable) × IsFileTable f × IsWithLabel text f × ((picture : List ℕ) × IsPictureOf chart f picture × (last ≡ first ++ picture))
 
 -- the numbers of a file
 abbrev pub NumbersFollow : Type 0

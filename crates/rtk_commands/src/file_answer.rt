@@ -23,7 +23,7 @@ pub enum FileAnswer {
     NoneChosen,
     /// Nothing is written: the file has no code of this system, which is to be kept.
     Absent(System),
-    /// Nothing is written: the file has other systems than GPS, of which this command knows nothing.
+    /// Nothing is written: the file has other systems than GPS, which `chart` draws in characters alone.
     OtherSystems,
 }
 
@@ -80,7 +80,7 @@ impl FileAnswer {
                 NOT_VALID
             }
             FileAnswer::OtherSystems => {
-                let _printed = eprintln!(rt; "rtcm2rinex: other systems than GPS");
+                let _printed = eprintln!(rt; "rtcm2rinex: other systems than GPS: add --text");
                 NOT_VALID
             }
         }

@@ -131,9 +131,11 @@ module _ (h : MixedHeadView) where
   of-glonass : (m : Msm) (k row bit field signal : ℕ) (code : AnyCode) → code_in Glonass signal ≡ Some code → is_taken Glonass bit ≡ true
       → HasPhase (record { satellite = 32 + bit; code = code; doppler_millihertz = pos 0; cell = cell_on m k row (frequency_at (carrier_of code) (channel_in Glonass (channels_of h.glonass) bit field)) })
   of-glonass m k row bit field signal code is taken none =
-      let channel = channel-none (channels_of h.glonass) bit field (untold-slot bit taken none) in
-      (ap (λ (o : Option ℤ). (cell_on m k row (frequency_at (carrier_of code) o)).phase_millicycles) channel
-      ∙ ap (λ (f : Option ℕ). (cell_on m k row f).phase_millicycles) (glonass-frequency signal code is), refl)
+      let channel = channel-none (channels_of h.glonass) bit field (untold-slot bit taken none) in (
+        ap (λ (o : Option ℤ). (cell_on m k row (frequency_at (carrier_of code) o)).phase_millicycles) channel
+            ∙ ap (λ (f : Option ℕ). (cell_on m k row f).phase_millicycles) (glonass-frequency signal code is),
+        refl,
+      )
 
   abbrev entry_of : System → Msm → ℕ → ℕ → ℕ → ℕ → AnyCode → SignalEntry
   entry_of s m k row bit field code =
@@ -177,15 +179,19 @@ module _ (h : MixedHeadView) where
   -- the entries of a 1012
   of-l1 : (s : GlonassSatellite) (code : AnyCode) → frequency_at (carrier_of code) None ≡ None → is_taken Glonass s.slot ≡ true
       → HasPhase (glonass_l1_entry s (glonass_channel (channels_of h.glonass) s) (32 + s.slot) code)
-  of-l1 s code is taken none =
-      (ap (λ (o : Option ℤ). (glonass_l1_cell s (frequency_at (carrier_of code) (unless_other_in_1012 s.channel o))).phase_millicycles) (untold-slot s.slot taken none)
-      ∙ ap (λ (f : Option ℕ). (glonass_l1_cell s f).phase_millicycles) is, refl)
+  of-l1 s code is taken none = (
+    ap (λ (o : Option ℤ). (glonass_l1_cell s (frequency_at (carrier_of code) (unless_other_in_1012 s.channel o))).phase_millicycles) (untold-slot s.slot taken none)
+        ∙ ap (λ (f : Option ℕ). (glonass_l1_cell s f).phase_millicycles) is,
+    refl,
+  )
 
   of-l2 : (s : GlonassSatellite) (code : AnyCode) → frequency_at (carrier_of code) None ≡ None → is_taken Glonass s.slot ≡ true
       → HasPhase (glonass_l2_entry s (glonass_channel (channels_of h.glonass) s) (32 + s.slot) code)
-  of-l2 s code is taken none =
-      (ap (λ (o : Option ℤ). (glonass_l2_cell s (frequency_at (carrier_of code) (unless_other_in_1012 s.channel o))).phase_millicycles) (untold-slot s.slot taken none)
-      ∙ ap (λ (f : Option ℕ). (glonass_l2_cell s f).phase_millicycles) is, refl)
+  of-l2 s code is taken none = (
+    ap (λ (o : Option ℤ). (glonass_l2_cell s (frequency_at (carrier_of code) (unless_other_in_1012 s.channel o))).phase_millicycles) (untold-slot s.slot taken none)
+        ∙ ap (λ (f : Option ℕ). (glonass_l2_cell s f).phase_millicycles) is,
+    refl,
+  )
 
   of-l2-if : (s : GlonassSatellite) (o : Option AnyCode) → IfSome o (λ code. frequency_at (carrier_of code) None ≡ None) → is_taken Glonass s.slot ≡ true
       → All HasPhase (glonass_l2_entries s (glonass_channel (channels_of h.glonass) s) (32 + s.slot) o)
@@ -233,11 +239,12 @@ module _ (h : MixedHeadView) where
   shift-glonass : (m : Msm) (k row bit field signal : ℕ) (code : AnyCode) → code_in Glonass signal ≡ Some code → is_taken Glonass bit ≡ true
       → HasPhase (shift_entry_of Glonass m k row bit field code)
   shift-glonass m k row bit field signal code is taken none =
-      let channel = channel-none (channels_of h.glonass) bit field (untold-slot bit taken none) in
-      (ap (λ (o : Option ℤ). (cell_on m k row (frequency_at (carrier_of code) o)).phase_millicycles) channel
-      ∙ ap (λ (f : Option ℕ). (cell_on m k row f).phase_millicycles) (glonass-frequency signal code is),
-      ap (λ (o : Option ℤ). doppler_on (frequency_at (carrier_of code) o) (rate_at m k row)) channel
-      ∙ ap (λ (f : Option ℕ). doppler_on f (rate_at m k row)) (glonass-frequency signal code is))
+      let channel = channel-none (channels_of h.glonass) bit field (untold-slot bit taken none) in (
+        ap (λ (o : Option ℤ). (cell_on m k row (frequency_at (carrier_of code) o)).phase_millicycles) channel
+            ∙ ap (λ (f : Option ℕ). (cell_on m k row f).phase_millicycles) (glonass-frequency signal code is),
+        ap (λ (o : Option ℤ). doppler_on (frequency_at (carrier_of code) o) (rate_at m k row)) channel
+            ∙ ap (λ (f : Option ℕ). doppler_on f (rate_at m k row)) (glonass-frequency signal code is),
+      )
 
   shift-system : (s : System) (m : Msm) (k row bit field signal : ℕ) (code : AnyCode) → code_in s signal ≡ Some code → is_taken s bit ≡ true
       → HasPhase (shift_entry_of s m k row bit field code)

@@ -41,8 +41,8 @@ mixed-room l room =
 pub gps-kept : (old new : RecordLinesView) → KeepsLines old new → Keeps HasGpsRows old new
 gps-kept old new k doppler rows h = record {
   holds = record {
-      holds = record { lines = ap (drop 36) k.text ∙ h.holds.holds.lines; count = k.count ∙ h.holds.holds.count };
-      satellites = h.holds.satellites;
+    holds = record { lines = ap (drop 36) k.text ∙ h.holds.holds.lines; count = k.count ∙ h.holds.holds.count };
+    satellites = h.holds.satellites;
   };
   plain = h.plain;
 }
@@ -117,8 +117,8 @@ gps-blank l doppler rows r none h =
     let same = lines-blank false rows r (no-line-in false r none) in
     record {
       holds = record {
-          holds = record { lines = h.holds.holds.lines ∙ ap (flat_map satellite_line) same; count = h.holds.holds.count ∙ ap length same };
-          satellites = (All-pop (λ (x : SatelliteRow). x.satellite ≤ 32) (rows ++ r ∷ []) rows (Some r) refl h.holds.satellites).0;
+        holds = record { lines = h.holds.holds.lines ∙ ap (flat_map satellite_line) same; count = h.holds.holds.count ∙ ap length same };
+        satellites = (All-pop (λ (x : SatelliteRow). x.satellite ≤ 32) (rows ++ r ∷ []) rows (Some r) refl h.holds.satellites).0;
       };
       plain = h.plain;
     }

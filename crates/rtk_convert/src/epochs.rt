@@ -193,9 +193,9 @@ impl Epochs<SignalEntry> {
         let channels = setup.channels();
         let sbas = setup.takes_sbas();
         let doppler = setup.has_doppler();
-        let offer =
-            self.collector
-                .offer_signals(dated, channels, sbas, doppler, &mut self.conflicts)?;
+        let offer = self
+            .collector
+            .offer_signals(dated, channels, sbas, doppler, &mut self.conflicts)?;
         let class = class_of(&offer);
         let conflicts = self.conflicts.as_slice();
         let lines = report::message_lines::<SignalEntry>(

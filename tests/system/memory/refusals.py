@@ -17,6 +17,7 @@ LIBRARY = "./refuse.so"
 OUT_OF_MEMORY = b"rtcm2rinex: out of memory\n"
 COUNTS = 9  # the lines at the end of a report
 NEWLINE = b"\n"
+TESTS = Path(__file__).resolve().parents[2]
 STACK = 128  # kB, as docs/MANUAL.md says
 # kB of address space: from twice what the program and the C library take, some 3,000, to twice what the file `long` of 10 MB needs.
 SPACES = range(6_000, 40_000, 2_000)
@@ -275,6 +276,8 @@ def scenes() -> Iterator[Scene]:
         yield Scene(words.split())
     for words in ("check examples/base.rnx", "chart examples/marks.rnx", "chart --text examples/marks.rnx"):
         yield Scene(words.split())
+    for words in ("chart --text mixed", "chart --text --systems EC mixed", "quality mixed"):
+        yield Scene(words.split())
     for words in ("quality examples/marks.rnx", "quality --lines examples/marks.rnx", "quality --json examples/marks.rnx"):
         yield Scene(words.split())
     yield Scene(["show", "--hex", "stdin"], given="examples/arp1005.hex")
@@ -354,6 +357,7 @@ def main() -> None:
     program = Program(path, folder)
     os.symlink(examples, "examples")
     Path("wrong").write_bytes(Path("examples/base.rnx").read_bytes().replace(b"45.000", b"45.100"))
+    Path("mixed").write_bytes((TESTS / "program/mixed.rnx").read_bytes())
     Path("split").write_bytes(split_epochs())
     Path("many").write_bytes(single_satellite(4100))
     Path("rare").write_bytes(rare_messages())

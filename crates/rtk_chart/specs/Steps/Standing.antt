@@ -1,5 +1,5 @@
 -- What the parts of a chart hold, tied to the epochs that came so far.
-use Rattle.std.specs.Prelude.{◌≡◌, ◌<◌, ℕ, ◌+◌, Bool, false, ◌||◌, List, ◌∷◌, length, get_or, Option}
+use Rattle.std.specs.Prelude.{◌≡◌, ◌<◌, ℕ, ◌+◌, Bool, false, ◌||◌, List, [], ◌∷◌, length, map, get_or, Option}
 use Rattle.rtk_obs.specs.declared.code.Code.{Code}
 use Rattle.rtk_rinex.specs.Record.{EpochTableView}
 use Rattle.rtk_tracking.specs.Epochs.{capped, newest_moment}
@@ -49,3 +49,10 @@ pub record StandsForGrid (g : Grid) (s : Scale) (listed : List Code) (es : List 
   pub slips : g.slips ≡ slips_at s es
   pub returns : g.returns ≡ returns_at s es
   pub rises : g.rises ≡ rises_at s es
+
+-- an epoch without its rows
+abbrev pub bare_epoch : EpochTableView → EpochTableView
+bare_epoch e = record { time = e.time; rows = [] }
+
+abbrev pub bare_epochs : List EpochTableView → List EpochTableView
+bare_epochs es = map bare_epoch es

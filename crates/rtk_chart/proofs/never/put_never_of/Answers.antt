@@ -7,7 +7,7 @@ use Rattle.rtk_chart.proofs.never.put_never_of.Goals as goal
 
 pub loop-place-preserved : goal.loop-place-preserved
 loop-place-preserved c =
-    put-more (never_part c.args.bins.now c.args.code c.args.at c.args.in_line) 0 c.loop-place.place c.loop-place.place c.args.text.now.items c.loop-place.text.items c.put_part.new.text.items
+    put-more (never_part c.args.names c.args.bins.now c.args.title.now c.args.at c.args.in_line) 0 c.loop-place.place c.loop-place.place c.args.text.now.items c.loop-place.text.items c.put_part.new.text.items
     (omega arith) c.loop-place.invariant c.in_ok-put_part.ensures
 
 pub returns : goal.returns
@@ -15,7 +15,7 @@ unfolding never_lines
 returns c =
     let l0 : List ℕ = c.args.text.now.items in
     let l1 : List ℕ = c.loop-place.text.items in
-    let part : ℕ → List ℕ = never_part c.args.bins.now c.args.code c.args.at c.args.in_line in
+    let part : ℕ → List ℕ = never_part c.args.names c.args.bins.now c.args.title.now c.args.at c.args.in_line in
     let end : c.loop-place.place ≡ 32 = omega (arith, c.loop-place.auto.place-end, c.loop-place-test.false) in
     and-then l0 l1 c.put_line_end.new.text.items (flat_map part (range_with_len 0 32)) (line_end (never_before c.args.bins.now c.args.at 32))
     (c.loop-place.invariant ∙ ap (λ (k : ℕ). l0 ++ flat_map part (range_with_len 0 k)) end)

@@ -27,7 +27,7 @@ returns c =
     (and-then l0 l4 l5 _ (drawn_bar c.args.bins.now c.args.place c.args.at)
     (and-then l0 l3 l4 _ name
     (and-then l0 l2 l3 _ (codes " ")
-    (and-then l0 l1 l2 (number_between place top (line_start c.args.spacing)) (satellite_label (c.args.place + 1))
+    (and-then l0 l1 l2 (number_between place top (line_start c.args.spacing)) (satellite_label 71 (c.args.place + 1))
     (c.in_ok-put_between.ensures
     ∙ ap (λ (n : ℕ). l0 ++ number_between place n c.line_start.result.now) (c.line_top-top.ensures ∙ ap (λ (n : ℕ). line_top c.args.spacing n) c.codes_before.ensures.value)
     ∙ ap (λ (t : List ℕ). l0 ++ number_between place top t) c.line_start.ensures)

@@ -13,9 +13,9 @@ returns c =
       c.in_ok-put_gap_row.ensures,
       c.in_ok-put_rows.ensures,
       c.in_ok-extend_from_slice.ensures.items,
-      c.as_slice-5.ensures.value,
-      c.as_slice-4.ensures.value,
       c.as_slice-3.ensures.value,
       c.as_slice-2.ensures.value,
       c.as_slice.ensures.value,
+      c.as_slice-bins.ensures.value,
+      c.gps_names-names.ensures.value,
     ) (simp append_assoc)

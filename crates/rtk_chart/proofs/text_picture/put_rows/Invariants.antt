@@ -5,4 +5,4 @@ use Rattle.rtk_chart.specs.TextPicture.{row_if_drawn}
 use Rattle.rtk_chart.proofs.text_picture.put_rows.Given as goal
 
 abbrev pub invariant-loop-place : goal.invariant-loop-place
-invariant-loop-place l = l.text.items ≡ l.fn.text.items ++ flat_map (row_if_drawn l.bins l.outages) (range_with_len 0 l.place)
+invariant-loop-place l = l.text.items ≡ l.fn.text.items ++ flat_map (row_if_drawn l.names l.bins l.outages) (range_with_len 0 l.place)

@@ -8,6 +8,8 @@ returns c =
     rw (
       c.in_ok-put_body.ensures,
       c.in_ok-put_numbers.ensures,
+      c.drawn_before-satellites.ensures.value,
+      c.as_slice.ensures.value,
       c.in_ok-put_heading.ensures,
       c.new-text.ensures.items,
     ) (simp append_assoc)

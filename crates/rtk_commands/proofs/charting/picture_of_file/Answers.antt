@@ -1,6 +1,6 @@
 use Rattle.std.proofs.Common.{List, ℕ, subst}
 use Rattle.std.proofs.lemmas.Result.{IfOk-weaker}
-use Rattle.rtk_commands.specs.ChartInput.{DrawsFile, DrawsTable}
+use Rattle.rtk_commands.specs.ChartInput.{DrawsFile, DrawsMixedFile, DrawsTable}
 use Rattle.rtk_commands.specs.FileTable.{text_of}
 use Rattle.rtk_commands.specs.WithLabel.{MakesOfFile}
 use Rattle.rtk_commands.specs.declared.rendered.Rendered.{Rendered}
@@ -17,6 +17,10 @@ returns-in-Gps c =
     c.picture_if_any.ensures
 
 pub returns-in-Mixed : goal.returns-in-Mixed
-returns-in-Mixed c f w l =
-    of-mixed (λ f. DrawsTable c.args.chart.now f w l c.other_systems.result.answer c.other_systems.result.bytes.items) c.args.table.now c.in-Mixed.field-0 c.in-Mixed.is c.requires.letter
-    (λ t good e. (c.other_systems.ensures.answer, c.other_systems.ensures.bytes)) f
+returns-in-Mixed c =
+    IfOk-weaker c.picture_of_systems.result
+    (λ (drawn : Rendered). DrawsMixedFile c.args.chart.now.width c.args.chart.now.choice c.in-Mixed.table.text drawn.answer drawn.bytes.items)
+    (λ (drawn : Rendered). MakesOfFile (DrawsTable c.args.chart.now) (text_of c.args.table.now) drawn.answer drawn.bytes.items)
+    (λ drawn draws f w l. of-mixed (λ f. DrawsTable c.args.chart.now f w l drawn.answer drawn.bytes.items) c.args.table.now c.in-Mixed.table c.in-Mixed.is c.requires.letter
+    (λ t good e. subst (λ (x : List ℕ). DrawsMixedFile c.args.chart.now.width c.args.chart.now.choice x drawn.answer drawn.bytes.items) e draws) f)
+    c.picture_of_systems.ensures

@@ -1,0 +1,68 @@
+"""The slow model of a picture in characters of a file of any systems: the rows of each system below its name."""
+# pins: group_place, group_epoch, first_group, second_group, with_satellites, titled_rows, system_title, title_of, both_numbers, systems_picture, drawn_systems
+
+from __future__ import annotations
+
+import pictures
+from mixed_qualities import SYSTEMS, codes_of, is_of_gps
+from parts import END, MS, START, records_of
+from pictures import SIGNS, Drawn, Epoch, heading_lines, never_lines, row_of, rows_below, shown_in
+
+SEED = 20241130
+
+NAMES = {"G": "GPS", "R": "GLONASS", "E": "Galileo", "C": "BeiDou", "J": "QZSS", "S": "SBAS", "I": "NavIC"}
+# The last number of a system in the first group of its satellites; the others stand behind it.
+LAST = {"E": 32, "C": 32, "S": 51}
+
+
+class DrawnSystems(Drawn):
+    """What is drawn of a file of any systems, in at most so many columns."""
+
+    def __init__(self, file: str, most: int, chosen: set[str] | None = None) -> None:
+        header, records = file.split(END)
+        self.marker = header.splitlines()[2][:60].rstrip()
+        self.systems = codes_of(header)
+        self.epochs = [
+            Epoch((it.time - START) // MS, {name: self.row(name, line) for name, line in it.lines.items() if chosen is None or name in chosen})
+            for it in records_of(records)
+        ]
+        found = {name for epoch in self.epochs for name in epoch.satellites}
+        self.names = sorted(found, key=lambda name: (SYSTEMS.index(name[0]), name))
+        if self.epochs:
+            self._lay(most)
+
+    def row(self, name: str, line: str) -> list[pictures.Shown]:
+        """What the codes of a satellite show in its line."""
+        width = 48 * len(self.systems[name[0]])
+        return [shown_in(line[3:].ljust(width)[at : at + 48]) for at in range(0, width, 48)]
+
+    def names_of(self, letter: str) -> list[str]:
+        """The satellites of a system."""
+        return [name for name in self.names if name[0] == letter]
+
+
+def is_there(file: str, chosen: set[str] | None) -> bool:
+    """Whether a file has a row of one of these satellites. All that a file has is drawn even if it has nothing."""
+    return chosen is None or any(name in chosen for it in records_of(file.split(END)[1]) for name in it.lines)
+
+
+def text_picture(file: str, width: int, chosen: set[str] | None = None) -> str:
+    """The picture of a file, so many characters wide, of these satellites or of all."""
+    if is_of_gps(file):
+        return pictures.text_picture(file, width, chosen)
+    it = DrawnSystems(file, width - 5, chosen)
+    if not it.epochs:
+        return f"marker {it.marker}\nno records\n"
+    out = heading_lines(it)
+    for letter in it.systems:
+        names = it.names_of(letter)
+        out += [NAMES[letter], *(row_of(it, name) for name in names)] if names else []
+    out += rows_below(it, width)
+    for letter, codes in it.systems.items():
+        first = [name for name in it.names_of(letter) if int(name[1:]) <= LAST.get(letter, 99)]
+        for names in first, it.names_of(letter)[len(first) :]:
+            for at, code in enumerate(codes):
+                # the names of all systems have the room that three characters leave
+                of_gps = letter == "G"
+                out += never_lines(it, width - of_gps, code if of_gps else letter + code, at, names)
+    return "\n".join([*out, *SIGNS]) + "\n"
