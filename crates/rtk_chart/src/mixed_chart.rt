@@ -85,8 +85,8 @@ pub fn mixed_chart_text(
     let codes = heading.head.codes();
     let interval = survey.steps.interval();
     let scale = Scale::new(heading.first, last, interval, u64::from(width - FRAME));
-    let moments = fill_moments(alloc, table, &scale)?;
     let drawn = drawn_systems(alloc, table, &scale, width, choice, codes)?;
+    let moments = fill_moments(alloc, table, &scale)?;
     let text = systems_picture(
         alloc,
         marker,
