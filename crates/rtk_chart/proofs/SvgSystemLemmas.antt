@@ -1,6 +1,6 @@
 -- The picture in SVG of a file of any systems, from what was read of it.
-use Rattle.std.proofs.Common.{◌≡◌, ◌≢◌, ◌-◌, ◌==◌, not, cond, ℕ, Bool, true, List, [], ◌∷◌, length, map, Option, Some, None, refl, sym, ap, ◌∙◌, arith}
-use Rattle.std.proofs.lemmas.Bool.{eq-eqb, ne_eqb}
+use Rattle.std.proofs.Common.{◌≡◌, ◌≢◌, ◌+◌, ◌-◌, ◌==◌, ◌++◌, not, cond, ℕ, Bool, true, false, List, [], ◌∷◌, length, map, replicate, Option, Some, None, refl, sym, ap, ◌∙◌, arith}
+use Rattle.std.proofs.lemmas.Bool.{eq-eqb, ne_eqb, cond-true, cond-false}
 use Rattle.rtk_message.specs.declared.system.System.{System}
 use Rattle.rtk_obs.specs.declared.any_code.AnyCode.{AnyCode}
 use Rattle.rtk_obs.specs.AnyCode.{name_of}
@@ -11,22 +11,97 @@ use Rattle.rtk_tracking.specs.Interval.{missing_in}
 use Rattle.rtk_chart.specs.Chart.{slips_at, returns_at, rises_at}
 use Rattle.rtk_chart.specs.Scale.{scale_of}
 use Rattle.rtk_chart.specs.Grid.{bins_of, outages_of, gaps_of}
-use Rattle.rtk_chart.specs.Means.{columns_of}
-use Rattle.rtk_chart.specs.SvgPicture.{svg_of_none}
-use Rattle.rtk_chart.specs.SvgSystems.{SvgView, lower_of, upper_of, with_svg_bins, with_svg_epochs, with_svg_listed, with_second_group, with_svg_group, is_group_drawn, svg_of_systems, systems_svg, systems_svg_at, systems_svg_of_epochs}
+use Rattle.rtk_chart.specs.Means.{all_without, columns_of}
+use Rattle.rtk_chart.specs.MixedChart.{no_drawn_numbers}
+use Rattle.rtk_chart.specs.SvgPicture.{band_top, bands_text, svg_of_none}
+use Rattle.rtk_chart.specs.SvgSystems.{SvgView, nothing_in_svg, heading_if_first, heading_height, moved_bands, with_some_bins, lower_of, upper_of, with_svg_bins, with_svg_epochs, with_svg_listed, with_second_group, with_svg_group, is_group_drawn, svg_of_systems, systems_svg, systems_svg_at, systems_svg_of_epochs}
 use Rattle.rtk_chart.specs.Groups.{first_group, second_group}
 use Rattle.rtk_chart.specs.TextPicture.{satellites_in}
 use Rattle.rtk_chart.specs.Steps.Standing.{StandsForGrid, bare_epochs}
-use Rattle.rtk_chart.specs.Steps.SvgParts.{with_svg_grid}
+use Rattle.rtk_chart.specs.Steps.Pictures.{numbers_of_grid}
+use Rattle.rtk_chart.specs.Steps.SvgParts.{with_svg_sums, with_svg_grid}
 use Rattle.rtk_chart.specs.declared.choice.Choice.{Choice}
+use Rattle.rtk_chart.specs.declared.drawn.DrawnNumbers.{DrawnNumbers}
 use Rattle.rtk_chart.specs.declared.grid.Grid.{Grid}
 use Rattle.rtk_chart.specs.declared.groups.Group.{Group}
 use Rattle.rtk_chart.specs.declared.groups.Names.{Names}
 use Rattle.rtk_chart.specs.declared.scale.Scale.{Scale}
+use Rattle.rtk_chart.specs.declared.spacing.Spacing.TheVariants.{Close}
 use Rattle.rtk_chart.specs.declared.strengths.Strengths.{Strengths}
 use Rattle.rtk_chart.specs.declared.time_bin.TimeBin.{TimeBin}
+use Rattle.rtk_chart.proofs.ListLemmas.{and-then}
 use Rattle.rtk_chart.proofs.MixedLemmas.{count-bare, gaps-bare}
 use Rattle.rtk_chart.proofs.ChartLemmas.{scale-is}
+
+-- ---- what is added
+
+-- what is drawn, by its parts
+abbrev pub svg_view : List ℕ → ℕ → List ℕ → ℕ → DrawnNumbers → List ℕ → List Strengths → List Strengths → SvgView
+svg_view bands top never lines numbers tracked lower upper =
+    record { bands = bands; top = top; never = never; lines = lines; numbers = numbers; tracked = tracked; lower = lower; upper = upper }
+
+pub svg-view-is : (bands b : List ℕ) (top p : ℕ) (never n : List ℕ) (lines k : ℕ) (numbers m : DrawnNumbers) (tracked t : List ℕ) (lower l upper u : List Strengths)
+    → bands ≡ b → top ≡ p → never ≡ n → lines ≡ k → numbers ≡ m → tracked ≡ t → lower ≡ l → upper ≡ u
+    → svg_view bands top never lines numbers tracked lower upper ≡ svg_view b p n k m t l u
+svg-view-is bands b top p never n lines k numbers m tracked t lower l upper u one two three four five six seven eight =
+    ap (λ (x : List ℕ). svg_view x top never lines numbers tracked lower upper) one
+    ∙ ap (λ (x : ℕ). svg_view b x never lines numbers tracked lower upper) two
+    ∙ ap (λ (x : List ℕ). svg_view b p x lines numbers tracked lower upper) three
+    ∙ ap (λ (x : ℕ). svg_view b p n x numbers tracked lower upper) four
+    ∙ ap (λ (x : DrawnNumbers). svg_view b p n k x tracked lower upper) five
+    ∙ ap (λ (x : List ℕ). svg_view b p n k m x lower upper) six
+    ∙ ap (λ (x : List Strengths). svg_view b p n k m t x upper) seven
+    ∙ ap (λ (x : List Strengths). svg_view b p n k m t l x) eight
+
+-- nothing is drawn
+pub fresh-svg : (n : ℕ) (bands never : List ℕ) (numbers : DrawnNumbers) (tracked : List ℕ) (lower upper : List Strengths) (a b : Strengths)
+    → bands ≡ [] → never ≡ [] → numbers ≡ no_drawn_numbers → tracked ≡ replicate n 0 → lower ≡ replicate 144 a → a ≡ all_without → upper ≡ replicate 144 b → b ≡ all_without
+    → svg_view bands 106 never 0 numbers tracked lower upper ≡ nothing_in_svg n
+fresh-svg n bands never numbers tracked lower upper a b one two three four five six seven eight =
+    svg-view-is bands [] 106 106 never [] 0 0 numbers no_drawn_numbers tracked (replicate n 0) lower (replicate 144 all_without) upper (replicate 144 all_without)
+    one refl two refl three four (five ∙ ap (λ (x : Strengths). replicate 144 x) six) (seven ∙ ap (λ (x : Strengths). replicate 144 x) eight)
+
+-- satellites without a row
+pub svg-none : (system : System) (first : Bool) (listed : List (List ℕ)) (names : Names) (grid : Grid) (upper : List Strengths) (v : SvgView) (n : ℕ)
+    → n ≡ satellites_in grid.bins.items → n ≡ 0 → v ≡ with_svg_grid system first listed names grid upper v
+svg-none system first listed names grid upper v n is none =
+    sym (cond-true (satellites_in grid.bins.items == 0) v
+    (with_some_bins system first listed names grid.bins.items grid.outages.items (numbers_of_grid grid) grid.strengths.items upper v)
+    (eq-eqb (satellites_in grid.bins.items) 0 (sym is ∙ none)))
+
+pub not-drawn : (bins : List TimeBin) (n : ℕ) → n ≡ satellites_in bins → n ≡ 0 → false ≡ not (satellites_in bins == 0)
+not-drawn bins n is none = sym (ap (λ (b : Bool). not b) (eq-eqb (satellites_in bins) 0 (sym is ∙ none)))
+
+pub some-drawn : (bins : List TimeBin) (n : ℕ) → n ≡ satellites_in bins → n ≢ 0 → true ≡ not (satellites_in bins == 0)
+some-drawn bins n is some = sym (ap (λ (b : Bool). not b) (ne_eqb (satellites_in bins) 0 (λ zero. some (is ∙ zero))))
+
+-- the view after bands that end there
+abbrev pub with_bands : List ℕ → ℕ → SvgView → SvgView
+with_bands bands top v = svg_view bands top v.never v.lines v.numbers v.tracked v.lower v.upper
+
+-- satellites with a row: their bands, and then the rest
+pub svg-some : (system : System) (first : Bool) (listed : List (List ℕ)) (names : Names) (grid : Grid) (upper : List Strengths) (v w : SvgView) (bands mid : List ℕ) (n h e d : ℕ)
+    → n ≡ satellites_in grid.bins.items → n ≢ 0 → h ≡ heading_height first → mid ≡ v.bands ++ heading_if_first first system v.top
+    → bands ≡ mid ++ moved_bands (v.top + h) (bands_text names Close listed grid.bins.items grid.outages.items)
+    → e ≡ band_top Close grid.bins.items (length listed) 32 → d ≡ e - 140
+    → w ≡ with_svg_sums listed names grid upper (with_bands bands (v.top + h + d) v)
+    → w ≡ with_svg_grid system first listed names grid upper v
+svg-some system first listed names grid upper v w bands mid n h e d is some high one two three four all =
+    let drawn : List ℕ = bands_text names Close listed grid.bins.items grid.outages.items in
+    let own : List ℕ = v.bands ++ (heading_if_first first system v.top ++ moved_bands (v.top + heading_height first) drawn) in
+    let end : ℕ = v.top + heading_height first + (band_top Close grid.bins.items (length listed) 32 - 140) in
+    let are : bands ≡ own =
+    and-then v.bands mid bands (heading_if_first first system v.top) (moved_bands (v.top + h) drawn) one two
+    ∙ ap (λ (k : ℕ). v.bands ++ (heading_if_first first system v.top ++ moved_bands (v.top + k) drawn)) high in
+    let low : v.top + h + d ≡ end =
+    ap (λ (k : ℕ). v.top + k + d) high ∙ ap (λ (k : ℕ). v.top + heading_height first + k) (four ∙ ap (λ (k : ℕ). k - 140) three) in
+    all ∙ ap (λ (b : List ℕ). with_svg_sums listed names grid upper (with_bands b (v.top + h + d) v)) are
+    ∙ ap (λ (t : ℕ). with_svg_sums listed names grid upper (with_bands own t v)) low
+    ∙ sym (cond-false (satellites_in grid.bins.items == 0) v
+    (with_some_bins system first listed names grid.bins.items grid.outages.items (numbers_of_grid grid) grid.strengths.items upper v)
+    (ne_eqb (satellites_in grid.bins.items) 0 (λ zero. some (is ∙ zero))))
+
+-- ---- a grid
 
 -- what is drawn of the parts of a grid
 abbrev svg_by : System → Bool → List (List ℕ) → Names → SvgView → List TimeBin → List Bool → ℕ → ℕ → ℕ → List Strengths → List Strengths → SvgView

@@ -114,10 +114,13 @@ svg_title Sbas = codes "SBAS"
 svg_title Navic = codes "NavIC"
 
 -- formula
--- the name at its place, 28 units below the bands before it; a group behind another one of its system has none
+-- the name at its place, 28 units below the bands before it
+unfoldable pub svg_heading : System → ℕ → List ℕ
+svg_heading system top = number_between (codes "<text class='system' x='110' y='") (top + 28) (codes "'>") ++ svg_title system ++ codes "</text>\n"
+
+-- a group behind another one of its system has none
 abbrev pub heading_if_first : Bool → System → ℕ → List ℕ
-heading_if_first first system top =
-    if first then number_between (codes "<text class='system' x='110' y='") (top + 28) (codes "'>") ++ svg_title system ++ codes "</text>\n" else []
+heading_if_first first system top = if first then svg_heading system top else []
 
 -- how high it is
 abbrev pub heading_height : Bool → ℕ
@@ -129,19 +132,23 @@ unfoldable pub moved_bands : ℕ → List ℕ → List ℕ
 moved_bands top bands = number_between (codes "<g transform='translate(0 ") (top - 140) (codes ")'>\n") ++ bands ++ codes "</g>\n"
 
 -- formula
--- with satellites more, which have these codes, names, bins, outages, numbers and strengths; without a row there is nothing more
+-- with satellites more, which have these codes, names, bins, outages, numbers and strengths
+abbrev pub with_some_bins : System → Bool → List (List ℕ) → Names → List TimeBin → List Bool → DrawnNumbers → List Strengths → List Strengths → SvgView → SvgView
+with_some_bins system first listed names bins outages numbers lower upper v = record {
+  bands = v.bands ++ heading_if_first first system v.top ++ moved_bands (v.top + heading_height first) (bands_text names Close listed bins outages);
+  top = v.top + heading_height first + (band_top Close bins (length listed) 32 - 140);
+  never = v.never ++ never_texts names bins (18 + 24 * v.lines) 0 listed;
+  lines = v.lines + lacked_before bins (length listed);
+  numbers = both_numbers v.numbers numbers;
+  tracked = counts_with v.tracked (tracked_counts bins);
+  lower = columns_with v.lower lower;
+  upper = columns_with v.upper upper;
+}
+
+-- without a row there is nothing more
 abbrev pub with_svg_bins : System → Bool → List (List ℕ) → Names → List TimeBin → List Bool → DrawnNumbers → List Strengths → List Strengths → SvgView → SvgView
 with_svg_bins system first listed names bins outages numbers lower upper v =
-    if satellites_in bins == 0 then v else record {
-      bands = v.bands ++ heading_if_first first system v.top ++ moved_bands (v.top + heading_height first) (bands_text names Close listed bins outages);
-      top = v.top + heading_height first + (band_top Close bins (length listed) 32 - 140);
-      never = v.never ++ never_texts names bins (18 + 24 * v.lines) 0 listed;
-      lines = v.lines + lacked_before bins (length listed);
-      numbers = both_numbers v.numbers numbers;
-      tracked = counts_with v.tracked (tracked_counts bins);
-      lower = columns_with v.lower lower;
-      upper = columns_with v.upper upper;
-    }
+    if satellites_in bins == 0 then v else with_some_bins system first listed names bins outages numbers lower upper v
 
 -- with the satellites of a group, which has these codes, of a file with these epochs, newest first
 abbrev pub with_svg_epochs : Scale → System → Bool → List AnyCode → Names → List EpochTableView → SvgView → SvgView

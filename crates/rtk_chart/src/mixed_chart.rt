@@ -214,8 +214,8 @@ pub fn mixed_chart_svg(
     let codes = heading.head.codes();
     let interval = survey.steps.interval();
     let scale = Scale::new(heading.first, last, interval, MOST_BINS);
-    let moments = fill_moments(alloc, table, &scale)?;
     let drawn = svg_of_systems(alloc, table, &scale, choice, codes)?;
+    let moments = fill_moments(alloc, table, &scale)?;
     let text = systems_svg(alloc, marker, &scale, survey.records, &drawn, &moments)?;
     Ok(text)
 }

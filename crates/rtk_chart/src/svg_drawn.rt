@@ -6,7 +6,7 @@ ghost use Rattle.rtk_chart.specs.Groups.{first_group, second_group, HoldsOfMixed
 ghost use Rattle.rtk_chart.specs.Scale.{IsScale};
 ghost use Rattle.rtk_chart.specs.Steps.SvgParts.{svg_view_of, with_svg_sums, with_svg_grid};
 ghost use Rattle.rtk_chart.specs.SvgPicture.{bands_text};
-ghost use Rattle.rtk_chart.specs.SvgSystems.{nothing_in_svg, svg_title, heading_if_first, heading_height, moved_bands, is_group_drawn, with_svg_group, with_second_group, with_svg_system, svg_of_systems};
+ghost use Rattle.rtk_chart.specs.SvgSystems.{nothing_in_svg, svg_title, svg_heading, heading_if_first, heading_height, moved_bands, is_group_drawn, with_svg_group, with_second_group, with_svg_system, svg_of_systems};
 ghost use Rattle.rtk_chart.specs.TextPicture.{satellites_in};
 ghost use Rattle.rtk_chart.specs.declared.spacing.Spacing.TheVariants.{Close};
 
@@ -64,7 +64,18 @@ fn svg_title(system: System) -> &'static [u8]
     }
 }
 
-// Appends the name of a system above the first group of it.
+// Appends the name of a system, below bands that end so far from the top.
+fn put_svg_heading(text: &mut Vec<u8>, system: System, top: u64) -> Result<(), AllocError>
+    requires { top ≤ 1_000_000 }
+    ensures { OnOk result (text.new.items ≡ text.old.items ++ svg_heading system top) }
+{
+    put_between(text, b"<text class='system' x='110' y='", top + 28, b"'>")?;
+    text.extend_from_slice(svg_title(system))?;
+    text.extend_from_slice(b"</text>\n")?;
+    Ok(())
+}
+
+// The same above the first group of a system.
 fn put_heading_if_first(
     text: &mut Vec<u8>,
     first: bool,
@@ -74,12 +85,9 @@ fn put_heading_if_first(
     requires { top ≤ 1_000_000 }
     ensures { OnOk result (text.new.items ≡ text.old.items ++ heading_if_first first system top) }
 {
-    if !first {
-        return Ok(());
+    if first {
+        put_svg_heading(text, system, top)?;
     }
-    put_between(text, b"<text class='system' x='110' y='", top + 28, b"'>")?;
-    text.extend_from_slice(svg_title(system))?;
-    text.extend_from_slice(b"</text>\n")?;
     Ok(())
 }
 
@@ -124,15 +132,18 @@ impl SvgDrawn {
         requires { bins ≤ 1440 }
         ensures { IfOk result (λ drawn. svg_view_of drawn ≡ nothing_in_svg bins) }
     {
+        let tracked = vec![in alloc; 0u8; bins as usize]?;
+        let lower = vec![in alloc; Strengths::none(); MOST_COLUMNS]?;
+        let upper = vec![in alloc; Strengths::none(); MOST_COLUMNS]?;
         Ok(SvgDrawn {
             bands: Vec::new(alloc),
             top: 106,
             never: Vec::new(alloc),
             lines: 0,
             numbers: DrawnNumbers::none(),
-            tracked: vec![in alloc; 0u8; bins as usize]?,
-            lower: vec![in alloc; Strengths::none(); MOST_COLUMNS]?,
-            upper: vec![in alloc; Strengths::none(); MOST_COLUMNS]?,
+            tracked,
+            lower,
+            upper,
         })
     }
 
@@ -148,7 +159,7 @@ impl SvgDrawn {
         requires names { names.before ≤ 67 }
         requires listed { length listed.now ≤ 16 }
         requires lines { self.old.lines ≤ 1000 }
-        ensures { OnOk result (svg_view_of self.new ≡ with_svg_sums listed.now names grid.now upper.now (svg_view_of self.old)) }
+        ensures value { OnOk result (svg_view_of self.new ≡ with_svg_sums listed.now names grid.now upper.now (svg_view_of self.old)) }
         ensures lines { self.new.lines ≤ self.old.lines + 16 }
         ensures top { self.new.top ≡ self.old.top }
         ensures bins { OnOk result (length self.new.tracked.items ≡ length self.old.tracked.items) }
@@ -158,9 +169,12 @@ impl SvgDrawn {
         put_never_texts(&mut self.never, names, bins, 18 + 24 * self.lines, listed)?;
         self.lines += lacked_before(bins, listed.len());
         self.numbers = self.numbers.and(DrawnNumbers::of_grid(grid));
-        self.tracked = counts_with(alloc, self.tracked.as_slice(), counts.as_slice())?;
-        self.lower = columns_with(alloc, self.lower.as_slice(), grid.strengths.as_slice())?;
-        self.upper = columns_with(alloc, self.upper.as_slice(), upper)?;
+        let tracked = counts_with(alloc, self.tracked.as_slice(), counts.as_slice())?;
+        let lower = columns_with(alloc, self.lower.as_slice(), grid.strengths.as_slice())?;
+        let higher = columns_with(alloc, self.upper.as_slice(), upper)?;
+        self.tracked = tracked;
+        self.lower = lower;
+        self.upper = higher;
         Ok(())
     }
 
@@ -188,14 +202,16 @@ impl SvgDrawn {
         ensures bins { OnOk result (length self.new.tracked.items ≡ length self.old.tracked.items) }
     {
         let bins = grid.bins.as_slice();
-        if drawn_before(bins, 32) == 0 {
+        let satellites = drawn_before(bins, 32);
+        if satellites == 0 {
             return Ok(false);
         }
         put_heading_if_first(&mut self.bands, first, system, self.top)?;
         let start = self.top + heading_height(first);
         put_moved_bands(alloc, &mut self.bands, start, names, listed, grid)?;
         let end = band_top(Spacing::Close, bins, listed.len(), 32);
-        self.top = start + end.saturating_sub(140);
+        let height = end.saturating_sub(140);
+        self.top = start + height;
         self.add_sums(alloc, listed, names, grid, upper)?;
         Ok(true)
     }
