@@ -31,6 +31,7 @@ HEARD = {"G": (32, ("1C", "2W")), "R": (24, ("1C", "2P")), "E": (30, ("1C", "7Q"
 SIGNALS = {letter: tuple(BY_LETTER[letter].signals[it] for it in codes) for letter, (_, codes) in HEARD.items()}
 CHANNELS = {slot: 5 * slot % 14 - 7 for slot in range(1, 25)}  # of GLONASS
 WEEK = moment("2024-05-12T00:00:00")  # in which all times lie
+SEVERAL = "".join(HEARD)  # the letters of the systems
 
 LEGACY_TIMES = [legacy_lock_time(it) for it in range(128)]
 COARSE_TIMES = [msm_lock_time(it) for it in range(16)]
@@ -250,6 +251,16 @@ def epochs(seed: int, count: int, first: int, letter: str = "G") -> Iterator[Epo
     sky = Sky(seed, letter)
     for ms in range(0, 1000 * count, 1000):
         yield Epoch(clock_of(BY_LETTER[letter], WEEK + first + ms), list(sky.heard(ms)))
+
+
+def words_of(letters: str) -> list[str]:
+    """The words of `convert` that list the codes of these systems, and tell the channels that they need."""
+    codes = [code if it == "G" else it + code for it in letters for code in HEARD[it][1]]
+    return ["--codes", ",".join(codes), *channels_of(letters)]
+
+
+def channels_of(letters: str) -> list[str]:
+    return ["--channels", ",".join(f"{slot}:{it}" for slot, it in CHANNELS.items())] if "R" in letters else []
 
 
 def together(systems: dict[str, Epoch], kind: int) -> bytes:

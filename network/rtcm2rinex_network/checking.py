@@ -13,7 +13,7 @@ from .making import check_every
 from .names import read_name
 from .places import names_below
 from .program import Program, find_program
-from .settings import Settings, read_settings
+from .settings import Settings, read_settings, strange_lines
 from .sources import faults_of_sources
 from .systems import NO_CHANNELS
 from .table import Row, find_row, read_table, rows_with_faults
@@ -142,6 +142,7 @@ def notes_of(row: Row, rows: List[Row]) -> Iterator[str]:
 
 def faults_of_others(settings: Settings, rows: List[Row]) -> Iterator[Tuple[str, bool]]:
     """What is wrong with settings and with lines of labels and sources, and whether it is a note alone."""
+    yield from strange_lines()
     for setting in faults_of_settings(settings):
         yield f"setting: {setting}", False
     path = labels_beside(settings.stations)

@@ -19,7 +19,7 @@ from .names import Name, hour_of_capture, read_name
 from .places import folder_with, form_of, forms_of, is_compact, names_below, plain_name
 from .placing import is_at
 from .settings import DAY, HOUR, Settings, read_settings
-from .table import Row, find_row, rows_with_faults
+from .table import Row, rows_of_station, rows_with_faults
 from .times import LENGTHS, Span
 
 SCRIPT = "delete-captures"
@@ -183,20 +183,30 @@ def lengths_of(folder: Folder, row: Row, options: Options) -> List[str]:
     return [it for it in LENGTHS if it in (options.lengths or there)]
 
 
+def rows_of_span(folder: Folder, rows: Sequence[Row], span: Span) -> List[Row]:
+    """The rows that may need the captures of a span: those that hold then, and those that have a list of it. If there is none, nobody knows
+    whose the captures are, so all may."""
+    return [it for it in rows if it.dates.has(span.begin) or folder.lists_of(it, span)] or list(rows)
+
+
 def unneeded(folder: Folder, rows: Sequence[Row], options: Options) -> List[Path]:
-    """The captures that may go: each span is final to which they belong, for each row with this folder. Tells of the old spans that are
-    not final."""
+    """The captures that may go: each span is final to which they belong, for each row with this folder that may need them. Tells of the old
+    spans that are not final. A row that has no file yet may need all of its time."""
     known: Dict[Tuple[str, Span], str] = {}
     found = []
     lengths = {row.name9: lengths_of(folder, row, options) for row in rows}
+    every = [it for it in LENGTHS if any(it in of_row for of_row in lengths.values())]
+    for name9 in (it for it, of_row in lengths.items() if folder.captures and not of_row):
+        print(f"{name9}: there is no file yet, so the captures of its time stay")
     for hour, paths in sorted(folder.captures.items()):
-        keys = [(row, span) for row in rows for span in spans_of(hour, lengths[row.name9])]
+        spans = [(span, rows_of_span(folder, rows, span)) for span in spans_of(hour, every)]
+        keys = [(row, span) for span, needing in spans for row in needing if span.length in lengths[row.name9]]
         for row, span in keys:
             if (row.name9, span) not in known:
                 known[row.name9, span] = why = fault_of_span(folder, row, span, options)
                 if why and span.end <= options.before:
                     print(f"{row.name9} {span}: not final: {why}")
-        has_all = all(lengths[row.name9] for row in rows)
+        has_all = bool(keys) and all(lengths[row.name9] for _, needing in spans for row in needing)
         if has_all and not any(known[row.name9, span] for row, span in keys):
             found += paths
     return found
@@ -262,16 +272,21 @@ def has_deleted(row: Row, rows: Sequence[Row], options: Options) -> bool:
     return True
 
 
-def rows_wanted(settings: Settings, words: Sequence[str], at: float) -> Tuple[List[Row], List[Row]]:
-    """The rows that are wanted, one of each station, and all rows. Refuses if a row is bad, since it may need captures too."""
+def rows_wanted(settings: Settings, words: Sequence[str]) -> Tuple[List[Row], List[Row]]:
+    """The rows that are wanted, one of each station, also of one that retired; and all rows. Refuses if a row is bad, since it may need
+    captures too."""
     rows = []
     for row, fault in rows_with_faults(settings.stations):
         if fault:
             raise Refused(f"{settings.stations}:{row.number}: {fault}")
         rows.append(row)
-    if words:
-        return [find_row(settings.stations, word, at) for word in words], rows
-    return list({(row.name9, row.directory): row for row in rows}.values()), rows
+    wanted = [] if words else rows
+    for word in words:
+        mine = rows_of_station(settings.stations, word)
+        if any(it.name9 != other.name9 and it.dates.meets(other.dates) for it in mine for other in mine):
+            raise Refused(f"{word} is in the table {settings.stations} more than once")
+        wanted += mine
+    return list({(row.name9, row.directory): row for row in wanted}.values()), rows
 
 
 def delete_captures(words: Sequence[str]) -> int:
@@ -284,7 +299,7 @@ def delete_captures(words: Sequence[str]) -> int:
     settings = read_settings()
     now = time.time() + settings.leap_seconds
     chosen = Options(now - DAY * int(days), "--delete" in options, "--moved" in options, "--faulty" in options, only)
-    rows, every = rows_wanted(settings, wanted, now)
+    rows, every = rows_wanted(settings, wanted)
     done = [has_deleted(row, every, chosen) for row in rows]
     sys.stdout.flush()
     return DONE if all(done) else REFUSED

@@ -43,11 +43,13 @@ def read_label(number: int, line: str) -> Label:
     """A line: the station, the words from= and until=, and the options."""
     word, text = (re.split(r"[ \t]+", line, maxsplit=1) + [""])[:2]
     words: Dict[str, str] = {}
+    twice = ""
     while match := re.match(r"(from|until)=([^ \t]*)(?:[ \t]+|$)", text):
-        words.setdefault(match[1], match[2])
+        twice = match[1] if match[1] in words else twice
+        words[match[1]] = match[2]
         text = text[match.end():]
     dates, fault = read_dates(words)
-    return Label(number, word, dates, text, fault)
+    return Label(number, word, dates, text, f"{twice}= is there twice" if twice else fault)
 
 
 def find_label(path: Path, row: Row, at: float) -> str:

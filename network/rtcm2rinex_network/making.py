@@ -16,7 +16,7 @@ from .lists import Made, row_line
 from .names import Name, read_name
 from .places import folder_of, form_of, has_list, plain_name
 from .program import Program
-from .rinex import Measure, read_header
+from .rinex import Measure, ends_of, read_header
 from .settings import DAY, Settings
 from .summaries import Told
 from .table import Row
@@ -162,7 +162,7 @@ def convert(job: Job, told: Told, captures: Sequence[Capture], before: Before, w
     name = str(job.name)
     done.made[name], step = cut_out(job, work, name, [])
     if not done.made[name].epochs:
-        raise Refused(f"the captures have no epoch of this span{hint_of(done.report)}")
+        raise Refused(f"the captures have no epoch of this span{hint_of(done.report, work / 'whole')}")
     if step is not None and step != row.interval_ms:
         raise Refused("; ".join([f"the interval is {interval_of(step) or f'{step} ms'}, and the row has {row.interval}", *told.doubts]))
     if read_header(work / name).position is None:
@@ -174,9 +174,12 @@ def convert(job: Job, told: Told, captures: Sequence[Capture], before: Before, w
     (work / "whole").unlink()
 
 
-def hint_of(report: str) -> str:
-    """What would help, if nothing of the station was taken."""
-    if count_of(report, "taken") or not count_of(report, "frames"):
+def hint_of(report: str, whole: Path) -> str:
+    """What would help, if nothing of the station was taken, or what was taken is of another time."""
+    if count_of(report, "taken"):
+        first, last = ends_of(whole)
+        return f", but those from {first} to {last}: the names of captures may be those of other hours" if first else ""
+    if not count_of(report, "frames"):
         return ""
     if foreign := count_of(report, "foreign"):
         return f": foreign {foreign}, so the row may have another number than the station"

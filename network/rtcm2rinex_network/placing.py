@@ -112,6 +112,8 @@ def make_folder(folder: Path) -> None:
     except OSError as fault:
         if folder.exists():
             raise Refused(f"{folder} is no folder") from None
+        if folder.is_symlink():
+            raise Again(f"{folder} is a link that leads nowhere") from None
         raise blamed(str(folder.parent), f"can't make {folder}: {fault.strerror}") from None
     give_to_owner(folder, folder.parent)
 
@@ -182,12 +184,16 @@ def is_at(file: IO[Any], path: Path) -> bool:
 
 
 def remove(path: Path) -> None:
-    """Removes a folder with all that it has, or a file."""
-    import shutil  # here, because most runs do without it, and it would take a part of their time
-
-    shutil.rmtree(path, ignore_errors=True)
-    if path.is_file():
-        path.unlink()
+    """Removes a folder with all that it has, or a file. What can't be removed stays."""
+    try:
+        if path.is_dir() and not path.is_symlink():
+            for it in list(path.iterdir()):
+                remove(it)
+            path.rmdir()
+        else:
+            path.unlink()
+    except OSError:
+        pass
 
 
 def remove_left(folder: Path, name: str) -> None:

@@ -130,6 +130,21 @@ def epochs_of(path: Path) -> Iterator[Tuple[str, Dict[str, str]]]:
         yield key, satellites
 
 
+def ends_of(path: Path) -> Tuple[str, str]:
+    """The times of the first and the last epoch of a file, to the second; nothing if it has none."""
+    first = last = ""
+    for line in records_of(path):
+        if line[0] == ">":
+            last = line[2:21]
+            first = first or last
+    return text_of_key(first), text_of_key(last)
+
+
+def text_of_key(key: str) -> str:
+    """A time of an epoch's line like 2024-05-17T12:00:00."""
+    return re.sub(r"(....) (..) (..) (..) (..) (..)", r"\1-\2-\3T\4:\5:\6", key).replace(" ", "0")
+
+
 def count_epochs(path: Path) -> int:
     """How many epochs the records of a file have, as far as they can be read."""
     return sum(line[0] == ">" for line in as_far(records_of(path)))

@@ -8,7 +8,7 @@ from __future__ import annotations
 import os
 import re
 from pathlib import Path
-from typing import Dict, Iterator, Mapping, NamedTuple
+from typing import Dict, Iterator, Mapping, NamedTuple, Tuple
 
 from .ends import Refused
 from .systems import DEFAULT_KIND, KINDS, NO_KINDS
@@ -30,6 +30,9 @@ FORMS = {  # of a setting: how it is written, and what it is else
     "CAPTURE_AGE": NUMBER,
     "GPS_MINUS_UTC": NUMBER,
 }
+NAMES = (*FORMS, "STATIONS", "SOURCES", "RTCM2RINEX", "MADE", "EVERY", "AFTER", "FORCE", "TEXTFILE")
+LINE = r"[ \t]*([A-Za-z_][A-Za-z0-9_]*)[ \t]*=[ \t]*(.*?)[ \t\r]*"
+NO_LINE = r"[ \t\r]*(?:[#;].*)?"  # a blank one, or a comment as systemd has it
 
 
 class Settings(NamedTuple):
@@ -106,20 +109,40 @@ def default_table(name: str) -> Path:
 
 def read_settings() -> Settings:
     """The settings of now. SETTINGS names another file than that of the package."""
-    lines = lines_of(Path(os.environ.get("SETTINGS") or SYSTEM / "environment"))
+    lines = lines_of(text_of_file(file_of_settings()))
     words = {**lines, **os.environ}
     if "FORCE" in lines:
         del words["FORCE"]
     return Settings(words, "FORCE" in lines)
 
 
-def lines_of(path: Path) -> Dict[str, str]:
-    """The lines NAME=VALUE of a file; nothing if it is not there. Quotes around a value are none of it, as for systemd."""
+def file_of_settings() -> Path:
+    """The file of settings."""
+    return Path(os.environ.get("SETTINGS") or SYSTEM / "environment")
+
+
+def text_of_file(path: Path) -> str:
+    """The text of the file of settings, to which an editor may have given a mark of its encoding; nothing if it is not there."""
     try:
-        text = path.read_text(errors="replace")
+        return path.read_text(encoding="utf-8-sig", errors="replace")
     except FileNotFoundError:
-        return {}
+        return ""
     except OSError as fault:
         raise Refused(f"can't read {path}: {fault.strerror}") from None
-    found = re.findall(r"(?m)^[ \t]*([A-Z_][A-Z0-9_]*)=(.*?)[ \t\r]*$", text)
-    return {name: re.sub(r"""^(["'])(.*)\1$""", r"\2", value) for name, value in found}
+
+
+def lines_of(text: str) -> Dict[str, str]:
+    """The lines NAME=VALUE of a text. Quotes around a value and blanks around the sign are none of it, as for systemd."""
+    return {name: re.sub(r"""^(["'])(.*)\1$""", r"\2", value) for name, value in re.findall(rf"(?m)^{LINE}$", text)}
+
+
+def strange_lines() -> Iterator[Tuple[str, bool]]:
+    """What is strange in the file of settings, and whether it is a note alone. No run sees such a line, as one with a name that is
+    misspelled, but others than these scripts may."""
+    path = file_of_settings()
+    for number, line in enumerate(text_of_file(path).split("\n"), 1):
+        match = re.fullmatch(LINE, line)
+        if match and match[1] not in NAMES:
+            yield f"{path}:{number}: note: {match[1]} is no setting", True
+        elif not match and not re.fullmatch(NO_LINE, line):
+            yield f"{path}:{number}: the line is not like NAME=VALUE", False

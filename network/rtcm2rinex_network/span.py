@@ -183,10 +183,11 @@ class Run:
     def are_deleted(self) -> bool:
         """Whether `delete-captures` deleted each capture of the list that is not there, and there is no other one. So nothing better can
         be made. A file that is there was not changed."""
-        gone = [name for name in self.before.captures if name not in self.now.captures]
+        gone = {name for name in self.before.captures if name not in self.now.captures}
+        if not gone or not gone <= self.before.deleted or self.now.unread:
+            return False
         is_known = all(self.before.captures.get(name) == it for name, it in self.now.captures.items())
-        is_kept = all(self.is_intact(it) for it in self.there() if it in self.before.made)
-        return bool(gone) and is_known and not self.now.unread and set(gone) <= self.before.deleted and is_kept
+        return is_known and all(self.is_intact(it) for it in self.there() if it in self.before.made)
 
     def there(self) -> List[str]:
         """The names under which the file is there."""

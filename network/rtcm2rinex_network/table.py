@@ -224,14 +224,19 @@ def fault_of_words(words: Dict[str, str], codes: str) -> str:
     return fault_of_channels(words.get("channels"), codes.split(","))
 
 
-def find_row(path: Path, word: str, at: float) -> Row:
-    """The row of the station with this number or name that holds at a time. Refuses if there is none or more than one."""
+def rows_of_station(path: Path, word: str) -> List[Row]:
+    """All rows of the station with this number or name. Refuses if there is none."""
     if not re.fullmatch("[A-Z0-9]{1,9}", word):
         raise Refused("STATION is no number and no name of nine characters")
-    of_station = [row for row in read_table(path) if row.is_of(word)]
-    found = [row for row in of_station if row.dates.has(at)]
-    if not of_station:
+    found = [row for row in read_table(path) if row.is_of(word)]
+    if not found:
         raise Refused(f"{word} is not in the table {path}")
+    return found
+
+
+def find_row(path: Path, word: str, at: float) -> Row:
+    """The row of the station with this number or name that holds at a time. Refuses if there is none or more than one."""
+    found = [row for row in rows_of_station(path, word) if row.dates.has(at)]
     if not found:
         raise Refused(f"no row of {word} in the table {path} holds at {text_of(at)}")
     if len(found) > 1:

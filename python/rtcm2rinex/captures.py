@@ -36,10 +36,10 @@ class StationSummary:
     """What a capture holds of one station.
 
     `messages` says how many messages of each number came. `first_tow` and `last_tow` are the times of week of the first and the last
-    observation message of GPS in milliseconds (ms), or None. `changes_of_time` says how often the time of week changes from one such
-    message to the next. `equipment` has what messages told last, by the names `antenna-type`, `antenna-serial`, `antenna-setup`,
-    `receiver-type`, `receiver-version` and `receiver-serial`. `changes` says how often such a value changed. A byte that cannot be
-    printed is written as in `\\x0A`.
+    observation message of GPS, Galileo, QZSS, SBAS or NavIC in milliseconds (ms), or None. `changes_of_time` says how often the time of
+    week changes from one such message to the next. `equipment` has what messages told last, by the names `antenna-type`,
+    `antenna-serial`, `antenna-setup`, `receiver-type`, `receiver-version` and `receiver-serial`. `changes` says how often such a value
+    changed. A byte that cannot be printed is written as in `\\x0A`.
 
     `satellites` and `codes` have a range, a phase or a strength. `epochs` says at how many epochs the MSM of each number of another system
     than GPS have values, and `channels` which frequency channels messages tell for each slot of GLONASS. `clocks` has the systems whose

@@ -34,7 +34,7 @@ class Found:
     """What `auto` found in the captures.
 
     `first` and `last` are the GPS times of the first and the last epoch, or None without a record. `dated_by` names what dated them, such
-    as `1013`, `1029 of station 7` or `--near`. A 1019 names the week only modulo 1,024, and then `other_dates` has the days 1,024 weeks before and after.
+    as `1013`, `1029 of station 7`, `1045` or `--near`. A 1019 names the week only modulo 1,024, and then `other_dates` has the days 1,024 weeks before and after.
 
     `convert` is the command of the shell that writes the same file, and `label` the command that labels it, or None. `notes` has the
     lines of the program about the file, such as `late 3: ..` or `not in the file: GLONASS 1012, 84 messages`.

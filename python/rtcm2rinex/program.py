@@ -72,7 +72,7 @@ def does_run(copy: str) -> bool:
 
 
 def version(program: Optional[Location] = None) -> str:
-    """Gives the version of the program, such as `0.5.0`."""
+    """Gives the version of the program, such as `0.6.0`."""
     text = run(program, ["--version"], []).text()
     match = re.fullmatch(rf"{NAME} (\S+)\n", text)
     if match is None:

@@ -18,7 +18,7 @@ from messages import Refusal, frames_of, read_message
 from mixed_cells import has_sbas
 from mixed_model import Options, channels_text
 from model import Conversion, civil, moment
-from msm import LEGACY, LEGACY_GLONASS, letter_of, read_any
+from msm import LEGACY, LEGACY_GLONASS, letter_of
 from summaries import UNTAKEN, look_of, sh_quoted
 from systems import GLONASS, GPS, SBAS, number_of
 from wire import MSMS, WEEK_MS, Fields, Message
@@ -71,9 +71,9 @@ class Asked(NamedTuple):
 
 STOPPED = {
     "no frame": "the captures have no frame of RTCM 3",
-    "no observation": "the captures have no GPS observations that are read",
-    "no such station": "station STATION has no GPS observations that are read",
-    "several stations": "several stations have GPS observations; choose one by --station",
+    "no observation": "the captures have no observations that are read",
+    "no such station": "station STATION has no observations that are read",
+    "several stations": "several stations have observations; choose one by --station",
     "nothing of the station": r"captures have nothing of [^;]*; --skip-empty leaves them out",
     "dates differ": "the captures tell dates that differ; choose one by --near",
     "two dates": "a capture tells two dates; part it, or choose one by --near",
@@ -82,7 +82,7 @@ STOPPED = {
     "outside the dates": "the first epoch is not dated from 1980-01-13 to 2099-12-31; choose a date by --near",
     "too many links": "more than 16 captures are of the same time, and 16 links are taken",
     "positions differ": "the station stands at positions that differ; --links-as-given takes them for one",
-    "no code": "neither a 1004 nor the MSM of --msm has a GPS observation; choose another MSM",
+    "no code": "neither a 1004 nor the MSM of --msm has an observation; choose another MSM",
 }
 
 
@@ -99,7 +99,7 @@ def refusal_pattern(stopped: Stopped, asked: Asked, texts: list[bytes]) -> str:
 
 def stations_text(stations: tuple[object, ...], captures: list[finding.Capture]) -> str:
     """A line for each of these stations and each capture with observations of it, with how many epochs its messages have."""
-    times = {(it, at): [of.header["tow"] for of in capture.of_station(it) if (letter_of(of) or "-") in stages.HEARD]
+    times = {(it, at): [of.header["tow"] for of in capture.of_station(it) if (letter_of(of) or "-") in stages.DATING]
              for it in stations for at, capture in enumerate(captures, 1) if it in capture.observing()}
     return "".join(f" station {it} in {name_of(at - 1)}: {len(list(groupby(of)))} epochs\n" for (it, at), of in times.items())
 
@@ -124,9 +124,16 @@ def two_dates_text(now: int, captures: list[finding.Capture], station: int | Non
 
 def to_come_text(now: int, captures: list[finding.Capture]) -> str:
     """The first date of each capture that is passed over since it is to come."""
-    dates = [(at, finding.first_to_come(now, capture)) for at, capture in enumerate(captures)]
-    moments = [(at, it, finding.DAY_MS * (it["day"] - FIRST_DAY) + 1000 * it["second"]) for at, it in dates if it is not None]
-    return "".join(f"{date_text(it, moment, name_of(at))}: it is after the time of making\n" for at, it, moment in moments)
+    return "".join(f"{line}\n" for at in range(len(captures)) for line in to_come_lines(now, captures, at))
+
+
+def to_come_lines(now: int, captures: list[finding.Capture], at: int) -> list[str]:
+    """That of the capture at this place, or nothing."""
+    it = finding.first_to_come(now, captures[at])
+    if it is None:
+        return []
+    moment = finding.DAY_MS * (it["day"] - FIRST_DAY) + 1000 * it["second"]
+    return [f"{date_text(it, moment, name_of(at))}: it is after the time of making"]
 
 
 def distinct(told: list[finding.Told]) -> list[finding.Told]:
@@ -170,7 +177,8 @@ def source_of(found: Found, asked: Asked, epochs: list[int]) -> str:
         first = min(epochs, default=found.near)
         others = [f"{civil(at):%Y-%m-%d}" for at in (first - 1024 * WEEK_MS, first + 1024 * WEEK_MS) if 0 <= at <= LAST_MADE + 999]
         return f"1019 (or {', '.join(others)})"
-    return str(found.by["number"]) + (f" of station {found.by['station']}" if found.by["station"] != found.station else "")
+    station = found.by.get("station", found.station)
+    return str(found.by["number"]) + (f" of station {station}" if station != found.station else "")
 
 
 # pins: all_slots, said_channel, said_channels, leap_option, systems_in_order, kinds_or, kind_digit, first_and_exceptions, msm_option_text
@@ -218,13 +226,21 @@ def date_lines(found: Found, asked: Asked, texts: list[bytes]) -> list[str]:
     """The captures that tell no date, and the dates that a capture tells and does not have."""
     kept, station = kept_places(found, texts), found.station
     tellings = {at: finding.tellings(asked.now, capture, station) for at, capture in enumerate(asked.captures(texts)) if at in kept}
+    for at, epochs in zip(kept, found.epochs):
+        if not epochs:
+            tellings[at] = finding.tellings_near(asked.now, asked.captures(texts)[at], found.near)
     told = {at: distinct(finding.counting(it, station)) for at, it in tellings.items()}
-    passed = {at: distinct(finding.passed_over(it, station)) for at, it in tellings.items()}
+    passed = {at: [first for of in finding.passed_over(it, station) for first in distinct(of)] for at, it in tellings.items()}
     lines = []
     if asked.wanted.near is None:
         lines += [f" undated {name_of(at)}: dated near the others" for at, epochs in zip(kept, found.epochs) if epochs and not told[at]]
-    others = [(at, it) for at, epochs in zip(kept, found.epochs) for it in told[at] + passed[at] if it.first != epochs[0]]
-    return lines + [f" other-date{date_text(it.fields, it.first, name_of(at))}" for at, it in others]
+    firsts = [epochs[0] if epochs else found.near for epochs in found.epochs]
+    for at, first in zip(kept, firsts):
+        lines += [f" other-date{date_text(it.fields, it.first, name_of(at))}" for it in told[at] + passed[at] if it.first != first]
+        lists = [finding.counting(tellings[at], station), *finding.passed_over(tellings[at], station)]
+        lines += [f" more-dates in {name_of(at)}"] * any(len(distinct(of)) == 16 for of in lists)
+        lines += [f" other-date{line}" for line in to_come_lines(asked.now, asked.captures(texts), at)]
+    return lines
 
 
 # pins: to_text, greatest_text, leap_words_of
@@ -258,12 +274,15 @@ UNPACKED = {"unknown": "", "empty": " is empty", "gzip": " looks like gzip; unpa
 
 
 def capture_lines(found: Found, texts: list[bytes]) -> list[str]:
-    """The captures that are skipped, and those without an epoch or with times that fall."""
+    """The captures that are skipped, those without an epoch or with times that fall, and those with bytes in no frame."""
     looks = {at: look_of(texts[at]) for at in found.skipped if not frames_of(texts[at])}
     lines = [f" skipped {name_of(at)}{UNPACKED.get(looks.get(at), '').replace('NAME', name_of(at))}" for at in found.skipped]
     falls = [at for at, of in zip(kept_places(found, texts), found.epochs) if of != sorted(of)]
-    return lines + [f" {'no-epoch' if at in found.without else 'time-falls'} {name_of(at)}" for link in found.links for at in link
-                    if at in found.without + falls]
+    for at in (it for link in found.links for it in link):
+        outside = len(texts[at]) - sum(6 + len(it.payload) for it in frames_of(texts[at]))
+        lines += [f" {'no-epoch' if at in found.without else 'time-falls'} {name_of(at)}"] * (at in found.without + falls)
+        lines += [f" outside-frames {outside} in {name_of(at)}"] * (outside > 0)
+    return lines
 
 
 # ---------------------------------------------------------------- what is not in the file
@@ -276,17 +295,16 @@ def system_text(number: int) -> str:
     return SYSTEMS.get(number // 10, "GLONASS") if number > 1080 or 1009 <= number <= 1012 else "GPS"
 
 
-# pins: msm_line_of, doppler_line_of, obs_1004_line, is_gps_system, MessageLines.counted_line, long_line, unread_legacy_glonass
+# pins: msm_line_of, doppler_line_of, obs_1004_line, is_gps_system, ended_count_line, long_line, unread_legacy_glonass
 def left_out_lines(found: Found, texts: list[bytes]) -> list[str]:
     """How many messages are not converted, or without a part: of GPS those of the station, of other systems those of all stations."""
     chosen = found.chosen
     read = [read_message(it.payload, MSMS) for text in texts for it in frames_of(text)]
     own = [it for it in read if isinstance(it, Message) and it.header["station"] == found.station]
     others = Counter(it.number for it in read if isinstance(it, Refusal) and it.fault == "M2")
-    if not stages.COUNTS_CUT_SHORT:
-        others -= Counter(cut_short_1012(texts))
     gps = {LEGACY, *MSMS} if stages.TELLS_1004 else {*MSMS}
     others.update(it.header["number"] for it in own if it.header["number"] in gps)
+    others.update(it.number for it in read if isinstance(it, Refusal) and it.number in MSMS)  # they tell no station
     told = {*gps, *UNTAKEN, *range(1009, 1013), *(it for it in range(1081, 1138) if 1 <= it % 10 <= 7)}
     numbers = sorted((set(others) & told) - chosen.numbers, key=lambda it: (system_text(it) != "GPS", it))
     of_gps = [it for it in numbers if it in gps]
@@ -316,12 +334,6 @@ def slot_lines(found: Found) -> list[str]:
         lines += [f" several-channels R{slot:02} {' '.join(map(str, its))}" for slot, its in sorted(slots.several.items())]
     header = "as a header's GLONASS SLOT / FRQ # of the same days has them"
     return lines + [f" no-channel {slot_names(slots.without)}: give --channels, {header}"] * bool(slots.without)
-
-
-def cut_short_1012(texts: list[bytes]) -> list[int]:
-    """The number of each 1012 that is cut short."""
-    read = [read_any(it.payload, frozenset({LEGACY_GLONASS})) for text in texts for it in frames_of(text)]
-    return [it.number for it in read if isinstance(it, Refusal) and it.number == LEGACY_GLONASS]
 
 
 def slot_names(slots: Iterable[int]) -> str:

@@ -126,6 +126,23 @@ def leap_seconds_by_clocks() -> None:
 
 
 @test
+def clocks_over_a_leap_second() -> None:
+    """That of 2016 is 00:00:17 of the first day of 2017 in GPS time. Clocks are compared with the leap seconds of their days."""
+    start = moment("2017-01-01T00:00:00")
+
+    def chosen(*epochs: tuple[int, int]) -> Chosen:
+        text = b"".join(epoch(start + 1000 * second, (GPS, 0), (GLONASS, ahead)) for second, ahead in epochs)
+        return chosen_in(text, near=start + 16_000)
+
+    right = chosen((15, 0), (16, 0), (18, 0), (19, 0))
+    same("right", (right.clocks, right.wrong, right.leap), ([], "", None))
+    late = chosen((16, 0), (18, 1000), (19, 1000))
+    same("it does not know of it", (late.clocks, late.wrong, late.leap), ([" clock R +1.000 2 of 3"], "R", None))
+    early = chosen((14, -1000), (15, -1000), (18, 0))
+    same("it knows of it too early", (early.clocks, early.wrong), ([" clock R -1.000 2 of 3"], "R"))
+
+
+@test
 def kinds_by_epochs() -> None:
     def link(*kinds: int, system: System = GALILEO) -> list:
         texts = (one_cell(system, kind, NOON + 1000 * at, 1, 2, cnr=40) for at, kind in enumerate(kinds))

@@ -7,7 +7,7 @@ from collections import Counter
 from typing import Iterable, NamedTuple, Optional
 
 import stages
-from clocks import glonass_moment, leap_seconds_at, moment_of
+from clocks import DAY_MS, glonass_moment, leap_seconds_at, moment_of
 from model import dated
 from msm import letter_of
 from systems import BEIDOU, BY_LETTER, GLONASS
@@ -15,6 +15,7 @@ from wire import WEEK_MS, BitReader, Message
 
 MOST_CLOCKS = 32  # so many clocks of a chain are compared
 MOST_OFFSETS = 8  # so many offsets of a system are counted
+MOST_OF_DAYS = 16  # and of GLONASS so many that differ, or are of days of UTC that differ
 HALF_SECOND_MS = 500
 
 # The systems whose clocks others are compared with, in their order, and those of which a summary has a line.
@@ -66,19 +67,31 @@ def _ahead(message: Message, base: int, date: Date | None) -> int | None:
 Offsets = dict[str, "Counter[int]"]  # by letters of systems; each is modulo a week
 
 
+def _kept_as(message: Message, base: int, date: Date | None) -> tuple[int, int]:
+    """By what a clock is kept: by how much it is ahead, that of GLONASS in UTC, and by the day of UTC."""
+    if letter_of(message) != GLONASS.letter or date is None:
+        return (_ahead(message, base, date) or 0, 0)
+    ahead = (glonass_moment(message.header["tow"], dated(date.near, base), 0) - base) % WEEK_MS
+    return (ahead, (base + ahead) % WEEK_MS // DAY_MS if date.own else 0)
+
+
 def offsets_of(messages: Iterable[Message], date: Date | None = None) -> Offsets:
     """How often the clock of each system is ahead by each offset."""
     offsets: Offsets = {letter: Counter() for letter in BY_LETTER}
+    kept: dict[str, set[tuple[int, int]]] = {letter: set() for letter in BY_LETTER}
     for chain in chains_of(messages):
         at = min(range(len(chain)), key=lambda at: (f"{TIMING}CR".index(letter_of(chain[at]) or ""), at))
         base = chain.pop(at)
         if letter_of(base) not in TIMING:
             continue
         for message in chain:
-            counted = offsets[letter_of(message) or ""]
-            ahead = _ahead(message, base.header["tow"], date)
-            if ahead is not None and (ahead in counted or len(counted) < MOST_OFFSETS):
-                counted[ahead] += 1
+            letter, tow = letter_of(message) or "", base.header["tow"]
+            ahead = _ahead(message, tow, date)
+            most = MOST_OF_DAYS if letter == GLONASS.letter and date is not None and date.own else MOST_OFFSETS
+            if len(kept[letter]) < most:
+                kept[letter].add(_kept_as(message, tow, date))
+            if ahead is not None and _kept_as(message, tow, date) in kept[letter]:
+                offsets[letter][ahead] += 1
     return offsets
 
 

@@ -119,7 +119,7 @@ def names_shown(messages: Iterable[Message], numbers: set[int]) -> list[str]:
 # ---------------------------------------------------------------- clocks
 
 
-# pins: compared_systems, kinds_in_order, times_chains, timing_before, is_glonass_system
+# pins: compared_systems, kinds_in_order, times_chains, timing_before, is_glonass_system, has_gps_messages
 def total_offsets(captures: list[Sent], date: Date) -> Offsets:
     """How often each clock is ahead by each offset, in all captures."""
     totals: Offsets = {letter: Counter() for letter in LETTERS}
@@ -146,7 +146,7 @@ def leap_of(captures: list[Sent], span: tuple[int, int], near: int, wanted: Want
     """The leap seconds that are given, or those by which GLONASS is right; nothing if the table has them."""
     if wanted.leap is not None or not stages.SETS_LEAP_SECONDS or GLONASS.letter not in wanted.letters:
         return wanted.leap
-    date = Date(near, None, stages.OWN_LEAP_SECONDS)
+    date = Date(near)
     is_off = is_wrong(total_offsets(captures, date)[GLONASS.letter])
     return right_leap_seconds(captures, *span, date) if is_off else None
 
@@ -184,7 +184,7 @@ def choose(captures: list[Sent], links: list[list[int]], orbits: list[tuple[int,
     messages = [it for capture in captures for it in capture.messages]
     of_links = [[it for at in link for it in captures[at].messages] for link in links]
     leap = leap_of(captures, span, near, wanted)
-    offsets = total_offsets(captures, Date(near, leap, stages.OWN_LEAP_SECONDS))
+    offsets = total_offsets(captures, Date(near, leap))
     compared = [it for it in wanted.letters if it != GPS.letter]
     wrong = "".join(it for it in compared if wanted.names is None and is_wrong(offsets[it]))
     letters = [it for it in wanted.letters if it not in wrong]

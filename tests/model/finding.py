@@ -23,9 +23,9 @@ from clocks import glonass_moment, leap_seconds_at, near_of_span
 from equipment import equipment_of
 from messages import Refusal, frames_of
 from model import civil, moment
-from msm import letter_of, read_frame
+from msm import read_frame
 from systems import GLONASS
-from valued import cells_in, has_value, name_of_code, names_in
+from valued import cells_in, has_value, letter_of_name, name_of_code, names_in
 from wire import WEEK_MS, BitReader, Fields, Message, table
 
 DAY_MS = 86_400_000
@@ -45,10 +45,26 @@ EPHEMERIS = table(
     " crs:i16 delta_n:i16 m0:i32 cuc:i16 e:u32 cus:i16 root_a:u32 toe:u16 cic:i16 omega0:i32 cis:i16 i0:i32 crc:i16 omega:i32"
     " omega_dot:i24 tgd:i8 health:u6 l2p_flag:u1 fit:u1"
 )
+BEIDOU_EPHEMERIS = table(
+    "number:u12 satellite:u6 system_week:u13 accuracy:u4 idot:i14 aode:u5 toc:u17 a2:i11 a1:i22 a0:i24 aodc:u5 crs:i18"
+    " delta_n:i16 m0:i32 cuc:i18 e:u32 cus:i18 root_a:u32 toe:u17 cic:i18 omega0:i32 cis:i18 i0:i32 crc:i18 omega:i32"
+    " omega_dot:i24 tgd1:i10 tgd2:i10 health:u1"
+)
+GALILEO = (
+    "number:u12 satellite:u6 system_week:u12 iod:u10 accuracy:u8 idot:i14 toc:u14 af2:i6 af1:i21 af0:i31 crs:i16 delta_n:i16"
+    " m0:i32 cuc:i16 e:u32 cus:i16 root_a:u32 toe:u14 cic:i16 omega0:i32 cis:i16 i0:i32 crc:i16 omega:i32 omega_dot:i24 bgd_e5a:i10"
+)
+# the messages of BeiDou, and of Galileo by F/NAV and by I/NAV: the fields, the unit of the reference time in ms, how many weeks
+# its field tells apart, and the week of GPS that is week 0 of the system
+OTHER_EPHEMERIDES = {
+    1042: (BEIDOU_EPHEMERIS, 8000, 1 << 13, 1356),
+    1045: (table(f"{GALILEO} health:u2 invalid:u1 reserved:u7"), 60_000, 1 << 12, 1024),
+    1046: (table(f"{GALILEO} bgd_e5b:i10 health_e5b:u2 invalid_e5b:u1 health_e1b:u2 invalid_e1b:u1 reserved:u2"), 60_000, 1 << 12, 1024),
+}
 
 
 def date_of(payload: bytes) -> Fields | None:
-    """The fields of a 1013, 1029 or 1019; None for another message, and for one that is cut short."""
+    """The fields of a 1013, 1029, 1019, 1042, 1045 or 1046; None for another message, and for one that is cut short."""
     bits = BitReader(payload)
     try:
         number = BitReader(payload).take(12)
@@ -62,6 +78,8 @@ def date_of(payload: bytes) -> Fields | None:
                 bits.take(8)
         elif number == 1019:
             fields = bits.take_row(EPHEMERIS)
+        elif number in OTHER_EPHEMERIDES and stages.DATES_BY_SYSTEMS:
+            fields = bits.take_row(OTHER_EPHEMERIDES[number][0])
         else:
             return None
     except EOFError:
@@ -72,7 +90,10 @@ def date_of(payload: bytes) -> Fields | None:
 def told_moment(now: int, fields: Fields, tow: int) -> int | None:
     """The moment with this time of week that such a message tells; None if it is passed over."""
     if "week" in fields:
-        return moment_of_week(now, fields["week"], 16_000 * fields["toe"], tow)
+        return moment_of_week(now, fields["week"], 1024, reference_time(fields), tow)
+    if "system_week" in fields:
+        _, _, weeks, first = OTHER_EPHEMERIDES[fields["number"]]
+        return moment_of_week(now, (fields["system_week"] + first) % weeks, weeks, reference_time(fields), tow)
     day, second = fields["day"], fields["second"]
     if day < FIRST_DAY + 7 or second > 86_400 or day > FIRST_DAY + now // DAY_MS + 1:
         return None
@@ -82,11 +103,16 @@ def told_moment(now: int, fields: Fields, tow: int) -> int | None:
     return told
 
 
-def moment_of_week(now: int, week: int, toe: int, tow: int) -> int | None:
-    """In the latest week of this number modulo 1,024 that is not after now's; None if the reference time is of another week."""
+def reference_time(fields: Fields) -> int:
+    """That of an ephemeris, in ms of the week. The 14 s between the clock of BeiDou and GPS time are left out."""
+    return (16_000 if "week" in fields else OTHER_EPHEMERIDES[fields["number"]][1]) * fields["toe"]
+
+
+def moment_of_week(now: int, week: int, apart: int, toe: int, tow: int) -> int | None:
+    """In the latest of the weeks so far apart that is not after now's; None if the reference time is of another week."""
     if abs(toe - tow) > HALF_WEEK_MS:
         return None
-    weeks = [it for it in range(week, now // WEEK_MS + 1, 1024)]
+    weeks = [it for it in range(week, now // WEEK_MS + 1, apart)]
     return WEEK_MS * weeks[-1] + tow if weeks else None
 
 
@@ -139,8 +165,8 @@ class Capture(NamedTuple):
         return [it.header["station"] for it in self.messages() if self.has_observation(it)]
 
     def has_observation(self, message: Message) -> bool:
-        """A range, a phase or a strength of a system that tells dates."""
-        return (letter_of(message) or "-") in self.dating and bool(names_in(message))
+        """A range, a phase or a strength of a system that tells dates, which in a 1004 may be SBAS."""
+        return any(letter_of_name(it) in self.dating for it in names_in(message))
 
     def observes(self, station: int, entry: Message | Fields) -> bool:
         return isinstance(entry, Message) and entry.header["station"] == station and self.has_observation(entry)
@@ -180,19 +206,19 @@ class Told(NamedTuple):
     at: int  # the place of the message among those that are read
 
 
-WAITING = 64  # how many messages before the first epoch are looked at
+WAITING = 64  # how many messages before the first epoch are looked at,
+WAITING_WEEKS = 16  # and how many 1042, 1045 and 1046 beside them
 
 
 def tellings(now: int, capture: Capture, station: int) -> list[Told]:
     """What each message tells. Its date is that of the last epoch before it, or else of the first one."""
     times = capture.times(station)
-    told, epochs, waited = [], 0, 0
+    told, epochs, waits = [], 0, {at for at, _ in waiting_in(capture)}
     for place, entry in enumerate(capture.read):
         epochs += capture.observes(station, entry)
         if isinstance(entry, Message) or not times:
             continue
-        waited += epochs == 0
-        if epochs == 0 and waited > WAITING:
+        if epochs == 0 and place not in waits:
             continue
         at = max(epochs - 1, 0)
         date = told_moment(now, entry, times[at])
@@ -214,11 +240,30 @@ def date_of_first(times: list[int], last: int) -> int | None:
 
 
 def counting(told: list[Told], station: int) -> list[Told]:
-    """Those of the station by 1013 and 1029; if there are none, those by 1019; if none, those of other stations."""
+    """Those that count by their rank; but those by 1042, 1045 and 1046 count before those by 1019, if they tell that the week of
+    a 1019 is an earlier one."""
+    ranked = by_rank(told, station)
+    return systems_in(told) if ranked and "week" in ranked[0].fields and is_rolled_over(told) else ranked
+
+
+def by_rank(told: list[Told], station: int) -> list[Told]:
+    """Those of the station by 1013 and 1029; if there are none, those by 1019; if none, those of other stations; if none, those by
+    1042, 1045 and 1046."""
     own = [it for it in told if it.fields.get("station") == station]
     weeks = [it for it in told if "week" in it.fields]
     others = [it for it in told if "station" in it.fields and it not in own]
-    return own or weeks or others
+    return own or weeks or others or systems_in(told)
+
+
+def systems_in(told: list[Told]) -> list[Told]:
+    return [it for it in told if "system_week" in it.fields]
+
+
+def is_rolled_over(told: list[Told]) -> bool:
+    """A 1042, 1045 or 1046 tells a moment before that of a 1019, by one or more times the weeks after which that begins anew, and
+    not half a week more or less."""
+    steps = [week.first - it.first for it in systems_in(told) for week in told if "week" in week.fields]
+    return any(-HALF_WEEK_MS <= step - times * 1024 * WEEK_MS < HALF_WEEK_MS for step in steps for times in range(1, 7))
 
 
 def second_begins(capture: Capture, told: list[Told], station: int) -> int | None:
@@ -240,10 +285,13 @@ def second_begins(capture: Capture, told: list[Told], station: int) -> int | Non
     return capture.places[min(second, max(breaks, default=(0, second))[1])]
 
 
-def passed_over(told: list[Told], station: int) -> list[Told]:
-    """Those by 1019, if the station tells its own date, which counts."""
+def passed_over(told: list[Told], station: int) -> tuple[list[Told], list[Told]]:
+    """Those by 1019, if the station tells its own date, which counts, or if another system tells an earlier week; and those of
+    other stations, if the station or a 1019 tells one."""
     own = [it for it in told if it.fields.get("station") == station]
-    return [it for it in told if "week" in it.fields] if own else []
+    weeks = [it for it in told if "week" in it.fields]
+    others = [it for it in told if "station" in it.fields and it not in own]
+    return weeks if own or is_rolled_over(told) else [], others if own or weeks else []
 
 
 def chain(first: int, times: list[int]) -> list[int]:
@@ -305,17 +353,30 @@ def first_told(now: int, captures: list[Capture], station: int) -> dict[int, Tol
     return {place: told[0] for place, told in enumerate(counted) if told}
 
 
+def waiting_in(capture: Capture) -> list[tuple[int, Fields]]:
+    """The dates that are looked at in a capture without an epoch, with their places."""
+    dates = [(at, it) for at, it in enumerate(capture.read) if not isinstance(it, Message)]
+    weeks = [it for it in dates if "system_week" in it[1]]
+    return sorted([it for it in dates if it not in weeks][:WAITING] + weeks[:WAITING_WEEKS], key=lambda it: it[0])
+
+
 def named_moment(now: int, capture: Capture, station: int) -> Told | None:
-    """The earliest moment that a date names in a capture without an epoch, among those that count as they do for a first epoch."""
-    dates = [(at, it) for at, it in enumerate(capture.read) if not isinstance(it, Message)][:WAITING]
-    named = [Told(moment, it, at) for at, it in dates for moment in [moment_named(now, it)] if moment is not None]
-    return min(counting([it for it in named if FIRST_NEAR <= it.first <= LAST_NEAR], station), key=lambda it: it.first, default=None)
+    """The earliest moment that a date names in a capture without an epoch, chosen as among those that tell a first epoch."""
+    named = [Told(moment, it, at) for at, it in waiting_in(capture) for moment in [moment_named(now, it)] if moment is not None]
+    counted = counting([it for it in named if FIRST_NEAR <= it.first <= LAST_NEAR], station)
+    return min(counted, key=lambda it: it.first, default=None)
+
+
+def tellings_near(now: int, capture: Capture, near: int) -> list[Told]:
+    """What the dates of a capture without an epoch tell of one at this moment."""
+    told = [(told_moment(now, it, near % WEEK_MS), it, at) for at, it in waiting_in(capture)]
+    return [Told(first, it, at) for first, it, at in told if first is not None and FIRST_NEAR <= first <= LAST_NEAR]
 
 
 def moment_named(now: int, fields: Fields) -> int | None:
     """That of its day and second, or the reference time of an ephemeris in its week."""
-    if "week" in fields:
-        return told_moment(now, fields, 16_000 * fields["toe"]) if 16_000 * fields["toe"] < WEEK_MS else None
+    if "toe" in fields:
+        return told_moment(now, fields, reference_time(fields)) if reference_time(fields) < WEEK_MS else None
     at = DAY_MS * (fields["day"] - FIRST_DAY) + 1000 * fields["second"]
     return None if told_moment(now, fields, 0) is None else at
 
@@ -381,7 +442,7 @@ def find(texts: list[bytes], now: int, wanted: Wanted = Wanted()) -> Found:
     times = [capture.times(number) for capture in captures]
     told = {} if near is not None else first_told(now, captures, number)
     named = [it for capture, of in zip(captures, times) if not of for it in [named_moment(now, capture, number)] if it is not None]
-    dating = [*told.values()] or ([] if near is not None else named)
+    dating = [*told.values()] or ([] if near is not None else by_rank(named, number))
     if near is None and not dating:
         raise Stopped("no date")
     base = near if near is not None else min(it.first for it in dating)

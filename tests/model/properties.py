@@ -19,10 +19,11 @@ from random import Random
 from typing import Callable, Iterable, NamedTuple, Optional
 
 import qualities
+import stages
 from captures import Capture
 from checker import fault
 from damages import damaged_file
-from finding import EPHEMERIS, FIRST_DAY, SYSTEM_PARAMETERS, TEXT, Found
+from finding import EPHEMERIS, FIRST_DAY, OTHER_EPHEMERIDES, SYSTEM_PARAMETERS, TEXT, Found
 from messages import Placed, frames_of, show_line
 from model import COUNTS, KINDS, Conversion, Judged, Setup, convert, report_of
 from parts import Part, part_of, records_of
@@ -194,12 +195,18 @@ def with_dates(rng: Random, setup: Setup, text: bytes) -> bytes:
     pieces = pieces_of(text)
     for _ in range(rng.choice((0, 1, 1, 1, 1, 2, 3))):
         at = max(0, setup.near + rng.choice((0, 0, 0, rng.randint(-WEEK_MS, WEEK_MS)))) // 1000
-        number, table = rng.choice(((1013, SYSTEM_PARAMETERS), (1029, TEXT), (1019, EPHEMERIS)))
+        dates = [(1013, SYSTEM_PARAMETERS), (1029, TEXT), (1019, EPHEMERIS)]
+        if stages.DATES_BY_SYSTEMS and rng.random() < 0.3:
+            dates = [(it, fields) for it, (fields, *_) in OTHER_EPHEMERIDES.items()]
+        number, table = rng.choice(dates)
         values = {it.name: pick_any(rng, it) for it in table} | {
             "number": number, "station": rng.choice((setup.station, setup.station, 5)), "day": FIRST_DAY + at // 86_400,
             "second": rng.choice((*[at % 86_400] * 9, 86_400, 86_401)), "announced": rng.choice((0, 1, 31)),
             "week": at // 604_800 % 1024, "toe": at % 604_800 // 16,
         }
+        if number in OTHER_EPHEMERIDES:
+            _, unit, weeks_apart, first = OTHER_EPHEMERIDES[number]
+            values |= {"system_week": (at // 604_800 - first) % weeks_apart, "toe": 1000 * (at % 604_800) // unit}
         bits = BitWriter()
         bits.put_row(table, values)
         pieces.insert(rng.randrange(len(pieces)), frame_of(bits.to_bytes() + rng.randbytes(rng.choice((0, 3, 4, 120, 260)))))

@@ -5,12 +5,8 @@ once all are turned."""
 TAKEN = "GRECJSI"
 # The systems whose observations tell the station, the dates and the spans of captures; without others G alone does.
 DATING = "GEJSI"
-# The systems whose epochs are counted where the stations are listed.
-HEARD = "G"
 # The systems whose phases are counted for the lines of codes with few phases.
 PHASES = "G"
-# GLONASS is compared by the leap seconds of the table that hold at each message, and not at the first epoch alone.
-OWN_LEAP_SECONDS = False
 # Leap seconds of GLONASS that are wrong everywhere by the same whole seconds are set right.
 SETS_LEAP_SECONDS = True
 # `summary` has a line of the clock of GLONASS, by the leap seconds at the first date of the station, and one of each system that no
@@ -23,18 +19,17 @@ TELLS_CHANNELS = True
 # `convert` takes 1012, and satellites of SBAS of a 1004 where a code of SBAS is listed.
 CONVERTS_1012 = True
 CONVERTS_SBAS = True
-# `summary` and `auto` find 1012, MSM of GLONASS that do not know the day, and satellites of SBAS of a 1004.
+# `summary` and `auto` find 1012, and MSM of GLONASS that do not know the day.
 FINDS_1012 = True
-FINDS_SBAS = False
 # `auto` converts 1012 where the epochs allow a reference.
 TAKES_1012 = True
 # 1004 that are not converted have a line.
 TELLS_1004 = True
 # Channels that words give go before those that messages tell of the same slots; else nothing that messages tell is taken.
 JOINS_CHANNELS = True
-# 1012 that are cut short are counted among those that are not in the file.
-COUNTS_CUT_SHORT = False
 # A slot of GLONASS counts if it has a value of a listed code; else if it has a value of any code.
 LISTED_SLOTS = False
+# 1042, 1045 and 1046 date where nothing else does, and end the choice between the weeks of a 1019.
+DATES_BY_SYSTEMS = True
 # The words of `auto` beside those that it has for GPS.
 WORDS = ("--msm", "--codes", "--systems", "--channels", "--leap-seconds")

@@ -8,7 +8,7 @@ from collections import Counter
 from datetime import datetime, timedelta
 from itertools import groupby
 
-from chains import Date, clock_lines, is_wrong, offsets_of, week_lines
+from chains import TIMING, Date, clock_lines, is_wrong, offsets_of, week_lines
 from channels import most_told, told_by
 from choosing import DEFAULT_KIND, has_value_of_1012, kind_of, names_shown, numbers_of, slots_shown
 from equipment import Told, equipment_lines, equipment_of
@@ -100,10 +100,12 @@ def station_lines(name: str, station: int, messages: list[Message], dated: list[
     counts = Counter(it.header["number"] for it in messages)
     observations = [it for it in messages if letter_of(it) == GPS.letter]
     others = [it for it in messages if letter_of(it) not in (None, GPS.letter)]
-    times = [it.header["tow"] for it in observations]
+    times = [it.header["tow"] for it in messages if (letter_of(it) or "-") in TIMING]
     shown = [entry for it in observations for entry in entries_of(it)]
     found = {satellite for it in messages for satellite, _ in shown_in(it)}
     names = {name for it in messages for name in names_in(it)}
+    # A 1004 has the clock of GPS, also where it has SBAS alone.
+    clocked = {letter_of(it) for it in messages if letter_of(it) in map(letter_of_name, names_in(it))}
     by_number = {number: [it for it in dated if it["number"] == number] for number in (1013, 1029)}
     first = (by_number[1013] + by_number[1029])[:1]
     lines = [
@@ -116,7 +118,7 @@ def station_lines(name: str, station: int, messages: list[Message], dated: list[
         f" codes {','.join(it for it in NAMES if it in names) or '-'}",
         *epoch_lines(others),
         *channel_lines(others),
-        *clock_lines(messages, [it for it in LETTERS if it in map(letter_of_name, names)], moment_of_date(first[0]) if first else None),
+        *clock_lines(messages, [it for it in LETTERS if it in clocked], moment_of_date(first[0]) if first else None),
     ]
     near = moment_of_date(first[0]) if first else None
     words = command_words(messages, near, times)
@@ -172,7 +174,7 @@ def command_words(messages: list[Message], near: int | None, times: list[int]) -
     kinds = {it: kind_of([messages], it) or DEFAULT_KIND for it in letters}
     is_dated = near is not None and bool(times) and is_near(near, times[0]) and is_near(near, times[-1])
     with_1012 = is_dated and any(map(has_value_of_1012, messages))
-    names = names_shown(messages, numbers_of(kinds, with_1012))
+    names = [it for it in names_shown(messages, numbers_of(kinds, with_1012)) if letter_of_name(it) in letters]
     kinds = {it: kind for it, kind in kinds.items() if it in map(letter_of_name, names)}
     if not names:
         return ""

@@ -4,7 +4,6 @@ from __future__ import annotations
 
 from functools import lru_cache
 
-import stages
 from messages import Cell, cells_of
 from mixed_cells import MixedCell, all_cells, cells_of_1004, cells_of_1012
 from msm import LEGACY, LEGACY_GLONASS, system_of
@@ -21,7 +20,7 @@ def cells_in(message: Message, channels: dict[int, int]) -> list[MixedCell]:
     system, number = system_of(message), message.header["number"]
     if system is None:
         return []
-    if number == LEGACY and stages.FINDS_SBAS:
+    if number == LEGACY:
         return cells_of_1004(message, True)
     if system is GPS:
         return [(f"G{satellite:02}", code, cell) for satellite, code, cell in cells_of(message)]

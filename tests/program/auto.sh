@@ -51,14 +51,15 @@ done 3<<'ROWS'
 2|--marker ZÜRICH one|bad --marker
 3|one.gz|the captures have no frame of RTCM 3\n one.gz looks like gzip; unpack it: gzip -dc one.gz >one.gz.rtcm
 3|zip one.rnx text nmea empty|the captures have no frame of RTCM 3\n empty is empty\n nmea looks like NMEA\n one.rnx looks like RINEX\n text looks like hex-text\n zip looks like zip; unpack it: unzip -p zip >zip.rtcm
-3|one one.gz empty stations|several stations have GPS observations; choose one by --station\n station 7 in stations: 1 epochs\n station 2003 in one: 2 epochs\n station 2003 in stations: 2 epochs
+3|one one.gz empty stations|several stations have observations; choose one by --station\n station 7 in stations: 1 epochs\n station 2003 in one: 2 epochs\n station 2003 in stations: 2 epochs
 3|one one.gz "a b" empty|captures have nothing of station 2003; --skip-empty leaves them out\n empty is empty\n one.gz looks like gzip; unpack it: gzip -dc one.gz >one.gz.rtcm
-3|unread|the captures have no GPS observations that are read\n holds GPS 1001, 1 messages\n holds GPS 1003, 12 messages\n holds GLONASS 1009, 1 messages\n holds GLONASS 1012, 1 messages\n holds GPS 1072, 1 messages\n holds GLONASS 1081, 1 messages\n holds GLONASS 1087, 1 messages\n holds Galileo 1091, 1 messages\n holds Galileo 1097, 1 messages\n holds SBAS 1101, 1 messages\n holds SBAS 1107, 1 messages\n holds QZSS 1111, 1 messages\n holds QZSS 1117, 1 messages\n holds BeiDou 1121, 1 messages\n holds BeiDou 1127, 1 messages\n holds NavIC 1131, 1 messages\n holds NavIC 1137, 1 messages
+3|unread|the captures have no observations that are read\n holds GPS 1001, 1 messages\n holds GPS 1003, 12 messages\n holds GLONASS 1009, 1 messages\n holds GLONASS 1012, 1 messages\n holds GPS 1072, 1 messages\n holds GLONASS 1081, 1 messages\n holds GLONASS 1087, 1 messages\n holds Galileo 1091, 1 messages\n holds Galileo 1097, 1 messages\n holds SBAS 1101, 1 messages\n holds SBAS 1107, 1 messages\n holds QZSS 1111, 1 messages\n holds QZSS 1117, 1 messages\n holds BeiDou 1121, 1 messages\n holds BeiDou 1127, 1 messages\n holds NavIC 1131, 1 messages\n holds NavIC 1137, 1 messages
 3|one.bz2 "one 2.xz" sbf novatel jps|the captures have no frame of RTCM 3\n jps looks like JPS\n novatel looks like NovAtel\n 'one 2.xz' looks like xz; unpack it: xz -dc 'one 2.xz' >'one 2.xz'.rtcm\n one.bz2 looks like bzip2; unpack it: bzip2 -dc one.bz2 >one.bz2.rtcm\n sbf looks like SBF
-3|reserved|the captures have no GPS observations that are read\n holds 1080, 1 messages\n holds 1088, 1 messages\n holds 1089, 1 messages\n holds 1090, 1 messages\n holds 1098, 1 messages\n holds 1099, 1 messages\n holds 1100, 1 messages\n holds 1108, 1 messages\n holds 1109, 1 messages\n holds 1110, 1 messages\n holds 1118, 1 messages\n holds 1119, 1 messages\n holds 1120, 1 messages\n holds 1128, 1 messages\n holds 1129, 1 messages\n holds 1130, 1 messages\n holds 1138, 1 messages
-3|no_value position|the captures have no GPS observations that are read\n holds GPS 1004, 1 messages\n holds 1005, 1 messages\n holds 1013, 1 messages
-3|--station 7 one|station 7 has no GPS observations that are read\n station 2003 in one: 2 epochs
-3|--station 7 foreign|station 7 has no GPS observations that are read\n station 2003 in foreign: 2 epochs
+3|reserved|the captures have no observations that are read\n holds 1080, 1 messages\n holds 1088, 1 messages\n holds 1089, 1 messages\n holds 1090, 1 messages\n holds 1098, 1 messages\n holds 1099, 1 messages\n holds 1100, 1 messages\n holds 1108, 1 messages\n holds 1109, 1 messages\n holds 1110, 1 messages\n holds 1118, 1 messages\n holds 1119, 1 messages\n holds 1120, 1 messages\n holds 1128, 1 messages\n holds 1129, 1 messages\n holds 1130, 1 messages\n holds 1138, 1 messages
+3|only_short|the captures have no observations that are read\n holds GPS 1004, 1 messages\n holds GPS 1077, 2 messages
+3|no_value position|the captures have no observations that are read\n holds GPS 1004, 1 messages\n holds 1005, 1 messages\n holds 1013, 1 messages
+3|--station 7 one|station 7 has no observations that are read\n station 2003 in one: 2 epochs
+3|--station 7 foreign|station 7 has no observations that are read\n station 2003 in foreign: 2 epochs
 3|differ|a capture tells two dates; part it, or choose one by --near\n 2024-05-17T12:00:00 by 1013 of station 2003 in differ\n 2024-05-10T12:00:00 by 1013 of station 2003 in differ\n differ: the second date begins at byte 107; these commands part it there:\nhead -c 107 differ >differ.1\ntail -c +108 differ >differ.2
 3|sessions|a capture tells two dates; part it, or choose one by --near\n 2024-05-17T12:00:00 by 1013 of station 2003 in sessions\n 2024-05-24T12:00:00 by 1013 of station 2003 in sessions\n sessions: the second date begins at byte 107; these commands part it there:\nhead -c 107 sessions >sessions.1\ntail -c +108 sessions >sessions.2
 3|again|a capture tells two dates; part it, or choose one by --near\n 2024-05-17T12:00:00 by 1013 of station 2003 in again\n 2024-05-24T12:00:00 by 1029 of station 2003 in again\n again: the second date begins at byte 107; these commands part it there:\nhead -c 107 again >again.1\ntail -c +108 again >again.2
@@ -70,6 +71,7 @@ done 3<<'ROWS'
 3|as_great|a capture tells two dates; part it, or choose one by --near\n 2024-05-17T12:00:02 by 1013 of station 2003 in as_great\n 2024-05-24T12:00:02 by 1013 of station 2003 in as_great\n as_great: the second date begins at byte 107; these commands part it there:\nhead -c 107 as_great >as_great.1\ntail -c +108 as_great >as_great.2
 3|two_before|the captures tell dates that differ; choose one by --near\n 2024-05-17T12:00:00 by 1013 of station 2003 in two_before\n 2024-05-24T12:00:00 by 1013 of station 2003 in two_before
 3|weeks|the captures tell dates that differ; choose one by --near\n 2024-05-17T12:00:00 by 1019 in weeks\n 2024-05-10T12:00:00 by 1019 in weeks
+3|two_system_weeks|the captures tell dates that differ; choose one by --near\n 2024-05-17T12:00:00 by 1042 in two_system_weeks\n 2024-05-10T12:00:00 by 1046 in two_system_weeks
 3|last_week one|the captures tell dates that differ; choose one by --near\n 2024-05-10T12:00:02 by 1019 in last_week\n 2024-05-17T12:00:00 by 1013 of station 2003 in one
 3|one half_week|the captures are longer than half a week; convert them in parts\n 2024-05-21T00:00:00 until 2024-05-21T00:00:00 in half_week: 1 epochs\n 2024-05-17T12:00:00 until 2024-05-17T12:00:01 in one: 2 epochs
 3|one over_half_week|the captures tell dates that differ; choose one by --near\n 2024-05-17T12:00:00 by 1013 of station 2003 in one\n 2024-05-21T00:00:01 by 1019 in over_half_week
@@ -83,7 +85,7 @@ done 3<<'ROWS'
 3|here.0 far|the station stands at positions that differ; --links-as-given takes them for one\n position 1114204.6000 -4850729.7108 3975521.4643 in far\n position 1114104.5999 -4850729.7108 3975521.4643 in here.0
 3|moves|the station stands at positions that differ; --links-as-given takes them for one\n position 1114104.5999 -4850729.7108 3975521.4643 in moves\n position 1114204.6000 -4850729.7108 3975521.4643 in moves
 3|here.0 moves|the station stands at positions that differ; --links-as-given takes them for one\n position 1114104.5999 -4850729.7108 3975521.4643 in here.0\n position 1114204.6000 -4850729.7108 3975521.4643 in moves
-3|--msm 4 of_1077|neither a 1004 nor the MSM of --msm has a GPS observation; choose another MSM\n holds 1013, 1 messages\n holds GPS 1077, 2 messages
+3|--msm 4 of_1077|neither a 1004 nor the MSM of --msm has an observation; choose another MSM\n holds 1013, 1 messages\n holds GPS 1077, 2 messages
 3|--near 1980-01-13T00:00:00 one|the first epoch is not dated from 1980-01-13 to 2099-12-31; choose a date by --near
 3|--near 2099-12-31T23:59:59 one|the first epoch is not dated from 1980-01-13 to 2099-12-31; choose a date by --near
 ROWS
@@ -171,17 +173,38 @@ finds() {
     as_said "$name" "${6:-any}"
 }
 counts='3 1 0 0 2 0 0 0 2'
-finds one.nmea "$two 1013" "$one_command one.nmea" "$counts" 0 one.rnx
+# pins: outside_line
+finds one.nmea "$two 1013" "$one_command one.nmea" "$counts" 0 one.rnx ' outside-frames 96 in one.nmea'
+# The frame of the second epoch has a bad checksum, and the last one of a capture without an epoch is cut.
+finds bad_frame "$noon until $noon by 1013" "$one_command bad_frame" '2 1 0 0 1 0 0 0 1' 0 '' ' outside-frames 46 in bad_frame'
+position=
+finds 'cut_place one' "$two 1013" "cat cut_place one | $one_command stdin" '4 1 0 0 3 0 0 0 2' 0 '' ' no-epoch cut_place\n outside-frames 20 in cut_place'
+position=$no_position
 # pins: name_after_blank
 finds '"a b"' "$two 1013" "$one_command 'a b'" "$counts" 0 one.rnx
 finds '-- -5' "$two 1013" "$one_command ./-5" "$counts" 0 one.rnx
 finds '--station 2003 stations' "$two 1013" "$one_command stations" '4 1 0 1 2 0 0 0 2' 0 one.rnx
-finds foreign "$two 1013" "$one_command foreign" '5 2 0 1 2 0 0 0 2' 0 one.rnx
+# The 1013 of another station does not count, and its week, that of 2023-02-25, is told, also where --near agrees with the own one.
+finds foreign "$two 1013" "$one_command foreign" '5 2 0 1 2 0 0 0 2' 0 one.rnx ' other-date 2023-02-24T12:00:00 by 1013 of station 7 in foreign'
+finds '--near 2024-05-17T12:00:00 foreign' "$two --near" "$one_command foreign" '5 2 0 1 2 0 0 0 2' 0 one.rnx \
+    ' other-date 2023-02-24T12:00:00 by 1013 of station 7 in foreign'
 # pins: marker_chosen, station_words, convert_words
 finds '--station 7 stations' "$noon until $noon by 1013 of station 2003" \
     "$(echo "$one_command" | sed 's/2003/0007/g; s/station 0007/station 7/') stations" '4 1 0 2 1 0 0 0 1' 0 ''
 # pins: source_text, number_and_station
 finds by_other "$noon until $noon by 1013 of station 7" "$one_command by_other" '2 1 0 0 1 0 0 0 1' 0 ''
+# pins: source_text
+for row in 'by_galileo 1045 2' 'by_galileo_later 1046 2' 'by_beidou 1042 3'; do
+    set -- $row
+    finds $1 "$noon until $noon by $2" "$one_command $1" "$3 $(($3 - 1)) 0 0 1 0 0 0 1" 0 ''
+done
+# A date of another station counts before the week of Galileo; and a 1019 of the same week does.
+finds by_other_and_galileo "$noon until $noon by 1013 of station 7" "$one_command by_other_and_galileo" '3 2 0 0 1 0 0 0 1' 0 ''
+finds same_system_week "$noon until $noon by 1019 (or 2004-10-01, 2044-01-01)" "$one_command same_system_week" '3 2 0 0 1 0 0 0 1' 0 ''
+# The week of Galileo tells that the 1019 means the week 1,024 before the latest one.
+finds rolled_over "2004-10-01T12:00:00 until 2004-10-01T12:00:00 by 1045" "$(command 2004-10-01T12:00:00) rolled_over" '3 2 0 0 1 0 0 0 1' 0 '' \
+    ' other-date 2024-05-17T12:00:00 by 1019 in rolled_over'
+finds own_and_rolled_over "$two 1013" "$one_command own_and_rolled_over" '5 3 0 0 2 0 0 0 2' 0 one.rnx
 # pins: weeks_ms, neighbours_text, week_text
 finds by_week "$noon until $noon by 1019 (or 2004-10-01, 2044-01-01)" "$one_command by_week" '2 1 0 0 1 0 0 0 1' 0 ''
 for row in '1981-01-01 1980-01-20 1999-09-05' '2024-06-01 2019-04-21 1999-09-05, 2038-12-05' '2100-12-31 2097-10-20 2078-03-06'; do
@@ -208,6 +231,16 @@ finds '--near 2024-05-17T12:00:00 later one' "$noon until 2024-05-17T12:00:03 by
 # pins: joined_bytes, cat_words, one_link_text, no_position_line
 # pins: undated_line
 finds 'later one' "$noon until 2024-05-17T12:00:03 by 1013" "cat one later | $one_command stdin" '5 1 0 0 4 0 0 0 4' 0 '' ' undated later: dated near the others'
+# weeks NUMBER NAME: a line for each week before that of the file
+weeks() { for week in $(seq "$1"); do echo " other-date $(date -u -d "2024-05-17 - $((7 * week)) days" +%F)T12:00:00 by 1013 of station 7 in $2"; done; }
+# Sixteen dates of a capture are kept, and then others may have been told.
+finds fifteen_weeks "$two 1013" "$one_command fifteen_weeks" '18 16 0 0 2 0 0 0 2' 0 one.rnx "$(weeks 15 fifteen_weeks)"
+# pins: is_full, more_dates_line
+finds sixteen_weeks "$two 1013" "$one_command sixteen_weeks" '19 17 0 0 2 0 0 0 2' 0 one.rnx "$(weeks 16 sixteen_weeks)\n more-dates in sixteen_weeks"
+# A date after the time of making does not count, and is told.
+# pins: date_to_come
+finds 'one to_come' "$noon until 2024-05-17T12:00:02 by 1013" "cat one to_come | $one_command stdin" '5 2 0 0 3 0 0 0 3' 0 '' \
+    ' undated to_come: dated near the others\n other-date 2024-07-09T12:00:00 by 1013 of station 2003 in to_come: it is after the time of making'
 position=
 finds 'one position' "$two 1013" "cat position one | $one_command stdin" '4 1 0 0 3 0 0 0 2' 0 '' ' no-epoch position'
 # a capture that begins with another station, before the one that tells which station is converted
@@ -251,6 +284,8 @@ $(command $noon 1C ' --msm 7') joined/1.rtcm of_1074" '10 6 0 0 4 0 0 0 4' 0 '' 
 rm -r joined
 finds with_others "$two 1013" "$one_command with_others" '7 5 0 0 2 0 0 0 2' 0 one.rnx \
     ' not in the file: GPS 1003, 1 messages\n not in the file: GLONASS 1012, 2 messages\n not in the file: GLONASS 1087, 1 messages'
+finds short_msm "$two 1013" "$one_command short_msm" '6 4 0 0 2 0 0 0 2' 0 one.rnx \
+    ' not in the file: GPS 1076, 1 messages\n not in the file: GPS 1077, 2 messages'
 finds '--codes 5X one' "$two 1013" "$(command $noon 5X) one" '3 1 0 0 2 0 0 0 0' 3 '' \
     'rtcm2rinex: no record came; the file is a header alone'
 # pins: skipped_line
@@ -261,7 +296,8 @@ finds '--skip-empty --station 7 one stations' "$noon until $noon by 1013 of stat
 # labelled OPTIONS: the command of `label` for FILE
 labelled() { printf '\nrtcm2rinex label%s FILE' "$1"; }
 # pins: option_words, label_words, file_word, command_with, field_if_fits, antenna_field, label_told, is_null_antenna, fits_field, ToldLabel.is_printed
-finds equipped "$two 1013" "$one_command equipped$(labelled " --antenna-type 'TRM55971.00     NONE' --antenna-number 1440911917 --receiver-type 'TRIMBLE NETR9' --receiver-version 4.48 --receiver-number 5148K72868")" '6 4 0 0 2 0 0 0 2' 0 one.rnx
+finds equipped "$two 1013" "$one_command equipped$(labelled " --antenna-type 'TRM55971.00     NONE' --antenna-number 1440911917 --receiver-type 'TRIMBLE NETR9' --receiver-version 4.48 --receiver-number 5148K72868")" '6 4 0 0 2 0 0 0 2' 0 one.rnx \
+    ' changes-of-antenna-type 1 in equipped'
 finds null_antenna "$two 1013" "$one_command null_antenna$(labelled " --receiver-type 'LEICA GRX1200+GNSS' --receiver-version 9.20 --receiver-number 496710")" '4 2 0 0 2 0 0 0 2' 0 one.rnx \
     ' not-in-label antenna-type names no antenna: ADVNULLANTENNA  NONE\n not-in-label antenna-serial is of no antenna: 12'
 # pins: TextsLeftOut.reason, left_out_line, antenna_left_out, receiver_left_out, ToldLabel.is_blank, without_leading
@@ -269,8 +305,21 @@ finds only_null "$two 1013" "$one_command only_null" '4 2 0 0 2 0 0 0 2' 0 one.r
 finds unfit "$two 1013" "$one_command unfit$(labelled " --antenna-type GPPNULLANTENNAS --antenna-number blank --receiver-number --'it'\\''s'")" '4 2 0 0 2 0 0 0 2' 0 one.rnx \
     ' not-in-label receiver-type has more than 20 characters: of 21 characters here\n not-in-label receiver-version has characters that are no printable ASCII: tab\\x09'
 finds padded "$two 1013" "$one_command padded$(labelled " --antenna-type 'TRM55971.00     NONE' --antenna-number 144 --receiver-type 'TRIMBLE NETR9' --receiver-number 5148K72868")" '4 2 0 0 2 0 0 0 2' 0 one.rnx
+# Satellites of SBAS in a 1004 are taken, unless their system is not asked for. A 1004 that has no other dates those of SBAS.
+finds with_sbas "$noon until 2024-05-17T12:00:02 by 1013" "$(command $noon 1C,2W,S1C) with_sbas" '4 1 0 0 3 0 0 0 3' 0 ''
 # pins: Sbas.is_sbas, sbas_line
-finds with_sbas "$noon until 2024-05-17T12:00:02 by 1013" "$one_command with_sbas" '4 1 0 0 3 0 0 0 3' 0 '' ' not in the file: SBAS of 1004, 2 messages'
+finds '--systems G with_sbas' "$noon until 2024-05-17T12:00:02 by 1013" "$one_command with_sbas" '4 1 0 0 3 0 0 0 3' 0 '' ' not in the file: SBAS of 1004, 2 messages'
+finds sbas_alone "$noon until $noon by 1013" "$(command $noon S1C) sbas_alone" '2 1 0 0 1 0 0 0 1' 0 ''
+finds '--systems S sbas_alone' "$noon until $noon by 1013" "$(command $noon S1C) sbas_alone" '2 1 0 0 1 0 0 0 1' 0 ''
+auto --systems G sbas_alone
+expect sbas_alone_of_gps 3 '' 'rtcm2rinex: the captures have no observations that are read
+ holds GPS 1004, 1 messages
+ holds 1013, 1 messages'
+# summary of SBAS in a 1004: its satellites and its code, also in the command
+"$program" summary with_sbas | grep -E '^ (satellites|codes|unchecked|next)' >told
+printf ' %s\n' 'satellites G05 G07 S20 S38' 'codes 1C,2W,S1C' \
+    "next rtcm2rinex convert --station 2003 --near $noon --made \"\$(date -u +%FT%T)\" --marker 2003 --codes 1C,2W,S1C with_sbas" >want
+same summary_of_sbas told want
 finds without_sbas "$noon until $noon by 1013" "$one_command without_sbas" '2 1 0 0 1 0 0 0 1' 0 ''
 # pins: next_before, is_stray, stray_line
 finds astray "$noon until 2024-05-19T12:00:00 by 1013" "$one_command astray" '4 1 0 0 3 0 0 0 3' 0 '' \
@@ -287,19 +336,37 @@ finds '--window 2 led_astray steady' "$noon until 2024-05-19T12:00:00 by 1013" "
     ' gap 2024-05-17T12:00:09 until 2024-05-19T12:00:00\n stray led_astray 2024-05-19T12:00:00\n late 3: observations after 2 newer epochs, and new positions after 2 epochs, are left out, 3 of them on a link with the stray epoch\n time-falls led_astray'
 # A date in a capture without an epoch is its own moment, and counts if no capture with epochs tells a date.
 position=
-# pins: own_moment, own_moment_of_ephemeris
+# pins: own_moment_of_ephemeris, own_moment_of_system_week
 finds 'undated dated_place' "$noon until $noon by 1013" "cat dated_place undated | $one_command stdin" '3 1 0 0 2 0 0 0 1' 0 '' ' undated undated: dated near the others\n no-epoch dated_place'
 finds 'undated week_place' "$noon until $noon by 1019 (or 2004-10-01, 2044-01-01)" "cat week_place undated | $one_command stdin" '3 1 0 0 2 0 0 0 1' 0 '' ' undated undated: dated near the others\n no-epoch week_place'
+finds 'undated galileo_place' "$noon until $noon by 1045" "cat galileo_place undated | $one_command stdin" '3 1 0 0 2 0 0 0 1' 0 '' ' undated undated: dated near the others\n no-epoch galileo_place'
+finds 'galileo_place other_place undated' "2024-05-10T12:00:00 until 2024-05-10T12:00:00 by 1013 of station 7" "cat galileo_place other_place undated | $(command 2024-05-10T12:00:00) stdin" '5 2 0 0 2 1 0 0 1' 0 '' \
+    ' undated undated: dated near the others\n other-date 2024-05-17T12:00:00 by 1045 in galileo_place\n no-epoch galileo_place\n no-epoch other_place'
 cp week_place a_place # which names the moment of the first epoch too
 finds 'a_place one' "$two 1013" "cat a_place one | $one_command stdin" '5 2 0 0 3 0 0 0 2' 0 '' ' no-epoch a_place'
-finds 'old_place later one' "$noon until 2024-05-17T12:00:03 by 1013" "cat old_place one later | $one_command stdin" '7 2 0 0 5 0 0 0 4' 0 '' ' undated later: dated near the others\n no-epoch old_place'
+finds 'old_place later one' "$noon until 2024-05-17T12:00:03 by 1013" "cat old_place one later | $one_command stdin" '7 2 0 0 5 0 0 0 4' 0 '' ' undated later: dated near the others\n other-date 2023-12-22T12:00:00 by 1013 of station 2003 in old_place\n no-epoch old_place'
+# Of such dates those of the station count first, then those of 1019, and of these the earliest. A date of another week is told,
+# also beside --near.
+finds 'other_place dated_place undated' "$noon until $noon by 1013" "cat dated_place other_place undated | $one_command stdin" '5 2 0 0 2 1 0 0 1' 0 '' \
+    ' undated undated: dated near the others\n other-date 2024-05-10T12:00:00 by 1013 of station 7 in other_place\n no-epoch dated_place\n no-epoch other_place'
+finds 'other_place week_place undated' "$noon until $noon by 1019 (or 2004-10-01, 2044-01-01)" "cat other_place week_place undated | $one_command stdin" '5 2 0 0 2 1 0 0 1' 0 '' \
+    ' undated undated: dated near the others\n other-date 2024-05-10T12:00:00 by 1013 of station 7 in other_place\n no-epoch other_place\n no-epoch week_place'
+finds 'two_places undated' "$noon until $noon by 1013" "cat two_places undated | $one_command stdin" '4 2 0 0 2 0 0 0 1' 0 '' \
+    ' undated undated: dated near the others\n other-date 2024-05-24T12:00:00 by 1013 of station 2003 in two_places\n no-epoch two_places'
+# pins: dates_without_epoch
+finds '--near 2024-05-24T12:00:00 dated_place undated' "2024-05-24T12:00:00 until 2024-05-24T12:00:00 by --near" "cat dated_place undated | $(command 2024-05-24T12:00:00) stdin" '3 1 0 0 2 0 0 0 1' 0 '' \
+    ' other-date 2024-05-17T12:00:00 by 1013 of station 2003 in dated_place\n no-epoch dated_place'
 position=$no_position
 # What was told last counts by its time, and not by the order of the captures or of their begins.
-# pins: time_or_first, CaptureEquipment.moment_told
-finds 'antenna_2 antenna_1' "$noon until 2024-05-17T12:00:03 by 1013" "cat antenna_1 antenna_2 | $one_command stdin$(labelled ' --antenna-type B')" '8 4 0 0 4 0 0 0 4' 0 ''
+# A text beside it, and how often a text changes within a capture, have a line.
+# pins: time_or_first, CaptureEquipment.moment_told, field_after, other_named_line, changes_line
+finds 'antenna_2 antenna_1' "$noon until 2024-05-17T12:00:03 by 1013" "cat antenna_1 antenna_2 | $one_command stdin$(labelled ' --antenna-type B')" '8 4 0 0 4 0 0 0 4' 0 '' \
+    ' other-antenna-type A in antenna_1\n other-antenna-serial 1 in antenna_1'
 finds 'antenna_3 antenna_1' "$noon until 2024-05-17T12:00:04 by 1013" "cat antenna_1 antenna_3 | $one_command stdin$(labelled ' --antenna-type A --antenna-number 1')" '7 4 0 0 3 0 0 0 3' 0 ''
-finds 'antenna_3 antenna_2 antenna_1' "$noon until 2024-05-17T12:00:04 by 1013" "cat antenna_1 antenna_2 antenna_3 | $one_command stdin$(labelled ' --antenna-type A')" '11 6 0 0 5 0 0 0 5' 0 ''
-finds 'long short' "$noon until 2024-05-17T12:00:09 by 1013" "$one_command long short$(labelled ' --antenna-type NEW --antenna-number 2 --receiver-type R2')" '9 5 0 0 4 0 0 0 4' 0 ''
+finds 'antenna_3 antenna_2 antenna_1' "$noon until 2024-05-17T12:00:04 by 1013" "cat antenna_1 antenna_2 antenna_3 | $one_command stdin$(labelled ' --antenna-type A')" '11 6 0 0 5 0 0 0 5' 0 '' \
+    ' other-antenna-serial 1 in antenna_1\n other-antenna-type B in antenna_2'
+finds 'long short' "$noon until 2024-05-17T12:00:09 by 1013" "$one_command long short$(labelled ' --antenna-type NEW --antenna-number 2 --receiver-type R2')" '9 5 0 0 4 0 0 0 4' 0 '' \
+    ' changes-of-antenna-type 1 in long\n changes-of-antenna-serial 1 in long\n changes-of-receiver-type 1 in long\n other-antenna-type OLD in short\n other-antenna-serial 1 in short\n other-receiver-type R1 in short'
 # A capture that tells an antenna alone is of the station, and is not left out.
 finds 'equipment_alone one' "$two 1013" "cat equipment_alone one | $one_command stdin$(labelled " --antenna-type 'TRM55971.00     NONE' --antenna-number 144 --receiver-type 'TRIMBLE NETR9' --receiver-version 4.48 --receiver-number 5148")" '5 3 0 0 2 0 0 0 2' 0 one.rnx ' no-epoch equipment_alone'
 auto -o 'a file' equipped; cp err equipped.err; grep '^rtcm2rinex label' err >said

@@ -6,7 +6,7 @@ from pathlib import Path
 sys.path.insert(0, str(Path(__file__).resolve().parents[1] / "model"))
 
 import model  # noqa: E402
-from finding import EPHEMERIS, TEXT  # noqa: E402
+from finding import EPHEMERIS, OTHER_EPHEMERIDES, TEXT  # noqa: E402
 from station import capture, date, frame_of_row, legacy_of, msm_of, point  # noqa: E402
 from wire import WEEK_MS, frame_of  # noqa: E402
 
@@ -23,6 +23,12 @@ def epochs(*seconds, satellites=(5, 7), **fields):
 
 def week(number, second):
     return frame_of_row(EPHEMERIS, number=1019, satellite=5, week=number, toe=second // 16)
+
+
+def system_week(number, week, second):
+    """A 1042, 1045 or 1046 of this week of its system."""
+    fields, unit, _, _ = OTHER_EPHEMERIDES[number]
+    return frame_of_row(fields, number=number, satellite=5, system_week=week, toe=1000 * second // unit)
 
 
 def text_date(second, day, station=2003):
@@ -56,6 +62,9 @@ CAPTURES = {
     "one": ONE,
     "one.nmea": b"$GPGGA,120000,,,,,0*4A\r\n".join((b"", date(43_200), epochs(NOON), epochs(NOON + 1), b"")),
     "nmea": b"$GPGGA,120000,,,,,0*4A\r\n",
+    # a frame of 46 bytes whose last byte is another one, and one of 25 bytes without its last five
+    "bad_frame": ONE[:-1] + bytes([ONE[-1] ^ 1]),
+    "cut_place": capture(point(1005)) + capture(point(1005))[:-5],
     "empty": b"",
     "zip": b"PK\3\4",
     "sbf": b"$@\x12\x34\xAB\x0F",
@@ -79,6 +88,9 @@ CAPTURES = {
     "unread": b"".join(
         unread(it)
         for it in (1001, *[1003] * 12, 1072, 1009, 1012, *range(1081, 1132, 10), *range(1087, 1138, 10))),
+    # a 1004 and MSM of GPS that end behind their numbers
+    "short_msm": ONE + unread(1077) + unread(1076) + unread(1077),
+    "only_short": unread(1004) + unread(1077) + unread(1077),
     # numbers that no message has
     "reserved": b"".join(frame_of((it << 4).to_bytes(2, "big")) for it in range(1080, 1139) if it % 10 in (8, 9, 0)),
     "differ": ONE + date(43_202, 60_440) + week(10, NOON),
@@ -99,13 +111,28 @@ CAPTURES = {
     "same_week": ONE + week(2314 % 1024, NOON),
     "weeks": week(2314 % 1024, NOON) + week(2313 % 1024, NOON) + epochs(NOON),
     "by_week": week(2314 % 1024, NOON) + epochs(NOON),
+    # 2024-05-17 is of week 2314 of GPS, 1290 of Galileo and 958 of BeiDou; and week 1290 of GPS is 266 of Galileo
+    "by_galileo": system_week(1045, 1290, NOON) + epochs(NOON),
+    "by_galileo_later": epochs(NOON) + system_week(1046, 1290, NOON),
+    "by_beidou": system_week(1042, 958, NOON) + system_week(1046, 1290, NOON) + epochs(NOON),
+    "two_system_weeks": system_week(1042, 958, NOON) + system_week(1046, 1289, NOON) + epochs(NOON),
+    "by_other_and_galileo": system_week(1045, 1289, NOON) + date(43_200, station=7) + epochs(NOON),
+    "same_system_week": week(2314 % 1024, NOON) + system_week(1045, 1290, NOON) + epochs(NOON),
+    "rolled_over": week(2314 % 1024, NOON) + system_week(1045, 266, NOON) + epochs(NOON),
+    "own_and_rolled_over": week(2314 % 1024, NOON) + system_week(1045, 266, NOON) + ONE,
+    "galileo_place": system_week(1045, 1290, NOON) + place(),
     "last_week": week(2313 % 1024, NOON) + epochs(NOON + 2),
     "half_week": week(2315 % 1024, 172_800) + epochs(172_800),
     "over_half_week": week(2315 % 1024, 172_800) + epochs(172_801),
     "early_week": week(2, 0) + epochs(60),
     "by_other": date(43_200, station=7) + epochs(NOON),
     "passed_over": date(43_200, 60_500) + date(43_200, 40_000) + date(86_401) + week(10, 604_784) + epochs(10),
+    # dates of another station, each a week before the one that is told before it
+    "fifteen_weeks": ONE + b"".join(date(43_200, 60_440 - 7 * it, 7) for it in range(15)),
+    "sixteen_weeks": ONE + b"".join(date(43_200, 60_440 - 7 * it, 7) for it in range(16)),
+    "to_come": date(43_200, 60_500) + epochs(NOON + 2),
     "with_sbas": date(43_200) + epochs(NOON, satellites=(5, 40)) + epochs(NOON + 1, satellites=(58, 5)) + epochs(NOON + 2),
+    "sbas_alone": date(43_200) + epochs(NOON, satellites=(40,)),
     "without_sbas": date(43_200) + epochs(NOON, satellites=(39, 5, 59)),
     # an epoch two days after the others, and one that is a day and a ms after them, or a ms less
     "astray": date(43_200) + epochs(NOON, NOON + 172_800, NOON + 2),
@@ -117,6 +144,9 @@ CAPTURES = {
     "dated_place": date(43_260) + place(),
     "old_place": date(43_200, 60_300) + place(),
     "week_place": week(2314 % 1024, NOON) + place(),
+    # a date of another station a week before; and two dates of the station, of which the earlier one comes last
+    "other_place": date(43_200, 60_440, 7) + place(),
+    "two_places": date(43_200, 60_454) + date(43_200) + place(),
     "stray": date(43_200) + epochs(NOON) + cell_of(NOON, 1077) + cell_of(NOON, 1074) + cell_of(NOON + 1, 1074),
     "of_1077": date(43_200) + cell_of(NOON, 1077) + cell_of(NOON + 1, 1077),
     # three epochs of 1074 at the time of these two, and two of 1077 after them

@@ -375,7 +375,7 @@ finds no_channel without.rnx '5X,R1C --msm 7,R4 --window 4096 --channels none no
 chain() { python3 "$here/framed.py" "$@"; }
 chain $(more $G05_5X 467001714BE800${C41_1P#??????????????}) $I14_5A >beidou_ahead.rtcm
 convert 5X,I5A --msm 7 beidou_ahead.rtcm; cp out without.rnx
-# pins: is_wrong_offset, behind_of, gps_ahead
+# pins: is_wrong_offset, gps_ahead
 finds beidou_14_s_ahead without.rnx '5X,I5A --msm 7 --window 4096 beidou_ahead.rtcm' '3 1 0 0 2 0 0 0 1' \
     " clock C +14.000 1 of 1\n$doppler not in the file: BeiDou 1127, 1 messages\n" beidou_ahead.rtcm
 # GLONASS a day ahead is left out, and 1 ms ahead it stays in records of its own.
@@ -418,6 +418,10 @@ legacy with_1012 2020-01-25T02:16:02 '1C,R1C,R2P --window 4096 --channels 12:-1 
 legacy with_1012_too_long 2020-01-25T02:16:00 '1C --window 4096' $G05_1004 $R12_1012 $G05_A_DAY
 # pins: long_line, unread_legacy_glonass
 echo ' untaken GLONASS 1012 1: more than a day' >want; grep 1012 said >told; same auto_with_1012_left_out told want
+# So is one that is cut short. Nothing is said where 1012 are converted.
+legacy with_1012_cut_short 2020-01-25T02:16:00 '1C --window 4096' $G05_1004 ${R12_1012:0:16}
+# pins: glonass_line_of
+echo ' not in the file: GLONASS 1012, 1 messages' >want; grep 1012 said >told; same auto_with_1012_cut_short told want
 # A lone 1012 before the first epoch counts too: a second before it, and not nearly a day after it.
 legacy with_a_lone_1012 2020-01-25T02:16:02 '1C,R1C,R2P --window 4096 --channels 12:-1 --with-1012' $R12_1012 $G05_3_S
 # `summary` says the word where the times lie near the date of a 1013: of the same day, and not of half a day later.

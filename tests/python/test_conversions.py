@@ -313,7 +313,7 @@ class Auto(Case):
         names = self.captures("one", "stations", "undated", "zip")
         rows = {
             "undated": ("the captures tell no date; give one, as in --near GPS-TIME-WITHIN-HALF-A-WEEK", ()),
-            "stations": ("several stations have GPS observations; choose one by --station", ("station 7 in stations: 1 epochs", "station 2003 in stations: 2 epochs")),
+            "stations": ("several stations have observations; choose one by --station", ("station 7 in stations: 1 epochs", "station 2003 in stations: 2 epochs")),
             "zip": ("the captures have no frame of RTCM 3", ("zip looks like zip; unpack it: unzip -p zip >zip.rtcm",)),
         }
         for name, told in rows.items():

@@ -1,21 +1,18 @@
 -- Two lists that are walked together.
-use Rattle.std.proofs.Common.{◌≡◌, ◌≢◌, ◌<◌, ◌≤◌, ◌+◌, ◌==◌, ◌||◌, ℕ, zero, suc, min, Bool, true, false, List, [], ◌∷◌, ◌++◌, length, map, take, drop, get_or, append_assoc, append-nil, Option, refl, sym, ap, ◌∙◌, eq-eqb, ne_eqb, arith}
-use Rattle.std.proofs.lemmas.Grind.{flat_map-append}
-use Rattle.std.proofs.lemmas.List.{map-append, take_more}
+use Rattle.std.proofs.Common.{◌≡◌, ◌≢◌, ◌<◌, ◌≤◌, ◌+◌, ◌==◌, ℕ, zero, suc, min, Bool, true, false, List, [], ◌∷◌, ◌++◌, length, map, drop, get_or, append_assoc, append-nil, Option, refl, sym, ap, ◌∙◌, eq-eqb, ne_eqb, arith}
+use Rattle.std.proofs.lemmas.List.{map-append}
 use Rattle.std.proofs.lemmas.List.FromFn.{filter_of_map_range_with_len_more}
-use Rattle.std.specs.Prelude.{filter, flat_map, if◌then◌else◌}
+use Rattle.std.specs.Prelude.{filter, if◌then◌else◌}
 use Rattle.std.specs.List.{range_with_len}
 use Rattle.std.specs.declared.vec.Vec.{Vec}
 use Rattle.rtk_survey.proofs.PublicLaws.{cut-at}
 use Rattle.rtk_survey.specs.declared.placing.Placed.{Placed}
-use Rattle.rtk_captures.specs.Reach.{is_out_of_reach}
 use Rattle.rtk_captures.specs.declared.station_capture.StationCapture.{StationCapture}
 use Rattle.rtk_captures.specs.declared.joining.Ordered.{Ordered}
 use Rattle.rtk_survey.specs.Surveys.{places_of}
 use Rattle.rtk_captures.specs.Linking.{captures_of_link, is_nonempty}
 use Rattle.rtk_captures.specs.Dating.{some_out_of_reach}
-use Rattle.rtk_captures.specs.CaptureNames.{lines_by}
-use Rattle.rtk_captures.specs.Stray.{greatest_before, greater_of, greatest_of_others}
+use Rattle.rtk_captures.specs.Stray.{greatest_of_others}
 
 -- ---- the captures of a link
 
@@ -83,12 +80,6 @@ link-empty {A} f k links new none same held =
 
 -- ---- captures with their dated epochs
 
-pub reach-step : (near : ℕ) (cs : List StationCapture) (ps : List (Option Placed)) (i : ℕ) (c : StationCapture) (p : Option Placed) → i < length cs → i < length ps
-    → some_out_of_reach near (drop i cs) (drop i ps) ≡ (is_out_of_reach near (get_or cs i c) (get_or ps i p) || some_out_of_reach near (drop (i + 1) cs) (drop (i + 1) ps))
-reach-step near cs ps i c p lt within =
-    ap (λ (xs : List StationCapture). some_out_of_reach near xs (drop i ps)) (cut-at cs i c lt)
-    ∙ ap (λ (ys : List (Option Placed)). some_out_of_reach near (get_or cs i c ∷ drop (i + 1) cs) ys) (cut-at ps i p within)
-
 none-placed : (near : ℕ) (cs : List StationCapture) → some_out_of_reach near cs [] ≡ false
 none-placed near [] = refl
 none-placed near (c ∷ cs) = refl
@@ -115,31 +106,3 @@ others-end known (c ∷ cs) [] until zero past = refl
 others-end known (c ∷ cs) [] until (suc i) past = none-greater known (drop i cs) until
 others-end known (c ∷ cs) (p ∷ ps) until zero past = absurd (omega (arith, past))
 others-end known (c ∷ cs) (p ∷ ps) until (suc i) past = others-end known cs ps until i (omega (arith, past))
-
-pub others-step : (known : Option ℕ) (cs : List StationCapture) (ps : List (Option Placed)) (until i : ℕ) (c : StationCapture) (p : Option Placed) → i < length cs → i < length ps
-    → greatest_of_others known (drop i cs) (drop i ps) until
-    ≡ greatest_of_others (greater_of known (greatest_before until (get_or cs i c).span (get_or ps i p))) (drop (i + 1) cs) (drop (i + 1) ps) until
-others-step known cs ps until i c p lt within =
-    ap (λ (xs : List StationCapture). greatest_of_others known xs (drop i ps) until) (cut-at cs i c lt)
-    ∙ ap (λ (ys : List (Option Placed)). greatest_of_others known (get_or cs i c ∷ drop (i + 1) cs) ys until) (cut-at ps i p within)
-
--- ---- lines of entries by their places
-
--- the lines of an entry more
-pub lines-more : {A : Type 0} (f : ℕ → A → List ℕ) (xs : List A) (i : ℕ) (x : A) (before mid total : List ℕ) → i < length xs → x ≡ get_or xs i x → mid ≡ before ++ f i x
-    → before ++ lines_by f i (drop i xs) ≡ total → mid ++ lines_by f (i + 1) (drop (i + 1) xs) ≡ total
-lines-more {A} f xs i x before mid total lt is put held =
-    let rest : List ℕ = lines_by f (i + 1) (drop (i + 1) xs) in
-    let cut : drop i xs ≡ x ∷ drop (i + 1) xs = cut-at xs i x lt ∙ ap (λ (y : A). y ∷ drop (i + 1) xs) (sym is) in
-    ap (λ (l : List ℕ). l ++ rest) put ∙ append_assoc before (f i x) rest ∙ ap (λ (l : List ℕ). before ++ l) (sym (ap (λ (ys : List A). lines_by f i ys) cut)) ∙ held
-
--- what a link more gives
-pub of-links-more : {A : Type 0} (f : List ℕ → List ℕ) (links : List (Vec ℕ A)) (i : ℕ) (v : Vec ℕ A) (before mid after : List ℕ) → i < length links → v ≡ get_or links i v
-    → mid ≡ before ++ flat_map f (places_of (take i links)) → after ≡ mid ++ f v.items → after ≡ before ++ flat_map f (places_of (take (i + 1) links))
-of-links-more {A} f links i v before mid after lt is so_far more =
-    let had : List ℕ = flat_map f (places_of (take i links)) in
-    let longer : flat_map f (places_of (take (i + 1) links)) ≡ had ++ f v.items =
-    ap (λ (ls : List (Vec ℕ A)). flat_map f (places_of ls)) (take_more links i v lt ∙ ap (λ (x : Vec ℕ A). take i links ++ x ∷ []) (sym is))
-    ∙ ap (λ (ls : List (List ℕ)). flat_map f ls) (map-append (λ (link : Vec ℕ A). link.items) (take i links) (v ∷ []))
-    ∙ flat_map-append f (places_of (take i links)) (v.items ∷ []) ∙ ap (λ (t : List ℕ). had ++ t) (append-nil (f v.items)) in
-    more ∙ ap (λ (t : List ℕ). t ++ f v.items) so_far ∙ append_assoc before had (f v.items) ∙ ap (λ (t : List ℕ). before ++ t) (sym longer)

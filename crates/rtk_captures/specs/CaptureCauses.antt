@@ -5,12 +5,10 @@ use Rattle.std.specs.Option.{option_map_or}
 use Rattle.rtk_obs.specs.Dating.{IsReference}
 use Rattle.rtk_obs.specs.declared.time.TheConstants.{LAST_MS}
 use Rattle.rtk_survey.specs.Telling.{half_week_ms}
-use Rattle.rtk_survey.specs.declared.date_message.DateMessage.{DateMessage}
-use Rattle.rtk_survey.specs.declared.date_message.DateMessage.TheVariants.{Utc, Ephemeris}
 use Rattle.rtk_survey.specs.declared.placing.Placed.{Placed}
 use Rattle.rtk_survey.specs.declared.survey.CaptureSurvey.{CaptureSurvey}
 use Rattle.rtk_captures.specs.ChosenStation.{IsObservedStation, AreSeveralObserved}
-use Rattle.rtk_captures.specs.Reach.{least_told, placed_if_any, reach_after, second_of}
+use Rattle.rtk_captures.specs.Reach.{has_week, least_told, placed_if_any, reach_after, second_of}
 use Rattle.rtk_captures.specs.declared.station_capture.StationCapture.{StationCapture}
 use Rattle.rtk_captures.specs.declared.reach.Base.{Base}
 use Rattle.rtk_captures.specs.Kept.{empty_captures}
@@ -45,11 +43,8 @@ IsEmptyCause station cs skip_empty other = ⊥
 abbrev pub has_several_dates : StationCapture → Bool
 has_several_dates c = nat_lt 1 c.dates
 
--- a capture is dated by the week of a 1019; or by the day of a 1013 or 1029
-abbrev pub has_week : DateMessage → Bool
-has_week (Utc date) = false
-has_week (Ephemeris date) = true
-
+-- a capture is dated by the week of a 1019, which means several; or by the day of a 1013 or 1029, or the week of a 1042,
+-- 1045 or 1046, which mean one
 abbrev pub is_dated_by_week : StationCapture → Bool
 is_dated_by_week c = option_map_or (λ t. has_week t.message) c.told false
 

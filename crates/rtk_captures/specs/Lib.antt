@@ -16,3 +16,4 @@ pub mod StationCaptures
 pub mod Steps
 pub mod Stray
 pub mod TimeText
+pub mod WaitingDates

@@ -2,13 +2,13 @@
 use Rattle.std.specs.Prelude.{ℕ, ◌+◌, ◌-◌, ◌*◌, nat_lt, List, [], ◌∷◌, ◌++◌, codes, decimal, if◌then◌else◌}
 use Rattle.rtk_message.specs.Fields.{week_ms}
 use Rattle.rtk_survey.specs.declared.date_message.DateMessage.{DateMessage}
-use Rattle.rtk_survey.specs.declared.date_message.DateMessage.TheVariants.{Utc, Ephemeris}
+use Rattle.rtk_survey.specs.declared.date_message.DateMessage.TheVariants.{Utc, Ephemeris, OtherEphemeris}
 use Rattle.rtk_obs.specs.CivilText.{date_text}
 use Rattle.rtk_obs.specs.declared.time.TheConstants.{LAST_MS}
 use Rattle.rtk_obs.specs.Reading.{reading_of}
 use Rattle.rtk_captures.specs.TimeText.{time_text}
 use Rattle.rtk_captures.specs.declared.span_line.DateSource.{DateSource}
-use Rattle.rtk_captures.specs.declared.span_line.DateSource.TheVariants.{Words, Station, OtherStation, Ephemerides}
+use Rattle.rtk_captures.specs.declared.span_line.DateSource.TheVariants.{Words, Station, OtherStation, Ephemerides, OtherEphemerides}
 use Rattle.rtk_captures.specs.declared.span_line.DatedSpan.{DatedSpan}
 
 -- formula
@@ -38,18 +38,21 @@ abbrev pub week_text : ℕ → List ℕ
 week_text t = codes " by 1019 (or " ++ neighbours_text t ++ codes ")"
 
 -- formula
--- by what the first epoch is dated; by the week of a 1019 alone, its neighbours are told
+-- by what the first epoch is dated; by the week of a 1019 alone, its neighbours are told; the week of a 1042, 1045 or 1046
+-- has none between the first week of GPS and now
 abbrev pub source_text : DateSource → ℕ → List ℕ
 source_text Words t = codes " by --near"
 source_text (Station number) t = codes " by " ++ decimal number
 source_text (OtherStation number station) t = number_and_station number station
 source_text Ephemerides t = week_text t
+source_text (OtherEphemerides number) t = codes " by " ++ decimal number
 
 -- formula
 -- by what message a date is told
 abbrev pub date_message_text : DateMessage → List ℕ
 date_message_text (Utc d) = number_and_station d.number d.station
 date_message_text (Ephemeris e) = codes " by 1019"
+date_message_text (OtherEphemeris w) = codes " by " ++ decimal w.number
 
 -- formula
 -- the first and the last epoch of the station

@@ -1,7 +1,7 @@
 -- What a capture tells of a station, by its survey (this project's rule).
-use Rattle.std.specs.Prelude.{ℕ, ◌+◌, ◌==◌, Bool, false, is_some, min, List, [], ◌∷◌, length, Option, None, Some, unwrap_or, if◌then◌else◌}
+use Rattle.std.specs.Prelude.{ℕ, ◌+◌, ◌-◌, ◌==◌, Bool, false, is_some, min, List, [], ◌∷◌, length, Option, None, Some, unwrap_or, if◌then◌else◌}
 use Rattle.rtk_survey.specs.Contents.{station_in}
-use Rattle.rtk_survey.specs.CaptureDates.{no_dates, counting, own_moment_of}
+use Rattle.rtk_survey.specs.CaptureDates.{no_dates, do_system_weeks_decide, counting, is_own, own_moment_of}
 use Rattle.rtk_survey.specs.Parting.{parted_frame}
 use Rattle.rtk_survey.specs.Targets.{all_dating, has_dated_observation}
 use Rattle.rtk_survey.specs.declared.capture_dates.CaptureDates.{CaptureDates}
@@ -11,6 +11,7 @@ use Rattle.rtk_survey.specs.declared.reference_point.ReferencePoint.{ReferencePo
 use Rattle.rtk_survey.specs.declared.station.StationSurvey.{StationSurvey}
 use Rattle.rtk_survey.specs.declared.survey.CaptureSurvey.{CaptureSurvey}
 use Rattle.rtk_survey.specs.declared.target.TargetSurvey.{TargetSurvey}
+use Rattle.rtk_survey.specs.declared.tellings.Tellings.{Tellings}
 use Rattle.rtk_survey.specs.declared.tellings.Told.{Told}
 use Rattle.rtk_captures.specs.declared.station_capture.StationCapture.{StationCapture}
 
@@ -75,9 +76,19 @@ abbrev pub beside_own : List Told → List Told → List Told
 beside_own [] weeks = []
 beside_own (x ∷ xs) weeks = weeks
 
--- the first epochs that messages tell and that do not count
-abbrev pub passed_over_in : ℕ → CaptureSurvey → List Told
-passed_over_in n s = beside_own (dates_in n s).told.own.items (dates_in n s).told.weeks.items
+-- the first epochs that other stations tell, if messages of the station or ephemerides tell some, which count
+abbrev pub beside_others : List Told → List Told → List Told → List Told
+beside_others [] [] others = []
+beside_others [] (x ∷ xs) others = others
+beside_others (x ∷ xs) weeks others = others
+
+-- the first epochs that ephemerides of GPS, and those that other stations tell and that do not count; ephemerides of other
+-- systems may tell that the week of GPS is an earlier one
+abbrev pub weeks_passed_over : Tellings → List Told
+weeks_passed_over t = if do_system_weeks_decide t then t.weeks.items else beside_own t.own.items t.weeks.items
+
+abbrev pub others_passed_over : Tellings → List Told
+others_passed_over t = beside_others t.own.items t.weeks.items t.others.items
 
 abbrev pub first_told : List Told → Option Told
 first_told [] = None
@@ -95,6 +106,11 @@ moment_in n s = moment_for n s.contents.target
 abbrev pub moment_if_heard : Bool → Option Told → Option Told
 moment_if_heard heard moment = if heard then moment else None
 
+-- a 1013 or a 1029 of the station names this moment
+abbrev pub is_named_by_own : ℕ → Option Told → Bool
+is_named_by_own n None = false
+is_named_by_own n (Some t) = is_own n t.message
+
 -- how many frames come before the place at which a second date of the station begins
 abbrev pub parting_for : ℕ → Option TargetSurvey → Option ℕ
 parting_for n None = None
@@ -111,6 +127,13 @@ to_come_for (Some t) = t.to_come
 abbrev pub to_come_in : CaptureSurvey → Option UtcDate
 to_come_in s = to_come_for s.contents.target
 
+abbrev pub to_come_if : Bool → Option UtcDate → Option UtcDate
+to_come_if heard date = if heard then date else None
+
+-- the same of a capture that has something of the station
+abbrev pub to_come_told : ℕ → CaptureSurvey → Option UtcDate
+to_come_told n s = to_come_if (is_heard (station_in n s)) (to_come_in s)
+
 -- ---- all of it
 
 abbrev pub capture_of : ℕ → CaptureSurvey → StationCapture
@@ -123,5 +146,7 @@ capture_of n s = record {
   told = first_told (told_in n s);
   dates = length (told_in n s);
   moment = moment_if_heard (is_heard (station_in n s)) (moment_in n s);
+  is_own_moment = is_named_by_own n (moment_if_heard (is_heard (station_in n s)) (moment_in n s));
   parting = parting_in n s;
+  outside = s.bytes - s.contents.framed;
 }

@@ -2,7 +2,7 @@
 
 ghost use Rattle.std.specs.Prelude.{◌≡◌, ◌<◌, true, false, None, map, IfOk, IfErr, IfSome};
 ghost use Rattle.std.specs.List.{list_any};
-ghost use Rattle.rtk_captures.specs.CaptureCauses.{IfRefused, IsReachCause, IsDatingCause, IsPartedAt, has_several_dates, has_week, is_dated_by_week, is_dated_by_day, is_told_later, have_week_and_day};
+ghost use Rattle.rtk_captures.specs.CaptureCauses.{IfRefused, IsReachCause, IsDatingCause, IsPartedAt, has_several_dates, is_dated_by_week, is_dated_by_day, is_told_later, have_week_and_day};
 ghost use Rattle.rtk_captures.specs.Dating.{IsBaseOf, IsReachOf, IsNearOf, ArePlaced, AreStrays, IsSpanOf, some_out_of_reach};
 ghost use Rattle.rtk_captures.specs.Reach.{placed_if_any, second_of};
 ghost use Rattle.rtk_captures.specs.Sources as sources;
@@ -11,7 +11,10 @@ ghost use Rattle.rtk_obs.specs.declared.time.TheConstants.{LAST_MS};
 ghost use Rattle.rtk_survey.specs.declared.placing.Placed.{Placed};
 
 use crate::captures::StationCaptures;
-use crate::reach::{Base, is_out_of_reach, least_told, near_of, place_captures, reach_of};
+use crate::reach::{
+    Base, NamedBy, has_week, is_out_of_reach, least_told, moment_named, near_of, place_captures,
+    reach_of,
+};
 use crate::refusal::{PlanFault, Refusal, refused};
 use crate::span_line::{DateSource, DatedSpan};
 use crate::station_capture::StationCapture;
@@ -38,15 +41,6 @@ fn have_differing_dates(captures: &[StationCapture]) -> bool
     ensures { result ≡ list_any has_several_dates captures.now }
 {
     captures.iter().any(|capture| capture.dates > 1)
-}
-
-fn has_week(message: DateMessage) -> bool
-    ensures { result ≡ has_week message }
-{
-    match message {
-        DateMessage::Utc(_) => false,
-        DateMessage::Ephemeris(_) => true,
-    }
 }
 
 fn is_dated_by_week(capture: &StationCapture) -> bool
@@ -160,6 +154,7 @@ fn source_of_message(message: DateMessage, station: u16) -> DateSource
         DateMessage::Utc(date) if date.station == station => DateSource::Station(date.number),
         DateMessage::Utc(date) => DateSource::OtherStation(date.number, date.station),
         DateMessage::Ephemeris(_) => DateSource::Ephemerides,
+        DateMessage::OtherEphemeris(date) => DateSource::OtherEphemerides(date.number),
     }
 }
 
@@ -193,19 +188,34 @@ fn first_message(captures: &[StationCapture], least: GpsMs) -> Option<DateMessag
     found
 }
 
-// The same, or else the message that names the least moment.
+// The message that is known, or else the one of these that names the least moment.
 fn first_of_moments(
+    captures: &[StationCapture],
+    least: GpsMs,
+    named: NamedBy,
+    first: Option<DateMessage>,
+) -> Option<DateMessage>
+    ensures { result ≡ sources.first_of_moments named first least captures.now }
+{
+    let mut found = first;
+    for capture in captures {
+        found = or_message(found, message_at(least, moment_named(named, capture)));
+    }
+    found
+}
+
+// The message that is known, or else the one that names the least moment and counts.
+fn message_that_names(
     captures: &[StationCapture],
     least: GpsMs,
     first: Option<DateMessage>,
 ) -> Option<DateMessage>
-    ensures { result ≡ sources.first_of_moments first least captures.now }
+    ensures { result ≡ sources.message_that_names first least captures.now }
 {
-    let mut found = first;
-    for capture in captures {
-        found = or_message(found, message_at(least, capture.moment));
-    }
-    found
+    let own = first_of_moments(captures, least, NamedBy::Own, first);
+    let week = first_of_moments(captures, least, NamedBy::Week, own);
+    let day = first_of_moments(captures, least, NamedBy::Day, week);
+    first_of_moments(captures, least, NamedBy::Any, day)
 }
 
 fn source_if_any(message: Option<DateMessage>, station: u16) -> DateSource
@@ -226,7 +236,7 @@ fn source_of(captures: &[StationCapture], base: Base, station: u16) -> DateSourc
         Base::Given(_) => DateSource::Words,
         Base::Told(least) => {
             let first = first_message(captures, least);
-            source_if_any(first_of_moments(captures, least, first), station)
+            source_if_any(message_that_names(captures, least, first), station)
         }
     }
 }

@@ -54,6 +54,7 @@ mod span_line;
 mod station_capture;
 mod stray;
 mod times;
+mod waiting_dates;
 
 pub use capture_equipment::equipment_in_captures;
 pub use captures::{Captures, StationCaptures};
@@ -63,13 +64,16 @@ pub use joining::{Ordered, in_order, links_of};
 pub use kept::empty_captures;
 pub use linking::{limit_links, links_as_given, links_found};
 pub use lists::{
-    put_capture_line, put_date_line, put_name_line, put_parting, put_stray_line, put_undated_line,
+    put_capture_line, put_date_line, put_name_line, put_parting, put_stray_line, put_to_come_line,
+    put_undated_line,
 };
 pub use positions::{agree_on_position, put_no_position};
 pub use reach::{Base, is_out_of_reach, least_told, near_of, place_captures, reach_of};
 pub use refusal::{PlanFault, Refusal, refused};
 pub use span_line::{DateSource, DatedSpan, put_span};
 pub use station_capture::{
-    StationCapture, captures_of, is_station, passed_over_in, span_in, told_in,
+    StationCapture, captures_of, is_station, others_passed_over, span_in, to_come_told,
+    weeks_passed_over,
 };
 pub use times::put_time;
+pub use waiting_dates::dates_without_epoch;

@@ -170,11 +170,7 @@ pub(crate) fn put_reach_line(
 }
 
 /// Appends the line of a date that is to come.
-pub(crate) fn put_to_come_line(
-    lines: &mut Vec<u8>,
-    date: UtcDate,
-    name: &str,
-) -> Result<(), AllocError>
+pub fn put_to_come_line(lines: &mut Vec<u8>, date: UtcDate, name: &str) -> Result<(), AllocError>
     ensures { OnOk result (lines.new.items ≡ lines.old.items ++ spec.to_come_line date name.now) }
 {
     lines.extend_from_slice(b" ")?;

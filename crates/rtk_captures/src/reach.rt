@@ -5,7 +5,9 @@ ghost use Rattle.rtk_captures.specs.Reach as spec;
 
 use crate::station_capture::StationCapture;
 use rtk_obs::GpsMs;
-use rtk_survey::{CaptureEpochs, Placed, Span, Told, is_dated_near, least_with_if_any, place};
+use rtk_survey::{
+    CaptureEpochs, DateMessage, Placed, Span, Told, is_dated_near, least_with_if_any, place,
+};
 use std::alloc::{AllocError, Global};
 
 /// The moment near which captures are dated.
@@ -13,9 +15,22 @@ use std::alloc::{AllocError, Global};
 pub enum Base {
     /// It is given: all captures are dated near it, whatever they tell.
     Given(GpsMs),
-    /// The least first epoch that a capture tells, or else the least moment that one names: the captures
-    /// that tell none are dated near it.
+    /// The least first epoch that a capture tells, or else the least moment that one names and that counts: the
+    /// captures that tell none are dated near it.
     Told(GpsMs),
+}
+
+/// By which messages captures without an epoch name the moments that are looked at.
+#[derive(Clone, Copy, Debug, PartialEq, Eq)]
+pub(crate) enum NamedBy {
+    /// By 1013 and 1029 of the station.
+    Own,
+    /// By 1019.
+    Week,
+    /// By 1013 and 1029 of whatever station.
+    Day,
+    /// By whatever message.
+    Any,
 }
 
 fn moment_told(told: Option<Told>) -> Option<GpsMs>
@@ -35,19 +50,96 @@ fn least_first(captures: &[StationCapture]) -> Option<GpsMs>
     least
 }
 
-// The least moment that captures without an epoch name; `None` if none names one.
-fn least_moment(captures: &[StationCapture]) -> Option<GpsMs>
-    ensures { result ≡ spec.least_of_moments None captures.now }
+/// Does a message tell a week that means several?
+pub(crate) fn has_week(message: DateMessage) -> bool
+    ensures { result ≡ spec.has_week message }
+{
+    match message {
+        DateMessage::Utc(_) | DateMessage::OtherEphemeris(_) => false,
+        DateMessage::Ephemeris(_) => true,
+    }
+}
+
+// Does a message tell a day?
+fn has_day(message: DateMessage) -> bool
+    ensures { result ≡ spec.has_day message }
+{
+    match message {
+        DateMessage::Utc(_) => true,
+        DateMessage::Ephemeris(_) | DateMessage::OtherEphemeris(_) => false,
+    }
+}
+
+fn is_named_by_week(moment: Option<Told>) -> bool
+    ensures { result ≡ spec.is_named_by_week moment }
+{
+    match moment {
+        Some(told) => has_week(told.message),
+        None => false,
+    }
+}
+
+fn is_named_by_day(moment: Option<Told>) -> bool
+    ensures { result ≡ spec.is_named_by_day moment }
+{
+    match moment {
+        Some(told) => has_day(told.message),
+        None => false,
+    }
+}
+
+fn moment_if(counts: bool, moment: Option<Told>) -> Option<Told>
+    ensures { result ≡ spec.moment_if counts moment }
+{
+    if counts { moment } else { None }
+}
+
+/// The moment that a capture without an epoch names, if such messages name it.
+pub(crate) fn moment_named(named: NamedBy, capture: &StationCapture) -> Option<Told>
+    ensures { result ≡ spec.moment_named named capture.now }
+{
+    match named {
+        NamedBy::Own => moment_if(capture.is_own_moment, capture.moment),
+        NamedBy::Week => moment_if(is_named_by_week(capture.moment), capture.moment),
+        NamedBy::Day => moment_if(is_named_by_day(capture.moment), capture.moment),
+        NamedBy::Any => capture.moment,
+    }
+}
+
+// The least moment that captures without an epoch name by such messages; `None` if none names one.
+fn least_of_moments(captures: &[StationCapture], named: NamedBy) -> Option<GpsMs>
+    ensures { result ≡ spec.least_of_moments named None captures.now }
 {
     let mut least = None;
     for capture in captures {
-        least = least_with_if_any(least, moment_told(capture.moment));
+        least = least_with_if_any(least, moment_told(moment_named(named, capture)));
     }
     least
 }
 
+fn or_moment(first: Option<GpsMs>, other: Option<GpsMs>) -> Option<GpsMs>
+    ensures { result ≡ spec.or_moment first other }
+{
+    match first {
+        Some(moment) => Some(moment),
+        None => other,
+    }
+}
+
+// The least moment that captures without an epoch name: by messages of the station, if they name none by 1019, if
+// none by messages of other stations, and else by 1042, 1045 and 1046.
+fn least_moment(captures: &[StationCapture]) -> Option<GpsMs>
+    ensures { result ≡ spec.least_moment captures.now }
+{
+    let own = least_of_moments(captures, NamedBy::Own);
+    let week = least_of_moments(captures, NamedBy::Week);
+    let day = least_of_moments(captures, NamedBy::Day);
+    let any = least_of_moments(captures, NamedBy::Any);
+    or_moment(own, or_moment(week, or_moment(day, any)))
+}
+
 /// The least first epoch that captures tell; if none tells one, the least moment that captures without an
-/// epoch name.
+/// epoch name, by the messages that count.
 pub fn least_told(captures: &[StationCapture]) -> Option<GpsMs>
     ensures { result ≡ spec.least_told captures.now }
 {

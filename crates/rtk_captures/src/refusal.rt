@@ -13,16 +13,16 @@ pub enum Refusal {
     #[error("the captures have no frame of RTCM 3")]
     NoFrame,
     /// No station has an observation that is read.
-    #[error("the captures have no GPS observations that are read")]
+    #[error("the captures have no observations that are read")]
     NoObservation,
     /// The station that is named has none.
-    #[error("station {station} has no GPS observations that are read")]
+    #[error("station {station} has no observations that are read")]
     NoStation {
         /// The station.
         station: u16,
     },
     /// No station is named, and several have observations.
-    #[error("several stations have GPS observations; choose one by --station")]
+    #[error("several stations have observations; choose one by --station")]
     SeveralStations,
     /// Captures have nothing of the station.
     #[error("captures have nothing of station {station}; --skip-empty leaves them out")]
@@ -51,7 +51,7 @@ pub enum Refusal {
     #[error("the captures are longer than half a week; convert them in parts")]
     TooLong,
     /// The station has observations, but none in a 1004 or in the MSM that words choose.
-    #[error("neither a 1004 nor the MSM of --msm has a GPS observation; choose another MSM")]
+    #[error("neither a 1004 nor the MSM of --msm has an observation; choose another MSM")]
     NoCode,
     /// More than 16 captures are of the same time.
     #[error("more than 16 captures are of the same time, and 16 links are taken")]

@@ -24,6 +24,8 @@ pub enum DateSource {
     OtherStation(u16, u16),
     /// By messages 1019.
     Ephemerides,
+    /// By messages with this number, 1042, 1045 or 1046.
+    OtherEphemerides(u16),
 }
 
 /// The first and the last epoch of the station, and by what they are dated.
@@ -91,6 +93,7 @@ fn put_source(line: &mut Vec<u8>, source: DateSource, first: GpsMs) -> Result<()
             put_number_and_station(line, u64::from(number), u64::from(station))
         }
         DateSource::Ephemerides => put_week(line, first),
+        DateSource::OtherEphemerides(number) => put_named(line, b" by ", u64::from(number)),
     }
 }
 
@@ -103,6 +106,7 @@ pub(crate) fn put_message(line: &mut Vec<u8>, message: DateMessage) -> Result<()
             put_number_and_station(line, u64::from(date.number), u64::from(date.station))
         }
         DateMessage::Ephemeris(_) => line.extend_from_slice(b" by 1019"),
+        DateMessage::OtherEphemeris(date) => put_named(line, b" by ", u64::from(date.number)),
     }
 }
 

@@ -3,14 +3,15 @@
 ghost use Rattle.std.specs.Prelude.{◌≡◌, ◌==◌, map, IfOk};
 ghost use Rattle.std.specs.Option.{option_copied};
 ghost use Rattle.rtk_captures.specs.StationCaptures as spec;
+ghost use Rattle.rtk_survey.specs.CaptureDates.{is_own};
 
 use rtk_survey::{
-    CaptureSurvey, DatingSystems, Look, ReferencePoint, Span, StationSurvey, TargetSurvey,
-    Tellings, Told, UtcDate,
+    CaptureSurvey, DateMessage, DatingSystems, Look, ReferencePoint, Span, StationSurvey,
+    TargetSurvey, Tellings, Told, UtcDate,
 };
 use std::alloc::{AllocError, Global};
 
-/// What a capture tells of a station. It has at most 240 bytes.
+/// What a capture tells of a station. It has at most 256 bytes.
 #[derive(Clone, Copy, Debug, PartialEq, Eq)]
 pub struct StationCapture {
     /// What the capture looks like, if it has no frame.
@@ -30,12 +31,17 @@ pub struct StationCapture {
     pub dates: usize,
     /// The moment that a message names, if the capture has a message of the station and no epoch.
     pub moment: Option<Told>,
+    /// A 1013 or a 1029 of the station names this moment.
+    pub is_own_moment: bool,
     /// How many frames come before the place at which a second date begins, if 1013 or 1029 of the
     /// station tell one.
     pub parting: Option<u64>,
+    /// How many of its bytes are in no frame.
+    pub outside: u64,
 }
 
-fn is_heard(station: Option<&StationSurvey>) -> bool
+/// Does a capture have something of a station?
+pub(crate) fn is_heard(station: Option<&StationSurvey>) -> bool
     ensures { result ≡ spec.is_heard (option_copied station.entry) }
 {
     match station {
@@ -117,7 +123,7 @@ pub fn span_in(station: u16, survey: &CaptureSurvey) -> Option<Span>
 }
 
 /// The first epochs that messages of a capture told of the station and that count, each that differs.
-pub fn told_in(station: u16, survey: &CaptureSurvey) -> &[Told]
+pub(crate) fn told_in(station: u16, survey: &CaptureSurvey) -> &[Told]
     ensures { result.now ≡ spec.told_in station survey.now }
 {
     match &survey.contents.target {
@@ -128,27 +134,32 @@ pub fn told_in(station: u16, survey: &CaptureSurvey) -> &[Told]
     }
 }
 
-// The first epochs that 1019 tell, if 1013 or 1029 of the station tell some, which count.
-fn beside_own(told: &Tellings) -> &[Told]
-    ensures { result.now ≡ spec.beside_own told.now.own.items told.now.weeks.items }
+/// The first epochs that 1019 tell and that do not count, since 1013 or 1029 of the station tell some, or since 1042, 1045
+/// or 1046 tell an earlier week.
+pub fn weeks_passed_over(told: &Tellings) -> &[Told]
+    ensures { result.now ≡ spec.weeks_passed_over told.now }
 {
+    if told.do_system_weeks_decide() {
+        return told.weeks.as_slice();
+    }
     if told.own.is_empty() {
         return &[];
     }
     told.weeks.as_slice()
 }
 
-/// The first epochs that messages of a capture told of the station and that do not count: those by 1019
-/// beside 1013 or 1029 of the station.
-pub fn passed_over_in(station: u16, survey: &CaptureSurvey) -> &[Told]
-    ensures { result.now ≡ spec.passed_over_in station survey.now }
+/// The first epochs that 1013 and 1029 of other stations tell and that do not count, since 1013 or 1029 of the
+/// station or 1019 tell some.
+pub fn others_passed_over(told: &Tellings) -> &[Told]
+    ensures { result.now ≡ spec.others_passed_over told.now }
 {
-    match &survey.contents.target {
-        Some(target) if is_station(station, target.dates.station) => {
-            beside_own(&target.dates.capture.told)
-        }
-        _ => &[],
+    if !told.own.is_empty() {
+        return told.others.as_slice();
     }
+    if !told.weeks.is_empty() {
+        return told.others.as_slice();
+    }
+    &[]
 }
 
 fn first_told(told: &[Told]) -> Option<Told>
@@ -175,6 +186,26 @@ fn moment_if_heard(is_heard: bool, moment: Option<Told>) -> Option<Told>
     if is_heard { moment } else { None }
 }
 
+// Is it a 1013 or a 1029 of this station?
+fn is_own(station: u16, message: DateMessage) -> bool
+    ensures { result ≡ is_own station message }
+{
+    match message {
+        DateMessage::Utc(date) => date.station == station,
+        DateMessage::Ephemeris(_) | DateMessage::OtherEphemeris(_) => false,
+    }
+}
+
+// Does a 1013 or a 1029 of the station name this moment?
+fn is_named_by_own(station: u16, moment: Option<Told>) -> bool
+    ensures { result ≡ spec.is_named_by_own station moment }
+{
+    match moment {
+        Some(told) => is_own(station, told.message),
+        None => false,
+    }
+}
+
 // How many frames come before the place at which a second date of the station begins.
 fn parting_in(station: u16, survey: &CaptureSurvey) -> Option<u64>
     ensures { result ≡ spec.parting_in station survey.now }
@@ -192,12 +223,27 @@ pub(crate) fn to_come_in(survey: &CaptureSurvey) -> Option<UtcDate>
     survey.contents.target.as_ref()?.to_come
 }
 
+fn to_come_if(heard: bool, date: Option<UtcDate>) -> Option<UtcDate>
+    ensures { result ≡ spec.to_come_if heard date }
+{
+    if heard { date } else { None }
+}
+
+/// The same of a capture that has something of the station.
+pub fn to_come_told(station: u16, survey: &CaptureSurvey) -> Option<UtcDate>
+    ensures { result ≡ spec.to_come_told station survey.now }
+{
+    let heard = is_heard(survey.contents.stations.get(&station));
+    to_come_if(heard, to_come_in(survey))
+}
+
 /// What a capture tells of a station.
 pub(crate) fn capture_of(station: u16, survey: &CaptureSurvey) -> StationCapture
     ensures { result ≡ spec.capture_of station survey.now }
 {
     let heard = survey.contents.stations.get(&station);
     let told = told_in(station, survey);
+    let moment = moment_if_heard(is_heard(heard), moment_in(station, survey));
     StationCapture {
         look: survey.look,
         is_heard: is_heard(heard),
@@ -206,8 +252,10 @@ pub(crate) fn capture_of(station: u16, survey: &CaptureSurvey) -> StationCapture
         span: span_in(station, survey),
         told: first_told(told),
         dates: told.len(),
-        moment: moment_if_heard(is_heard(heard), moment_in(station, survey)),
+        moment,
+        is_own_moment: is_named_by_own(station, moment),
         parting: parting_in(station, survey),
+        outside: survey.bytes.saturating_sub(survey.contents.framed),
     }
 }
 

@@ -5,7 +5,7 @@ use Rattle.std.specs.Option.{ForSome}
 use Rattle.std.specs.declared.vec.Vec.{Vec}
 use Rattle.rtk_obs.specs.declared.any_code.AnyCode.{AnyCode}
 use Rattle.rtk_rinex.specs.MixedHead.{IsMixedList}
-use Rattle.rtk_cli.specs.declared.options.AutoOptions.{AutoOptions}
+use Rattle.rtk_cli.specs.declared.auto_words.AutoOptions.{AutoOptions}
 use Rattle.rtk_cli.specs.declared.words.BadWords.{BadWords}
 use Rattle.rtk_cli.specs.declared.words.BadWords.TheVariants.{Codes, CodeOfSystem, CodeOfGps, Channels}
 use Rattle.rtk_cli.specs.Steps.AnyCodeList.{in_file_order, IsCauseOfName, IsNameCause}

@@ -5,7 +5,7 @@ use Rattle.rtk_obs.specs.declared.any_code.AnyCode.{AnyCode}
 use Rattle.rtk_rinex.specs.MixedHead.{GlonassView, MixedHeadView, IsMixedList, TellsGlonass, IsMixedHeadFault}
 use Rattle.rtk_rinex.specs.declared.mixed_head_fault.MixedHeadFault.{MixedHeadFault}
 use Rattle.rtk_rinex.specs.declared.mixed_head_fault.MixedHeadFault.TheVariants as fault
-use Rattle.rtk_cli.specs.declared.options.ConvertOptions.{ConvertOptions}
+use Rattle.rtk_cli.specs.declared.convert_words.ConvertOptions.{ConvertOptions}
 use Rattle.rtk_cli.specs.declared.words.BadWords.{BadWords}
 use Rattle.rtk_cli.specs.declared.words.BadWords.TheVariants.{Codes, Channels, NoChannels, NoGlonass}
 use Rattle.rtk_cli.specs.Steps.AnyCodeList.{in_file_order}

@@ -2,7 +2,7 @@
 use Rattle.std.proofs.Common.{◌≡◌, ℕ, List, Result, IsErrAnd, IfErr, inl, inr, sym, subst}
 use Rattle.std.proofs.lemmas.Result.{err_from_is_err_and}
 use Rattle.rtk_obs.specs.declared.any_code.AnyCode.{AnyCode}
-use Rattle.rtk_cli.specs.declared.options.ConvertOptions.{ConvertOptions}
+use Rattle.rtk_cli.specs.declared.convert_words.ConvertOptions.{ConvertOptions}
 use Rattle.rtk_cli.specs.declared.words.BadWords.{BadWords}
 use Rattle.rtk_cli.specs.declared.words.BadWords.TheVariants.{Codes, CodeOfSystem, CodeOfGps, Channels, NoChannels, NoGlonass}
 use Rattle.rtk_cli.specs.declared.words.WordsFault.{WordsFault}

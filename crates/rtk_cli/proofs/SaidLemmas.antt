@@ -3,7 +3,7 @@ use Rattle.std.proofs.Common.{◌≡◌, ℕ, Bool, true, false, List, Option, N
 use Rattle.rtk_obs.specs.declared.any_code.AnyCode.{AnyCode}
 use Rattle.rtk_rinex.specs.MixedHead.{MixedHeadView}
 use Rattle.rtk_setup.specs.Setup.{SetupView, mixed_setup_of}
-use Rattle.rtk_cli.specs.declared.options.ConvertOptions.{ConvertOptions}
+use Rattle.rtk_cli.specs.declared.convert_words.ConvertOptions.{ConvertOptions}
 use Rattle.rtk_cli.specs.Steps.AnyCodeList.{ListsCodes}
 use Rattle.rtk_cli.specs.Steps.ConvertWords.{IsHeadOf, SaysSetup, with_given, with_1012_if}
 use Rattle.rtk_cli.specs.Steps.MomentText.{WritesMoment}

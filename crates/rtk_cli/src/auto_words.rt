@@ -1,4 +1,4 @@
-//! The words of `auto`: what its options say.
+//! The words of `auto`: its options, as clap's answer fills them, and what they say.
 
 ghost use Rattle.std.specs.Prelude.{◌≡◌, IfOk, IfErr, Decides};
 ghost use Rattle.std.specs.Option.{ForSome};
@@ -12,15 +12,71 @@ ghost use Rattle.rtk_cli.specs.Steps.MomentText.{SaysMomentOrNone};
 use crate::channel_list::channels_said;
 use crate::chart_words::are_systems;
 use crate::code_words::{any_codes_said, in_file_order};
+use crate::option_numbers::{leap_seconds_of, msm_of, station_of, value_if_any, window_of};
 use crate::option_texts::{made_if_any, marker_if_any, moment_if_any, reference_if_any};
-use crate::options::AutoOptions;
 use crate::words::{AutoWords, BadWords, WordsFault};
+use clap::ArgMatches;
 use rtk_convert::{MOST_WINDOW, Window};
+use rtk_message::MsmKind;
 use rtk_obs::{AnyCode, Channels};
-use rtk_plan::Wanted;
+use rtk_plan::{Wanted, Ways};
 use rtk_rinex::is_mixed_list;
+use rtk_setup::{LeapSeconds, Station};
 use rtk_systems::SystemFlags;
 use std::alloc::Global;
+
+/// The options of `auto`. `None` is to be found in the captures, or chosen.
+#[derive(Drop)]
+pub(crate) struct AutoOptions<'a> {
+    pub(crate) station: Option<Station>,
+    /// The text of the reference near which times of week are dated.
+    pub(crate) near: Option<&'a str>,
+    /// The text of the moment at which the file is made.
+    pub(crate) made: Option<&'a str>,
+    /// The marker's name.
+    pub(crate) marker: Option<&'a str>,
+    /// The names of the observation codes, with commas between.
+    pub(crate) codes: Option<&'a str>,
+    /// The letters of the systems that are converted, if there are no names of codes.
+    pub(crate) systems: Option<&'a str>,
+    /// The text of the channels of GLONASS.
+    pub(crate) channels: Option<&'a str>,
+    /// The leap seconds by which clocks of GLONASS are dated, in place of the table's.
+    pub(crate) leap_seconds: Option<LeapSeconds>,
+    /// How many epochs are kept open.
+    pub(crate) window: Option<Window>,
+    /// Which MSM is converted beside 1004.
+    pub(crate) msm: Option<MsmKind>,
+    pub(crate) ways: Ways<'a>,
+}
+
+fn ways_of<'a>(words: &ArgMatches<'a>) -> Ways<'a> {
+    Ways {
+        output: words.get_str("output"),
+        force: words.get_flag("force"),
+        label: words.get_flag("label"),
+        skip_empty: words.get_flag("skip-empty"),
+        links_as_given: words.get_flag("links-as-given"),
+        report: words.get_flag("report"),
+    }
+}
+
+/// The options of `auto`.
+pub(crate) fn auto_options<'a>(words: &ArgMatches<'a>) -> Option<AutoOptions<'a>> {
+    Some(AutoOptions {
+        station: value_if_any(words.get_one::<u32>("station").map(station_of))?,
+        near: words.get_str("near"),
+        made: words.get_str("made"),
+        marker: words.get_str("marker"),
+        codes: words.get_str("codes"),
+        systems: words.get_str("systems"),
+        channels: words.get_str("channels"),
+        leap_seconds: value_if_any(words.get_one::<u32>("leap-seconds").map(leap_seconds_of))?,
+        window: value_if_any(words.get_one::<u32>("window").map(window_of))?,
+        msm: value_if_any(words.get_one::<u32>("msm").map(msm_of))?,
+        ways: ways_of(words),
+    })
+}
 
 // The codes, if any are given, in the order of a file. Whether they are good together is not looked at.
 fn codes_if_any(alloc: Global, text: Option<&str>) -> Result<Option<Vec<AnyCode>>, WordsFault>

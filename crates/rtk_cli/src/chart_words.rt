@@ -1,17 +1,60 @@
-//! The words of `chart`: which satellites its options choose.
+//! The words of `chart`: its options, as clap's answer fills them, and which satellites they choose.
 
-ghost use Rattle.std.specs.Prelude.{◌≡◌, ℕ, List, IfOk, IfErr, MatchOption};
+ghost use Rattle.std.specs.Prelude.{◌≡◌, ℕ, List, IfOk, IfErr, IfSome, MatchOption};
 ghost use Rattle.std.specs.List.{list_all};
+ghost use Rattle.std.specs.Option.{ForSome};
 ghost use Rattle.rtk_obs.specs.SatelliteIndex.{IsSatelliteIndex};
 ghost use Rattle.rtk_chart.specs.Choice.{is_chosen};
+ghost use Rattle.rtk_commands.specs.ChartInput.{IsWidth};
 ghost use Rattle.rtk_cli.specs.FaultLines.{IsRefusal};
 ghost use Rattle.rtk_cli.specs.Steps.ChartWords.{is_system, are_systems, ListsSatellites, is_of_system, is_named, SaysSystems, SaysSatellites, HasNoSystems, HasNoSatellites, SaysChoice, RefusesChoice};
 
-use crate::options::ChartOptions;
 use crate::words::{BadWords, WordsFault};
+use clap::ArgMatches;
 use rtk_chart::{Choice, Chosen};
 use rtk_obs::{SatelliteIndex, satellite_name, satellite_named};
+use rtk_usage::{LEAST_WIDTH, MOST_WIDTH};
 use std::alloc::{AllocError, Global};
+
+/// How many characters wide a picture is if no number is given. It is not a default value of clap's,
+/// as rtk_usage has one for the window: without `--text` a picture has no such width.
+const COLUMNS: u32 = 80;
+
+/// The options of `chart`.
+#[derive(Drop)]
+pub(crate) struct ChartOptions<'a> {
+    /// How many characters wide the picture is; `None` is a picture in SVG.
+    pub(crate) width: Option<u16>,
+    /// The letters of the systems that are drawn.
+    pub(crate) systems: Option<&'a str>,
+    /// The names of the satellites that are drawn, with commas between.
+    pub(crate) satellites: Option<&'a str>,
+}
+
+// The width of the picture of `chart` in characters; `Some(None)` is a picture in SVG.
+fn chart_width(words: &ArgMatches<'_>) -> Option<Option<u16>>
+    ensures { IfSome result (λ width. ForSome width IsWidth) }
+{
+    if !words.get_flag("text") {
+        return Some(None);
+    }
+    let width = words.get_one::<u32>("columns").unwrap_or(COLUMNS);
+    if width < LEAST_WIDTH || width > MOST_WIDTH {
+        return None;
+    }
+    Some(Some(width as u16))
+}
+
+/// The options of `chart`.
+pub(crate) fn chart_options<'a>(words: &ArgMatches<'a>) -> Option<ChartOptions<'a>>
+    ensures { IfSome result (λ options. ForSome options.width IsWidth) }
+{
+    Some(ChartOptions {
+        width: chart_width(words)?,
+        systems: words.get_str("systems"),
+        satellites: words.get_str("satellites"),
+    })
+}
 
 // A letter stands for a system in names of RINEX.
 fn is_system(letter: u8) -> bool

@@ -1,4 +1,4 @@
-//! The words of `convert`: what its options and links say.
+//! The words of `convert`: its options, as clap's answer fills them, and what they and the links say.
 
 ghost use Rattle.std.specs.Prelude.{map, ◌≡◌, ◌≤◌, IfOk, IfErr, Decides};
 ghost use Rattle.rtk_rinex.specs.MixedHead.{has_glonass, IsGlonassView, TellsGlonass};
@@ -8,16 +8,57 @@ ghost use Rattle.rtk_cli.specs.Words.{AreLinkNames, IsWithinLimits};
 
 use crate::channel_list::channels_said;
 use crate::code_words::{any_codes_said, in_file_order};
+use crate::option_numbers::{kinds_said, leap_seconds_of, station_of, value_if_any, window_of};
 use crate::option_texts::{made_said, marker_said, moment_said, reference_said};
-use crate::options::ConvertOptions;
 use crate::words::{BadWords, Job, WordsFault};
+use clap::ArgMatches;
 use rtk_convert::LinkCount;
 use rtk_message::System;
 use rtk_obs::{AnyCode, Channels, GpsMs, leap_seconds_at};
 use rtk_rinex::{CreationTime, Glonass, Marker, MixedHead, is_mixed_list};
-use rtk_setup::{LeapSeconds, Setup, SystemKinds};
+use rtk_setup::{LeapSeconds, Setup, Station, SystemKinds, Window};
 use rtk_streams::STDIN;
 use std::alloc::Global;
+
+/// The options of `convert`.
+#[derive(Drop)]
+pub(crate) struct ConvertOptions<'a> {
+    pub(crate) station: Station,
+    /// The text of the reference near which times of week are dated.
+    pub(crate) near: &'a str,
+    /// The text of the moment at which the file is made.
+    pub(crate) made: &'a str,
+    /// The marker's name.
+    pub(crate) marker: &'a str,
+    /// The names of the observation codes, with commas between.
+    pub(crate) codes: &'a str,
+    /// How many epochs are kept open.
+    pub(crate) window: Window,
+    /// The kind of MSM that is converted of each system.
+    pub(crate) kinds: SystemKinds,
+    /// The text of the channels of GLONASS.
+    pub(crate) channels: Option<&'a str>,
+    /// The leap seconds by which clocks of GLONASS are dated, in place of the table's.
+    pub(crate) leap_seconds: Option<LeapSeconds>,
+    /// The 1012 are converted too.
+    pub(crate) with_1012: bool,
+}
+
+/// The options of `convert`.
+pub(crate) fn convert_options<'a>(words: &ArgMatches<'a>) -> Option<ConvertOptions<'a>> {
+    Some(ConvertOptions {
+        station: station_of(words.get_one::<u32>("station")?)?,
+        near: words.get_str("near")?,
+        made: words.get_str("made")?,
+        marker: words.get_str("marker")?,
+        codes: words.get_str("codes")?,
+        window: window_of(words.get_one::<u32>("window")?)?,
+        kinds: kinds_said(words)?,
+        channels: words.get_str("channels"),
+        leap_seconds: value_if_any(words.get_one::<u32>("leap-seconds").map(leap_seconds_of))?,
+        with_1012: words.get_flag("with-1012"),
+    })
+}
 
 // A listed code is of GLONASS.
 fn has_glonass(listed: &[AnyCode]) -> bool

@@ -5,19 +5,17 @@
 ghost use Rattle.std.specs.Prelude.{IfOk, IfErr, IfSome};
 ghost use Rattle.rtk_cli.specs.Words.{IsWithinLimits, IsWordsFault};
 
-use crate::auto_words::auto_words;
-use crate::chart_words::choice_of;
+use crate::auto_words::{auto_options, auto_words};
+use crate::chart_words::{chart_options, choice_of};
 use crate::clap_words::{matches_of, missing_word};
 use crate::compare_words::{compared_files, comparison};
-use crate::convert_words::convert_job;
-use crate::cut_words::part_of;
+use crate::convert_words::{convert_job, convert_options};
+use crate::cut_words::{cut_options, part_of};
 use crate::kept_words::kept_said;
 use crate::kind_list::has_kind_list;
-use crate::label_words::label_of;
-use crate::options::{
-    auto_options, chart_options, convert_options, cut_options, label_options, quality_form,
-    shown_kinds, time_lines,
-};
+use crate::label_words::{label_of, label_options, time_lines};
+use crate::quality_words::quality_form;
+use crate::show_words::shown_kinds;
 use crate::words::{Job, WordsFault};
 use clap::{ArgMatches, Command};
 use rtk_commands::{Chart, KeptPart, Labelling};

@@ -69,13 +69,15 @@ fn field_of_row(message: &Msm, row: usize) -> u8
     }
 }
 
-// Puts a slot into the sets that it belongs to.
+// Puts a slot into the sets that it belongs to. Nearly all slots belong to none, so this is asked first.
 fn put_slot(remarks: &mut Remarks, slot: u8, is_other: bool, is_without: bool)
     requires { IsSlot slot }
     ensures { PutsSlot slot is_other is_without remarks.old remarks.new }
 {
-    remarks.other_channels.put_if(slot, is_other);
-    remarks.no_channels.put_if(slot, is_without);
+    if is_other || is_without {
+        remarks.other_channels.put_if(slot, is_other);
+        remarks.no_channels.put_if(slot, is_without);
+    }
 }
 
 // Puts the satellite of a slot of an MSM, with its field, into the sets that it belongs to.

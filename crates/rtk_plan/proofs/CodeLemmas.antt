@@ -1,5 +1,5 @@
 -- Codes that are found or named are a list for a head.
-use Rattle.std.proofs.Common.{◌≡◌, ◌≢◌, ◌<◌, ◌≤◌, ◌+◌, ◌-◌, ◌==◌, ◌&&◌, ◌∙◌, ℕ, zero, suc, Bool, true, false, nat_le, List, [], ◌∷◌, length, refl, sym, ap, subst, eq-eqb, Option, arith}
+use Rattle.std.proofs.Common.{◌≡◌, ◌≢◌, ◌<◌, ◌≤◌, ◌+◌, ◌==◌, ◌&&◌, ◌∙◌, ℕ, zero, suc, Bool, true, false, nat_le, List, [], ◌∷◌, length, refl, sym, ap, subst, eq-eqb, Option, arith}
 use Rattle.std.specs.Prelude.{filter, AllPairs, slice_index_or, count_by}
 use Rattle.std.specs.Int.{IsInRange}
 use Rattle.std.proofs.lemmas.Bool.{and_parts, eqb-true, leb-true}

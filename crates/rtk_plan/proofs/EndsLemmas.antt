@@ -1,9 +1,8 @@
 -- The first and the last moment of what is converted, one capture after another.
-use Rattle.std.proofs.Common.{◌≡◌, ◌<◌, ◌≤◌, ◌+◌, ℕ, zero, suc, min, List, [], ◌∷◌, length, drop, get_or, Option, refl, ap, ◌∙◌, arith}
-use Rattle.rtk_survey.proofs.PublicLaws.{cut-at}
+use Rattle.std.proofs.Common.{◌≡◌, ◌≤◌, ℕ, zero, suc, min, List, [], ◌∷◌, length, drop, Option, refl, arith}
 use Rattle.rtk_survey.specs.declared.placing.Placed.{Placed}
 use Rattle.rtk_survey.specs.declared.survey.CaptureSurvey.{CaptureSurvey}
-use Rattle.rtk_plan.specs.Near1012.{ends_after, ends_with_capture}
+use Rattle.rtk_plan.specs.Near1012.{ends_after}
 use Rattle.rtk_plan.specs.declared.near_1012.Ends.{Ends}
 
 none-ends : (n seconds : ℕ) (e : Ends) (ss : List CaptureSurvey) → ends_after n seconds e ss [] ≡ e
@@ -18,10 +17,3 @@ ends-end n seconds e (s ∷ ss) [] zero past = refl
 ends-end n seconds e (s ∷ ss) [] (suc i) past = none-ends n seconds e (drop i ss)
 ends-end n seconds e (s ∷ ss) (p ∷ ps) zero past = absurd (omega (arith, past))
 ends-end n seconds e (s ∷ ss) (p ∷ ps) (suc i) past = ends-end n seconds e ss ps i (omega (arith, past))
-
-pub ends-step : (n seconds : ℕ) (e : Ends) (ss : List CaptureSurvey) (ps : List (Option Placed)) (i : ℕ) (s : CaptureSurvey) (p : Option Placed) → i < length ss → i < length ps
-    → ends_after n seconds e (drop i ss) (drop i ps)
-    ≡ ends_after n seconds (ends_with_capture n seconds e (get_or ss i s) (get_or ps i p)) (drop (i + 1) ss) (drop (i + 1) ps)
-ends-step n seconds e ss ps i s p lt within =
-    ap (λ (xs : List CaptureSurvey). ends_after n seconds e xs (drop i ps)) (cut-at ss i s lt)
-    ∙ ap (λ (ys : List (Option Placed)). ends_after n seconds e (get_or ss i s ∷ drop (i + 1) ss) ys) (cut-at ps i p within)

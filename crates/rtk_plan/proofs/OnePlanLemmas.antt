@@ -10,9 +10,8 @@ use Rattle.rtk_survey.specs.declared.placing.Placed.{Placed}
 use Rattle.rtk_survey.specs.declared.survey.CaptureSurvey.{CaptureSurvey}
 use Rattle.rtk_captures.specs.Kept.{empty_captures}
 use Rattle.rtk_plan.specs.Laws.{OnePlan, NearIsWholeSecond}
-use Rattle.rtk_systems.specs.FoundSeconds.{seconds_found_if, AreSecondsFound, AreSecondsOfSetup, asks_glonass}
+use Rattle.rtk_systems.specs.FoundSeconds.{seconds_found_if, table_seconds, AreSecondsFound, AreSecondsOfSetup, asks_glonass}
 use Rattle.rtk_captures.specs.Linking.{links_found, AreLinksOf}
-use Rattle.rtk_systems.specs.ClockOffsets.{systems_with_clocks}
 use Rattle.rtk_plan.specs.Plan.{IsChosenStation, kinds_found, codes_chosen, AreSystemsTaken, AreCodesChosen, marker_chosen, converts_1012, near_chosen, near_in_reach, near_with_1012, codes_taken_from, AreLeapSecondsOf, IsNear1012, IsSetupFor}
 use Rattle.rtk_captures.specs.Dating.{captures_of, some_out_of_reach, IsBaseOf, IsReachOf, ArePlaced, IsNearOf, IsSpanOf, AreStrays}
 use Rattle.rtk_plan.specs.Near1012.{ends_after, middle_up, middle_down, middle_second, dates_ends, can_date, near_of_ends, near_between}
@@ -20,7 +19,6 @@ use Rattle.rtk_captures.specs.Reach.{least_told, placed_if_any, reach_after, sec
 use Rattle.rtk_systems.specs.SlotChannels.{IsGlonassFound}
 use Rattle.rtk_captures.specs.Sources.{dated_span_of}
 use Rattle.rtk_captures.specs.Stray.{strays}
-use Rattle.rtk_systems.specs.SystemFlags.{in_both}
 use Rattle.rtk_systems.specs.SystemMsms.{kinds_listed}
 use Rattle.rtk_captures.specs.declared.reach.Base.{Base}
 use Rattle.rtk_captures.specs.declared.reach.Base.TheVariants.{Told}
@@ -81,9 +79,10 @@ one-found asked ss station near from until a b is also =
     let table : is.0 ≡ also.0 = one-row _ is.0 also.0 is.1 also.1 in
     let first : is.2.0 ≡ also.2.0 = one-row _ is.2.0 also.2.0 is.2.1 also.2.1 in
     let last : is.2.2.0 ≡ also.2.2.0 = one-row _ is.2.2.0 also.2.2.0 is.2.2.1 also.2.2.1 in
-    is.2.2.2 ∙ ap (λ (n : ℕ). seconds_found_if asked ss station n is.2.0 is.2.2.0) table
-    ∙ ap (λ (n : ℕ). seconds_found_if asked ss station also.0 n is.2.2.0) first
-    ∙ ap (λ (n : ℕ). seconds_found_if asked ss station also.0 also.2.0 n) last ∙ sym also.2.2.2
+    let days = table_seconds near in
+    is.2.2.2 ∙ ap (λ (n : ℕ). seconds_found_if asked ss station days n is.2.0 is.2.2.0) table
+    ∙ ap (λ (n : ℕ). seconds_found_if asked ss station days also.0 n is.2.2.0) first
+    ∙ ap (λ (n : ℕ). seconds_found_if asked ss station days also.0 also.2.0 n) last ∙ sym also.2.2.2
 
 one-of-setup : (given : Option ℕ) (asked : Bool) (ss : List CaptureSurvey) (station near from until : ℕ) (a b : Option ℕ)
     → AreSecondsOfSetup given asked ss station near from until a → AreSecondsOfSetup given asked ss station near from until b → a ≡ b
@@ -99,8 +98,7 @@ one-leap ss w station near a b is also =
 
 one-systems : (ss : List CaptureSurvey) (station : ℕ) (wanted : SystemFlags) (seconds : Option ℕ) (near : ℕ) (a b : SystemFlags)
     → AreSystemsTaken ss station wanted seconds near a → AreSystemsTaken ss station wanted seconds near b → a ≡ b
-one-systems ss station wanted seconds near a b is also =
-    is.2 ∙ ap (λ (n : ℕ). in_both wanted (systems_with_clocks ss station n)) (one-seconds seconds near is.0 also.0 is.1 also.1) ∙ sym also.2
+one-systems ss station wanted seconds near a b is also = is ∙ sym also
 
 one-list : (w : Wanted) (ss : List CaptureSurvey) (station : ℕ) (seconds : Option ℕ) (near : ℕ) (taken : TakenMessages) (a b : List AnyCode)
     → AreCodesChosen w ss station seconds near taken a → AreCodesChosen w ss station seconds near taken b → a ≡ b

@@ -1,11 +1,7 @@
--- Sums, one term after another.
-use Rattle.std.proofs.Common.{◌≡◌, ◌<◌, ◌+◌, ℕ, zero, suc, List, [], ◌∷◌, ◌++◌, length, take, get_or, refl, sym, ap, ◌∙◌, arith}
-use Rattle.std.proofs.lemmas.List.{take_more}
+-- Sums over satellites, one term after another.
+use Rattle.std.proofs.Common.{◌≡◌, ◌+◌, ℕ, zero, suc, List, [], ◌∷◌, ◌++◌, refl, sym, ap, ◌∙◌, arith}
 use Rattle.std.proofs.lemmas.List.Sums.{sum_by-cons, sum_by-append}
 use Rattle.std.specs.List.{sum_by, range_with_len}
-use Rattle.rtk_survey.specs.Counting.{shown_count}
-
--- ---- sums over satellites
 
 range-suc : (a n : ℕ) → range_with_len a (suc n) ≡ range_with_len a n ++ (a + n) ∷ []
 range-suc a zero =
@@ -24,19 +20,3 @@ sum-more f a n k next at is =
     let nil : sum_by f [] ≡ 0 = refl in
     let here : f (a + n) ≡ f k = ap f (sym at) in
     omega (arith, longer, last, alone, nil, here)
-
--- ---- sums over a list
-
-pub sum-taken : {X : Type 0} (f : X → ℕ) (xs : List X) (i : ℕ) (d : X) → i < length xs → sum_by f (take (i + 1) xs) ≡ sum_by f (take i xs) + f (get_or xs i d)
-sum-taken f xs i d within =
-    let longer : sum_by f (take (i + 1) xs) ≡ sum_by f (take i xs ++ get_or xs i d ∷ []) = ap (λ t. sum_by f t) (take_more xs i d within) in
-    let last : sum_by f (take i xs ++ get_or xs i d ∷ []) ≡ sum_by f (take i xs) + sum_by f (get_or xs i d ∷ []) = sum_by-append f (take i xs) (get_or xs i d ∷ []) in
-    let alone : sum_by f (get_or xs i d ∷ []) ≡ f (get_or xs i d) + sum_by f [] = sum_by-cons f (get_or xs i d) [] in
-    let nil : sum_by f [] ≡ 0 = refl in
-    omega (arith, longer, last, alone, nil)
-
--- ---- counts that stay at the greatest value
-
--- a count more
-pub counted-on : (count r more rest total : ℕ) → more ≡ shown_count (count + r) → shown_count (count + (r + rest)) ≡ total → shown_count (more + rest) ≡ total
-counted-on count r more rest total is held = omega (arith, is, held)

@@ -14,7 +14,6 @@ use Rattle.rtk_captures.specs.Linking.{kept_in_order, captures_of_link, is_nonem
 use Rattle.rtk_plan.specs.Laws.{times, own_places, times_taken, IsInText, EachIsTakenOnce, EachIsLeftOutOnce, LeftOutIsTold}
 use Rattle.rtk_captures.specs.Reach.{placed_if_any}
 use Rattle.rtk_captures.specs.declared.joining.Ordered.{Ordered}
-use Rattle.rtk_setup.specs.Setup.{taken_by}
 use Rattle.rtk_survey.specs.declared.placing.Placed.{Placed}
 use Rattle.rtk_captures.specs.declared.station_capture.StationCapture.{StationCapture}
 

@@ -1,5 +1,5 @@
 -- What a person should know of a conversion that is done (this project's rule).
-use Rattle.std.specs.Prelude.{ℕ, ◌+◌, ◌==◌, Bool, not, ◌&&◌, List, [], ◌∷◌, ◌++◌, Option, None, Some, is_some, slice_get, codes, decimal, flat_map, if◌then◌else◌}
+use Rattle.std.specs.Prelude.{ℕ, ◌+◌, ◌==◌, nat_le, Bool, not, ◌&&◌, ◌||◌, length, List, [], ◌∷◌, ◌++◌, Option, None, Some, is_some, slice_get, codes, decimal, flat_map, if◌then◌else◌}
 use Rattle.std.specs.Borrow.{Bor}
 use Rattle.std.specs.List.{list_any, sum_by}
 use Rattle.std.specs.Option.{is_none}
@@ -12,11 +12,15 @@ use Rattle.rtk_obs.specs.Code.{name_of, all_codes}
 use Rattle.rtk_obs.specs.declared.any_code.AnyCode.{AnyCode}
 use Rattle.rtk_obs.specs.declared.code.Code.{Code}
 use Rattle.rtk_setup.specs.Setup.{SetupView, taken_by, takes_1004, lists_system}
+use Rattle.rtk_survey.specs.CaptureDates.{counting}
 use Rattle.rtk_survey.specs.Counting.{shown_count}
 use Rattle.rtk_survey.specs.Placing.{placed}
+use Rattle.rtk_survey.specs.declared.capture_dates.CaptureDates.{CaptureDates}
+use Rattle.rtk_survey.specs.declared.date_message.UtcDate.{UtcDate}
 use Rattle.rtk_survey.specs.declared.equipment.Equipment.{Equipment}
 use Rattle.rtk_survey.specs.declared.span.Span.{Span}
 use Rattle.rtk_survey.specs.declared.survey.CaptureSurvey.{CaptureSurvey}
+use Rattle.rtk_survey.specs.declared.tellings.Tellings.{Tellings}
 use Rattle.rtk_survey.specs.declared.tellings.Told.{Told}
 use Rattle.rtk_captures.specs.CaptureNames.{capture_name, lines_by}
 use Rattle.rtk_systems.specs.ClockOffsets.{told_clock_lines}
@@ -24,13 +28,14 @@ use Rattle.rtk_plan.specs.FewPhases.{has_few_phases}
 use Rattle.rtk_plan.specs.LeapLines.{other_leap_lines}
 use Rattle.rtk_plan.specs.Plan.{taken_messages}
 use Rattle.rtk_survey.specs.Surveys.{places_of}
-use Rattle.rtk_captures.specs.Lists.{date_line, undated_line, stray_line, capture_line, name_line}
+use Rattle.rtk_captures.specs.Lists.{date_line, to_come_line, undated_line, stray_line, capture_line, name_line}
 use Rattle.rtk_systems.specs.MessageLines.{obs_1004_line, msm_lines, doppler_line, sbas_line, all_unread}
 use Rattle.rtk_captures.specs.Positions.{no_position_line}
 use Rattle.rtk_plan.specs.Reported.{late_of}
 use Rattle.rtk_captures.specs.SpanLine.{span_line}
-use Rattle.rtk_captures.specs.StationCaptures.{dates_in, told_in, passed_over_in}
-use Rattle.rtk_plan.specs.TextsLeftOut.{texts_left_out}
+use Rattle.rtk_captures.specs.StationCaptures.{dates_in, weeks_passed_over, others_passed_over, to_come_told}
+use Rattle.rtk_captures.specs.WaitingDates.{dates_without_epoch}
+use Rattle.rtk_plan.specs.OtherEquipment.{equipment_notes}
 use Rattle.rtk_systems.specs.ToldChannels.{told_channel_lines}
 use Rattle.rtk_systems.specs.UncheckedSystems.{unchecked_system_lines}
 use Rattle.rtk_systems.specs.Values.{is_1012_given}
@@ -39,7 +44,7 @@ use Rattle.rtk_plan.specs.declared.known_lines.Known.{Known}
 use Rattle.rtk_plan.specs.declared.planning.Plan.{Plan}
 use Rattle.rtk_plan.specs.declared.reported.Reported.{Reported}
 use Rattle.rtk_captures.specs.declared.span_line.DateSource.{DateSource}
-use Rattle.rtk_captures.specs.declared.span_line.DateSource.TheVariants.{Words, Station, OtherStation, Ephemerides}
+use Rattle.rtk_captures.specs.declared.span_line.DateSource.TheVariants.{Words, Station, OtherStation, Ephemerides, OtherEphemerides}
 use Rattle.rtk_captures.specs.declared.station_capture.StationCapture.{StationCapture}
 use Rattle.rtk_plan.specs.declared.written_file.Step.{Step}
 use Rattle.rtk_plan.specs.declared.written_file.WrittenFile.{WrittenFile}
@@ -58,20 +63,52 @@ other_date_line near s name t = if is_told_otherwise near s t then codes " other
 abbrev pub other_date_lines : ℕ → Span → List ℕ → List Told → List ℕ
 other_date_lines near s name ts = flat_map (other_date_line near s name) ts
 
--- the dates of a capture with these epochs that do not count in a conversion of a station near this moment:
--- those of the messages that date, and those of ephemerides beside them
-abbrev pub other_dates : ℕ → ℕ → Span → CaptureSurvey → List ℕ → List ℕ
-other_dates station near s survey name =
-    other_date_lines near s name (told_in station survey) ++ other_date_lines near s name (passed_over_in station survey)
+-- constant
+-- a survey keeps 16 first epochs that differ of each kind of message: if it has so many, others may have been told
+abbrev pub is_full : List Told → Bool
+is_full ts = nat_le 16 (length ts)
 
-abbrev pub other_dates_if_any : ℕ → ℕ → Option Span → CaptureSurvey → List ℕ → List ℕ
-other_dates_if_any station near None survey name = []
-other_dates_if_any station near (Some s) survey name = other_dates station near s survey name
+-- of the messages that date, and of those whose dates are told beside them
+abbrev pub may_have_more : Tellings → Bool
+may_have_more t = (is_full (counting t) || is_full t.weeks.items) || is_full t.others.items
+
+-- formula
+abbrev pub more_dates_line : List ℕ → Tellings → List ℕ
+more_dates_line name t = if may_have_more t then name_line (codes " more-dates in ") name else []
+
+-- the dates that messages told of these epochs and that do not count in a conversion near this moment: those of the
+-- messages that date, and beside them those of ephemerides and of other stations; and that there may be others
+unfoldable pub other_dates : ℕ → Span → List ℕ → Tellings → List ℕ
+other_dates near s name t =
+    other_date_lines near s name (counting t) ++ other_date_lines near s name (weeks_passed_over t) ++ other_date_lines near s name (others_passed_over t)
+    ++ more_dates_line name t
+
+abbrev pub other_dates_if_any : ℕ → List ℕ → Tellings → Option Span → List ℕ
+other_dates_if_any near name t None = []
+other_dates_if_any near name t (Some s) = other_dates near s name t
+
+-- those of a capture, if it has epochs
+abbrev pub other_dates_of : ℕ → List ℕ → CaptureDates → List ℕ
+other_dates_of near name d = other_dates_if_any near name d.told d.span
+
+-- formula
+-- a date that is passed over since it is to come
+unfoldable pub date_to_come : UtcDate → List ℕ → List ℕ
+date_to_come d name = codes " other-date" ++ to_come_line d name
+
+abbrev pub other_to_come : Option UtcDate → List ℕ → List ℕ
+other_to_come None name = []
+other_to_come (Some d) name = date_to_come d name
+
+-- those of a capture: of its epochs; or if it has none, of an epoch at this moment; and one that is to come
+abbrev pub other_dates_at : ℕ → ℕ → CaptureSurvey → List ℕ → List ℕ
+other_dates_at station near s name =
+    other_dates_of near name (dates_in station s) ++ other_dates_of near name (dates_without_epoch station near s)
+    ++ other_to_come (to_come_told station s) name
 
 -- those of captures with these names
 abbrev pub all_other_dates : List (Bor (List ℕ)) → ℕ → ℕ → List CaptureSurvey → List ℕ
-all_other_dates names station near ss =
-    lines_by (λ at s. other_dates_if_any station near (dates_in station s).span s (capture_name names at)) 0 ss
+all_other_dates names station near ss = lines_by (λ at s. other_dates_at station near s (capture_name names at)) 0 ss
 
 -- a capture has epochs, and tells no date
 abbrev pub is_undated : StationCapture → Bool
@@ -89,6 +126,7 @@ undated_lines Words names cs = []
 undated_lines (Station number) names cs = all_undated names cs
 undated_lines (OtherStation number station) names cs = all_undated names cs
 undated_lines Ephemerides names cs = all_undated names cs
+undated_lines (OtherEphemerides number) names cs = all_undated names cs
 
 -- formula
 -- a code whose satellites have more than twice as many phases in another one
@@ -139,7 +177,7 @@ lines_before_late names ss plan told =
     ++ clock_lines_of names ss plan
     ++ few_phases_lines ss plan.setup.station plan.setup.kinds.gps plan.setup.head.listed
     ++ told_channel_lines ss plan.setup.station (taken_messages plan.setup) plan.own_channels plan.setup.head.glonass
-    ++ texts_left_out told
+    ++ equipment_notes names ss plan.setup.station told
     ++ stray_lines names plan.span.until plan.strays.items
 
 -- ---- behind the line of late messages
@@ -162,9 +200,20 @@ abbrev pub epochs_line : Option Span → List ℕ → List ℕ
 epochs_line None name = name_line (codes " no-epoch ") name
 epochs_line (Some s) name = if s.falls then name_line (codes " time-falls ") name else []
 
+-- formula
+-- the bytes of a capture that are in no frame, if there are some: a survey does not know where they lie, so the line counts
+-- those before the first frame and behind the last one, as of a stream that was cut anywhere, with those between frames, where
+-- a message may be lost
+abbrev pub outside_line : ℕ → List ℕ → List ℕ
+outside_line outside name = if outside == 0 then [] else codes " outside-frames " ++ decimal outside ++ name_line (codes " in ") name
+
+-- both lines of a capture
+abbrev pub capture_notes : StationCapture → List ℕ → List ℕ
+capture_notes c name = epochs_line c.span name ++ outside_line c.outside name
+
 abbrev pub epochs_line_of : Option StationCapture → List ℕ → List ℕ
 epochs_line_of None name = []
-epochs_line_of (Some c) name = epochs_line c.span name
+epochs_line_of (Some c) name = capture_notes c name
 
 abbrev pub epochs_line_at : List (Bor (List ℕ)) → List StationCapture → ℕ → List ℕ
 epochs_line_at names cs place = epochs_line_of (slice_get cs place) (capture_name names place)

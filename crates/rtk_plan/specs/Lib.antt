@@ -5,6 +5,7 @@ pub mod LabelCommand
 pub mod Laws
 pub mod LeapLines
 pub mod Near1012
+pub mod OtherEquipment
 pub mod Plan
 pub mod Reported
 pub mod SaidCommand

@@ -9,6 +9,7 @@ use Rattle.rtk_setup.specs.Setup.{SetupView, all_of}
 use Rattle.rtk_setup.specs.declared.system_kinds.SystemKinds.{SystemKinds}
 use Rattle.rtk_survey.specs.declared.survey.CaptureSurvey.{CaptureSurvey}
 use Rattle.rtk_captures.specs.ChosenStation.{IsObservedStation, IsOnlyObserved}
+use Rattle.rtk_systems.specs.declared.clock_seconds.ClockSeconds.{ClockSeconds}
 use Rattle.rtk_systems.specs.declared.system_flags.SystemFlags.{SystemFlags}
 use Rattle.rtk_captures.specs.declared.span_line.DatedSpan.{DatedSpan}
 use Rattle.rtk_systems.specs.ClockOffsets.{systems_with_clocks}
@@ -40,11 +41,14 @@ abbrev pub codes_chosen : {A : Type 0} → Option (Vec AnyCode A) → List Captu
 codes_chosen None ss station systems taken = codes_in_captures ss station systems taken
 codes_chosen (Some named) ss station systems taken = named.items
 
--- the systems that are wanted, but for those whose clocks are wrong by these leap seconds, or else by those of the table
--- at this moment
+-- the leap seconds by which clocks are compared that are dated near a moment: those that are given, or else those of the
+-- table on the day of each clock
+abbrev pub clock_seconds : Option ℕ → ℕ → ClockSeconds
+clock_seconds given near = record { given = given; near = near }
+
+-- the systems that are wanted, but for those whose clocks are wrong by these leap seconds
 abbrev pub AreSystemsTaken : List CaptureSurvey → ℕ → SystemFlags → Option ℕ → ℕ → SystemFlags → Type 0
-AreSystemsTaken ss station wanted seconds near systems =
-    (n : ℕ) × AreSecondsChosen seconds near n × (systems ≡ in_both wanted (systems_with_clocks ss station n))
+AreSystemsTaken ss station wanted seconds near systems = systems ≡ in_both wanted (systems_with_clocks ss station (clock_seconds seconds near))
 
 -- the codes that are named; else those of the systems that are taken
 abbrev pub AreCodesChosen : Wanted → List CaptureSurvey → ℕ → Option ℕ → ℕ → TakenMessages → List AnyCode → Type 0
@@ -68,9 +72,9 @@ AreLeapSecondsOf ss w station near seconds =
     (span : DatedSpan) × IsSpanOf w.near (captures_of ss station) station span
     × AreSecondsOfSetup w.leap_seconds (asks_glonass w.codes w.systems) ss station near span.from span.until seconds
 
--- the leap seconds by which clocks are compared: those of the setup, else those of the table at the first moment
-abbrev pub AreSecondsCompared : Option ℕ → List StationCapture → Option ℕ → ℕ → Type 0
-AreSecondsCompared given cs seconds n = (first : ℕ) × IsNearOf given cs first × AreSecondsChosen seconds first n
+-- the leap seconds by which clocks are compared: those of the setup, else those of the table, near the first moment
+abbrev pub AreSecondsCompared : Option ℕ → List StationCapture → Option ℕ → ClockSeconds → Type 0
+AreSecondsCompared given cs seconds s = (first : ℕ) × IsNearOf given cs first × (s ≡ clock_seconds seconds first)
 
 -- ---- 1012
 

@@ -1,5 +1,5 @@
 -- The satellites of each system that a file has, by their numbers (this project's rule).
-use Rattle.std.specs.Prelude.{ℕ, Bool, List, count_by}
+use Rattle.std.specs.Prelude.{ℕ, Bool, count_by}
 use Rattle.rtk_message.specs.declared.system.System.{System}
 use Rattle.rtk_message.specs.declared.system.System.TheVariants.{Gps, Glonass, Galileo, Beidou, Qzss, Sbas, Navic}
 use Rattle.rtk_plan.specs.declared.satellite_marks.SatelliteMarks.{SatelliteMarks}

@@ -1,5 +1,5 @@
 //! The lines of captures that a person should know of: whose dates do not count, that are dated near the others,
-//! that have a stray epoch, that are left out, or whose epochs are missing or fall.
+//! that have a stray epoch, that are left out, whose epochs are missing or fall, or that have bytes outside frames.
 //!
 //! If memory is refused, a first part of what is put may stand there.
 
@@ -10,13 +10,20 @@ ghost use Rattle.rtk_captures.specs.StationCaptures.{dates_in};
 
 use crate::planning::Plan;
 use rtk_captures::{
-    Captures, DateSource, StationCapture, passed_over_in, put_capture_line, put_date_line,
-    put_name_line, put_stray_line, put_undated_line, span_in, told_in,
+    Captures, DateSource, StationCapture, dates_without_epoch, is_station, others_passed_over,
+    put_capture_line, put_date_line, put_name_line, put_stray_line, put_to_come_line,
+    put_undated_line, to_come_told, weeks_passed_over,
 };
+use rtk_message::put_named;
 use rtk_obs::GpsMs;
 use rtk_setup::Setup;
-use rtk_survey::{CaptureEpochs, CaptureSurvey, Span, Told, place};
+use rtk_survey::{
+    CaptureDates, CaptureEpochs, CaptureSurvey, Span, Tellings, Told, UtcDate, place,
+};
 use std::alloc::AllocError;
+
+/// How many first epochs that differ a survey keeps of each kind of message.
+const MOST_TOLD: usize = 16;
 
 // Is this another first epoch than a conversion near this moment gives a capture with these epochs?
 fn is_told_otherwise(near: GpsMs, told: &Told, span: &Span) -> bool
@@ -61,24 +68,121 @@ fn put_those_of(
     Ok(())
 }
 
-// Appends the dates of a capture that tell another first epoch than the conversion gives it: those by the
-// messages that date, and those by 1019 beside them.
-fn put_other_dates_of(
+fn is_full(told: &[Told]) -> bool
+    ensures { result ≡ spec.is_full told.now }
+{
+    MOST_TOLD <= told.len()
+}
+
+fn may_have_more(told: &Tellings) -> bool
+    ensures { result ≡ spec.may_have_more told.now }
+{
+    is_full(told.counting()) || is_full(told.weeks.as_slice()) || is_full(told.others.as_slice())
+}
+
+// Appends a line if so many dates are kept of a capture that others may have been told.
+fn put_more_dates(lines: &mut Vec<u8>, name: &str, told: &Tellings) -> Result<(), AllocError>
+    ensures { OnOk result (lines.new.items ≡ lines.old.items ++ spec.more_dates_line name.now told.now) }
+{
+    if may_have_more(told) {
+        put_name_line(lines, b" more-dates in ", name)
+    } else {
+        Ok(())
+    }
+}
+
+// Appends the dates that messages told of these epochs, if they tell another first one than the conversion gives: those
+// by the messages that date, and those by 1019 and by other stations beside them; and that there may be others.
+fn put_tellings(
     lines: &mut Vec<u8>,
-    survey: &CaptureSurvey,
-    setup: &Setup,
+    near: GpsMs,
     span: &Span,
     name: &str,
+    told: &Tellings,
 ) -> Result<(), AllocError>
-    ensures { OnOk result (lines.new.items ≡ lines.old.items
-        ++ spec.other_dates setup.now.station setup.now.near span.now survey.now name.now) }
+    ensures { OnOk result (lines.new.items ≡ lines.old.items ++ spec.other_dates near span.now name.now told.now) }
 {
-    let (station, near) = (setup.station(), setup.near());
-    put_those_of(lines, near, span, name, told_in(station, survey))?;
-    put_those_of(lines, near, span, name, passed_over_in(station, survey))
+    put_those_of(lines, near, span, name, told.counting())?;
+    put_those_of(lines, near, span, name, weeks_passed_over(told))?;
+    put_those_of(lines, near, span, name, others_passed_over(told))?;
+    put_more_dates(lines, name, told)?;
+    Ok(())
 }
 
 // Appends such dates of a capture, if it has epochs.
+fn put_other_dates_of(
+    lines: &mut Vec<u8>,
+    near: GpsMs,
+    name: &str,
+    dates: &CaptureDates,
+) -> Result<(), AllocError>
+    ensures { OnOk result (lines.new.items ≡ lines.old.items ++ spec.other_dates_of near name.now dates.now) }
+{
+    match &dates.span {
+        Some(span) => put_tellings(lines, near, span, name, &dates.told),
+        None => Ok(()),
+    }
+}
+
+// Appends such dates of the epochs of a capture, if it was surveyed for this station.
+fn put_dates_of_epochs(
+    lines: &mut Vec<u8>,
+    survey: &CaptureSurvey,
+    station: u16,
+    near: GpsMs,
+    name: &str,
+) -> Result<(), AllocError>
+    ensures { OnOk result (lines.new.items ≡ lines.old.items ++ spec.other_dates_of near name.now (dates_in station survey.now)) }
+{
+    match &survey.contents.target {
+        Some(target) if is_station(station, target.dates.station) => {
+            put_other_dates_of(lines, near, name, &target.dates.capture)
+        }
+        _ => Ok(()),
+    }
+}
+
+// Appends a date that is passed over since it is to come.
+fn put_date_to_come(lines: &mut Vec<u8>, date: UtcDate, name: &str) -> Result<(), AllocError>
+    ensures { OnOk result (lines.new.items ≡ lines.old.items ++ spec.date_to_come date name.now) }
+{
+    lines.extend_from_slice(b" other-date")?;
+    put_to_come_line(lines, date, name)?;
+    Ok(())
+}
+
+fn put_other_to_come(
+    lines: &mut Vec<u8>,
+    date: Option<UtcDate>,
+    name: &str,
+) -> Result<(), AllocError>
+    ensures { OnOk result (lines.new.items ≡ lines.old.items ++ spec.other_to_come date name.now) }
+{
+    match date {
+        Some(date) => put_date_to_come(lines, date, name),
+        None => Ok(()),
+    }
+}
+
+// Appends such dates of a capture: of its epochs; or if it has none, of an epoch at this moment; and one that is to
+// come.
+fn put_other_dates_near(
+    lines: &mut Vec<u8>,
+    survey: &CaptureSurvey,
+    station: u16,
+    near: GpsMs,
+    name: &str,
+) -> Result<(), AllocError>
+    ensures { OnOk result (lines.new.items ≡ lines.old.items ++ spec.other_dates_at station near survey.now name.now) }
+{
+    put_dates_of_epochs(lines, survey, station, near, name)?;
+    let dates = dates_without_epoch(station, near, survey);
+    put_other_dates_of(lines, near, name, &dates)?;
+    put_other_to_come(lines, to_come_told(station, survey), name)?;
+    Ok(())
+}
+
+// Appends such dates of a capture.
 fn put_other_dates_at(
     lines: &mut Vec<u8>,
     survey: &CaptureSurvey,
@@ -86,12 +190,10 @@ fn put_other_dates_at(
     name: &str,
 ) -> Result<(), AllocError>
     ensures { OnOk result (lines.new.items ≡ lines.old.items
-        ++ spec.other_dates_if_any setup.now.station setup.now.near (dates_in setup.now.station survey.now).span survey.now name.now) }
+        ++ spec.other_dates_at setup.now.station setup.now.near survey.now name.now) }
 {
-    match span_in(setup.station(), survey) {
-        Some(span) => put_other_dates_of(lines, survey, setup, &span, name),
-        None => Ok(()),
-    }
+    let (station, near) = (setup.station(), setup.near());
+    put_other_dates_near(lines, survey, station, near, name)
 }
 
 /// Appends the dates of all captures that tell another first epoch than the conversion gives them.
@@ -156,7 +258,10 @@ pub(crate) fn put_undated(
 {
     match plan.span.source {
         DateSource::Words => Ok(()),
-        DateSource::Station(_) | DateSource::OtherStation(_, _) | DateSource::Ephemerides => {
+        DateSource::Station(_)
+        | DateSource::OtherStation(_, _)
+        | DateSource::Ephemerides
+        | DateSource::OtherEphemerides(_) => {
             put_all_undated(lines, captures, plan.captures.as_slice())
         }
     }
@@ -220,6 +325,31 @@ fn put_epochs_of(lines: &mut Vec<u8>, span: Option<Span>, name: &str) -> Result<
     }
 }
 
+// Appends how many bytes of a capture are in no frame, if there are some.
+fn put_outside(lines: &mut Vec<u8>, outside: u64, name: &str) -> Result<(), AllocError>
+    ensures { OnOk result (lines.new.items ≡ lines.old.items ++ spec.outside_line outside name.now) }
+{
+    if outside == 0 {
+        return Ok(());
+    }
+    put_named(lines, b" outside-frames ", outside)?;
+    put_name_line(lines, b" in ", name)?;
+    Ok(())
+}
+
+// Appends both lines of a capture.
+fn put_capture_notes(
+    lines: &mut Vec<u8>,
+    capture: &StationCapture,
+    name: &str,
+) -> Result<(), AllocError>
+    ensures { OnOk result (lines.new.items ≡ lines.old.items ++ spec.capture_notes capture.now name.now) }
+{
+    put_epochs_of(lines, capture.span, name)?;
+    put_outside(lines, capture.outside, name)?;
+    Ok(())
+}
+
 fn put_epochs_at(
     lines: &mut Vec<u8>,
     captures: &Captures<'_, '_>,
@@ -229,7 +359,7 @@ fn put_epochs_at(
     ensures { OnOk result (lines.new.items ≡ lines.old.items ++ spec.epochs_line_at captures.now.names.now told.now place) }
 {
     match told.get(place) {
-        Some(capture) => put_epochs_of(lines, capture.span, captures.name(place)),
+        Some(capture) => put_capture_notes(lines, capture, captures.name(place)),
         None => Ok(()),
     }
 }

@@ -10,11 +10,11 @@ ghost use Rattle.rtk_systems.specs.ToldChannels.{told_channel_lines};
 
 use crate::capture_lines::{put_epochs, put_other_dates, put_skipped, put_strays, put_undated};
 use crate::leap_lines::put_other_leap_in;
+use crate::other_equipment::put_equipment_notes;
 use crate::phase_lines::put_few_phases_in;
 use crate::planning::Plan;
 use crate::reported::Reported;
 use crate::station_setup::taken_by_setup;
-use crate::texts_left_out::put_texts_left_out;
 use crate::written_file::{Step, WrittenFile};
 use rtk_captures::{Captures, DateSource, DatedSpan, put_no_position, put_span};
 use rtk_message::{Accepted, put_named};
@@ -137,7 +137,7 @@ fn put_clocks_in(
         plan.asked,
         surveys,
         station,
-        plan.leap_seconds,
+        &plan.leap_seconds,
     )?;
     put_unchecked(lines, setup, surveys, station)?;
     put_other_leap_in(lines, captures, setup)?;
@@ -184,7 +184,7 @@ fn put_first_lines(
     put_clocks_in(alloc, lines, captures, plan)?;
     put_few_phases_in(lines, captures.surveys, &plan.setup)?;
     put_channels_in(lines, captures.surveys, plan)?;
-    put_texts_left_out(lines, told)?;
+    put_equipment_notes(lines, captures, &plan.setup, told)?;
     put_strays(lines, captures, plan.span.until, plan.strays.as_slice())?;
     Ok(())
 }
@@ -275,7 +275,7 @@ fn put_last_lines(
 
 /// What a person should know of a conversion, a line each, only where it is so: captures that are dated near
 /// the others; a date that is told and does not count; systems whose clocks differ from those of their chains, or of which no clock is compared; captures that tell other leap seconds; codes with few phases; channels of GLONASS that many slots have, or one has several of, and satellites without one; texts
-/// that messages told and that a label does not have; captures with a stray epoch, that are left out, that have no epoch or whose time falls;
+/// that messages told and that a label does not have; captures that told another antenna or receiver; captures with a stray epoch, that are left out, that have no epoch or whose time falls;
 /// and observations that are not taken.
 pub fn what_is_known(
     alloc: Global,

@@ -81,6 +81,7 @@ mod label_command;
 mod laws;
 mod leap_lines;
 mod near_1012;
+mod other_equipment;
 mod phase_lines;
 mod planning;
 mod reported;

@@ -13,7 +13,7 @@ ghost use Rattle.rtk_captures.specs.Dating.{captures_of, ArePlaced, AreStrays, I
 ghost use Rattle.rtk_systems.specs.SlotChannels.{AreOwnChannels};
 
 use crate::near_1012::near_of_1012;
-use crate::setup_seconds::{seconds_chosen, seconds_of_setup};
+use crate::setup_seconds::{seconds_compared, seconds_of_setup};
 use crate::station_setup::{own_channels_in, setup_near, systems_asked};
 use crate::wanted::Wanted;
 use rtk_captures::{
@@ -25,7 +25,7 @@ use rtk_obs::Channels;
 use rtk_rinex::CreationTime;
 use rtk_setup::{Reference, Setup, Station};
 use rtk_survey::{CaptureSurvey, Placed};
-use rtk_systems::{SystemFlags, list_held};
+use rtk_systems::{ClockSeconds, SystemFlags, list_held};
 use std::alloc::{AllocError, Global};
 
 /// What a conversion of captures is told.
@@ -45,7 +45,7 @@ pub struct Plan {
     /// The systems that are asked for.
     pub asked: SystemFlags,
     /// The leap seconds by which clocks of GLONASS are compared with those of GPS.
-    pub leap_seconds: u8,
+    pub leap_seconds: ClockSeconds,
     /// The channels of slots of GLONASS that messages of the station tell.
     pub own_channels: Channels,
     /// Is there a moment near which 1012 are dated right? They tell no day, so the epochs have to lie within a day.
@@ -60,7 +60,7 @@ struct Planned {
     links: Vec<Vec<usize>>,
     skipped: Vec<usize>,
     strays: Vec<usize>,
-    leap_seconds: u8,
+    leap_seconds: ClockSeconds,
     has_near_1012: bool,
 }
 
@@ -230,7 +230,7 @@ fn plan_of_station(
         links,
         skipped,
         strays: dating.strays,
-        leap_seconds: seconds_chosen(&seconds, near),
+        leap_seconds: seconds_compared(&seconds, near),
         has_near_1012: other.is_some(),
     })
 }

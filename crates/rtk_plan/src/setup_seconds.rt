@@ -4,7 +4,7 @@ ghost use Rattle.std.specs.Prelude.{◌≡◌, ◌≤◌, IfOk};
 ghost use Rattle.rtk_rinex.specs.MixedHead.{has_glonass};
 ghost use Rattle.rtk_systems.specs.FoundSeconds.{asks_glonass, AreSecondsOfSetup};
 ghost use Rattle.rtk_captures.specs.Dating.{captures_of, IsSpanOf};
-ghost use Rattle.rtk_plan.specs.Plan.{AreLeapSecondsOf};
+ghost use Rattle.rtk_plan.specs.Plan.{AreLeapSecondsOf, clock_seconds};
 ghost use Rattle.rtk_systems.specs.SlotChannels.{AreSecondsChosen};
 
 use crate::wanted::Wanted;
@@ -12,7 +12,7 @@ use rtk_captures::DatedSpan;
 use rtk_obs::{AnyCode, GpsMs, leap_seconds_at};
 use rtk_setup::LeapSeconds;
 use rtk_survey::CaptureSurvey;
-use rtk_systems::seconds_in_captures;
+use rtk_systems::{ClockSeconds, seconds_in_captures};
 use std::alloc::{AllocError, Global};
 
 /// The leap seconds that are given, else those of the table at a moment.
@@ -23,6 +23,26 @@ pub(crate) fn seconds_chosen(given: &Option<LeapSeconds>, near: GpsMs) -> u8
     match given {
         Some(given) => given.number(),
         None => leap_seconds_at(near),
+    }
+}
+
+fn number_if_any(given: &Option<LeapSeconds>) -> Option<u8>
+    ensures { result ≡ given.now }
+{
+    match given {
+        Some(given) => Some(given.number()),
+        None => None,
+    }
+}
+
+/// The leap seconds by which clocks are compared that are dated near a moment: those that are given, else those of the
+/// table on the day of each clock.
+pub(crate) fn seconds_compared(given: &Option<LeapSeconds>, near: GpsMs) -> ClockSeconds
+    ensures { result ≡ clock_seconds given.now near }
+{
+    ClockSeconds {
+        given: number_if_any(given),
+        near,
     }
 }
 

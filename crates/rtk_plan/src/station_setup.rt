@@ -15,7 +15,7 @@ ghost use Rattle.rtk_plan.specs.Steps.SetupParts.{HasSetupParts};
 ghost use Rattle.rtk_plan.specs.Plan.{codes_chosen};
 ghost use Rattle.rtk_systems.specs.Values.{codes_in_captures};
 
-use crate::setup_seconds::{has_glonass, seconds_chosen};
+use crate::setup_seconds::{has_glonass, seconds_chosen, seconds_compared};
 use crate::wanted::Wanted;
 use rtk_captures::{PlanFault, Refusal, refused};
 use rtk_message::{MsmKind, System};
@@ -42,8 +42,8 @@ fn systems_taken(
 ) -> Result<SystemFlags, AllocError>
     ensures { IfOk result (AreSystemsTaken surveys.now station wanted seconds.now near) }
 {
-    let leap_seconds = seconds_chosen(seconds, near);
-    let right = systems_with_clocks(alloc, surveys, station, leap_seconds)?;
+    let leap_seconds = seconds_compared(seconds, near);
+    let right = systems_with_clocks(alloc, surveys, station, &leap_seconds)?;
     Ok(wanted.both(right))
 }
 

@@ -1,16 +1,16 @@
 -- All frames and messages are taken alike, whatever came before.
-use Rattle.std.proofs.Common.{◌≡◌, ◌==◌, ℕ, Bool, true, false, cond, List, [], ◌∷◌, ◌++◌, Option, Result, Ok, Err, refl, sym, ap, ◌∙◌, eq-eqb, ne_eqb, arith}
+use Rattle.std.proofs.Common.{◌≡◌, ◌==◌, ℕ, true, false, List, [], ◌∷◌, ◌++◌, Option, Result, Ok, Err, refl, sym, ap, ◌∙◌, eq-eqb, ne_eqb, arith}
 use Rattle.std.specs.Prelude.{filter}
 use Rattle.std.specs.List.{filter_map}
 use Rattle.std.proofs.lemmas.Grind.{flat_map-append}
 use Rattle.std.proofs.lemmas.List.Elements.{filter-append, filter_map-append}
 use Rattle.rtk_message.specs.declared.any_message.AnyMessage.{AnyMessage}
 use Rattle.rtk_message.specs.declared.any_fault.AnyFault.{AnyFault}
-use Rattle.rtk_survey.specs.BesideGps.{messages_beside, cells_beside_gps, told_time_of, gives_value_beside}
+use Rattle.rtk_survey.specs.BesideGps.{is_part_numbered, cells_beside_gps, told_time_of, gives_value_beside}
 use Rattle.rtk_survey.specs.CountingLaws.{FramesAreTakenAlike, MessagesAreTakenAlike, ChangesAddUp, OtherTimeIsChange, EpochsAreChanges}
 use Rattle.rtk_survey.specs.Proposal.{gives_value, is_taken_with}
 use Rattle.rtk_survey.specs.ReadFrames.{ReadFrame, with_message, with_fault, messages_in, faults_in, is_of_station}
-use Rattle.rtk_survey.specs.Tracing.{is_numbered, is_gps_number, gps_time_of, times_of_week, newest_time, change_from, entries_of_message, entries_in}
+use Rattle.rtk_survey.specs.Tracing.{gps_time_of, times_of_week, newest_time, change_from, entries_of_message, entries_in}
 
 -- ---- frames and messages
 
@@ -33,14 +33,6 @@ faults-joined (f ∷ later) before = ap (λ (fs : List AnyFault). with_fault f.r
 pub frames-alike : FramesAreTakenAlike
 frames-alike later before = (messages-joined later before, faults-joined later before)
 
-beside-if : (b : Bool) (xs ys zs : List AnyMessage) → zs ≡ xs ++ ys → cond b [] zs ≡ cond b [] xs ++ cond b [] ys
-beside-if true xs ys zs joined = refl
-beside-if false xs ys zs joined = joined
-
-beside-joined : (n : ℕ) (later before : List AnyMessage) → messages_beside n (later ++ before) ≡ messages_beside n later ++ messages_beside n before
-beside-joined n later before =
-    beside-if (is_gps_number n) (filter (is_numbered n) later) (filter (is_numbered n) before) (filter (is_numbered n) (later ++ before)) (filter-append (is_numbered n) later before)
-
 pub messages-alike : MessagesAreTakenAlike
 messages-alike later before =
     record {
@@ -51,7 +43,7 @@ messages-alike later before =
       entries = flat_map-append entries_of_message later before;
       entries_taken = λ kind. ap (λ (ms : List AnyMessage). entries_in ms) (filter-append (is_taken_with kind) later before)
           ∙ flat_map-append entries_of_message (filter (is_taken_with kind) later) (filter (is_taken_with kind) before);
-      beside = λ n. beside-joined n later before;
+      beside = λ n. filter-append (is_part_numbered n) later before;
       times_beside_gps = ap (λ (ms : List AnyMessage). filter_map told_time_of ms) (filter-append gives_value_beside later before)
           ∙ filter_map-append told_time_of (filter gives_value_beside later) (filter gives_value_beside before);
       cells_beside_them = flat_map-append cells_beside_gps later before;

@@ -18,12 +18,6 @@ use Rattle.rtk_survey.proofs.TallyLemmas.{one-more, none-more}
 pub field-within : (slot field : ℕ) → slot < 28 → field < 14 → place_of_field slot field < 392
 field-within slot field low few = omega (arith, low, few)
 
--- two fields with one place are one field of one slot
-pub other-place : (s f slot field : ℕ) → f < 14 → field < 14 → (s ≡ slot → f ≢ field) → place_of_field s f ≢ place_of_field slot field
-other-place s f slot field few less other = λ same.
-    let one : s ≡ slot = omega (arith, few, less, same) in
-    other one (omega (arith, few, less, same, one))
-
 -- ---- tables
 
 -- a table of this length counts fields

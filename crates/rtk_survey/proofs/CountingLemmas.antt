@@ -20,7 +20,7 @@ use Rattle.rtk_message.specs.Systems.{number_of_type}
 use Rattle.rtk_survey.specs.BesideGps.{cells_beside, has_index, has_any_code}
 use Rattle.rtk_survey.specs.Chains.{clocks_of}
 use Rattle.rtk_survey.specs.Channels.{place_is_told}
-use Rattle.rtk_survey.specs.UncheckedClocks.{systems_sent, all_clock_lines}
+use Rattle.rtk_survey.specs.UncheckedClocks.{all_clock_lines}
 use Rattle.rtk_survey.specs.Counting.{count_of}
 use Rattle.rtk_survey.specs.CountingLaws.{IsReadMessage, EachFrameIsCounted, EachMessageIsCounted, StandsIn, PartsStand, StationsStand, ProposalsStand, UntakenStand}
 use Rattle.rtk_survey.specs.EquipmentHistory.{equipment_of}
@@ -31,7 +31,7 @@ use Rattle.rtk_survey.specs.NumberLaws.{IsHeld}
 use Rattle.rtk_survey.specs.Proposal.{epochs_in, times_with_value, epochs_with_value, entries_with}
 use Rattle.rtk_survey.specs.ReadFrames.{messages_read, ReadFrame, ReadsFrames, read_frame, with_message, with_fault, bytes_in, messages_in, faults_in, messages_from}
 use Rattle.rtk_survey.specs.NextCommand.{station_proposal}
-use Rattle.rtk_survey.specs.Summary.{all_numbers, size_lines, epochs_beside, taken_beside, glonass_beside, station_lines, lines_if_any, stations_text, weeks_text, system_weeks_text, unread_lines, summary_text}
+use Rattle.rtk_survey.specs.Summary.{all_numbers, size_lines, epochs_beside, taken_beside, glonass_beside, systems_clocked, station_lines, lines_if_any, stations_text, weeks_text, system_weeks_text, unread_lines, summary_text}
 use Rattle.rtk_survey.specs.SummaryText.{number_line, counted_line, numbered_line, message_numbers, message_lines, system_epoch_lines, channel_line, time_lines, look_line, near_text, signal_lines, all_codes_text, nothing_line, untaken_numbers}
 use Rattle.rtk_survey.specs.SystemTellings.{system_messages_in}
 use Rattle.rtk_survey.specs.declared.station_dates.StationDates.{StationDates}
@@ -216,7 +216,7 @@ proposals-stand name station ms d e held =
     ++ signal_lines (has_satellite (entries_in ms)) (has_code (entries_in ms)) (has_index (cells_beside ms)) (has_any_code (cells_beside ms))
     ++ system_epoch_lines (epochs_beside ms)
     ++ channel_line (place_is_told ms)
-    ++ all_clock_lines (proposed_date d) (systems_sent (has_code (entries_in ms)) (has_any_code (cells_beside ms))) (clocks_of ms).offsets in
+    ++ all_clock_lines (proposed_date d) (systems_clocked ms) (clocks_of ms).offsets in
     let whole = append-nil (station_lines name station ms d e) in
     subst (λ (epochs : MsmKind → ℕ). StandsIn (proposal epochs) (station_lines name station ms d e)) (epochs-are ms held) (lines, [], sym whole)
 

@@ -9,11 +9,12 @@ use Rattle.rtk_survey.specs.Counting.{shown_count, count_of}
 use Rattle.rtk_survey.specs.FrameDates.{dates_as, utc_if, earlier_or, first_date, date_count, station_dates, is_of_week}
 use Rattle.rtk_survey.specs.Telling.{is_date}
 use Rattle.rtk_survey.specs.declared.date_message.DateMessage.{DateMessage}
-use Rattle.rtk_survey.specs.declared.date_message.DateMessage.TheVariants.{Utc, Ephemeris}
+use Rattle.rtk_survey.specs.declared.date_message.DateMessage.TheVariants.{Utc, Ephemeris, OtherEphemeris}
 use Rattle.rtk_survey.specs.declared.date_message.EphemerisDate.{EphemerisDate}
 use Rattle.rtk_survey.specs.declared.date_message.UtcDate.{UtcDate}
 use Rattle.rtk_survey.specs.declared.station_dates.DateCount.{DateCount}
 use Rattle.rtk_survey.specs.declared.station_dates.StationDates.{StationDates}
+use Rattle.rtk_survey.specs.declared.system_message.SystemWeek.{SystemWeek}
 use Rattle.rtk_survey.proofs.TallyLemmas.{tally-more}
 
 -- ---- counts
@@ -100,6 +101,9 @@ same-dates-of station d ds other = same-dates station (Utc d) ds (other-date 101
 pub same-dates-without : (station : ℕ) (e : EphemerisDate) (ds : List DateMessage) → station_dates station (Ephemeris e ∷ ds) ≡ station_dates station ds
 same-dates-without station e ds = same-dates station (Ephemeris e) ds refl refl
 
+pub same-dates-beside : (station : ℕ) (w : SystemWeek) (ds : List DateMessage) → station_dates station (OtherEphemeris w ∷ ds) ≡ station_dates station ds
+same-dates-beside station w ds = same-dates station (OtherEphemeris w) ds refl refl
+
 -- ---- weeks
 
 pub weeks-more : (old new : BTreeMap ℕ ℕ) (e : EphemerisDate) (ds : List DateMessage) → count_at new e.week ≡ shown_count (count_at old e.week + 1)
@@ -108,3 +112,6 @@ weeks-more old new e ds own others counts = tally-more (λ n d. is_of_week n d) 
 
 pub weeks-same : (weeks : BTreeMap ℕ ℕ) (d : UtcDate) (ds : List DateMessage) → CountsWeeks weeks ds → CountsWeeks weeks (Utc d ∷ ds)
 weeks-same weeks d ds stand = λ n. stand n ∙ sym (count-other (is_of_week n) (Utc d) ds refl)
+
+pub weeks-same-beside : (weeks : BTreeMap ℕ ℕ) (w : SystemWeek) (ds : List DateMessage) → CountsWeeks weeks ds → CountsWeeks weeks (OtherEphemeris w ∷ ds)
+weeks-same-beside weeks w ds stand = λ n. stand n ∙ sym (count-other (is_of_week n) (OtherEphemeris w) ds refl)

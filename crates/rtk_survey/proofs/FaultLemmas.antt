@@ -2,27 +2,18 @@
 use Rattle.std.proofs.Common.{◌≡◌, ◌≢◌, ◌+◌, ℕ, List, ◌∷◌, refl}
 use Rattle.std.specs.BTreeMap.{BTreeMap}
 use Rattle.rtk_message.specs.declared.any_fault.AnyFault.{AnyFault}
-use Rattle.rtk_message.specs.declared.any_fault.AnyFault.TheVariants.{NoNumber, Other, Short, EpochRange, TooManyCells}
+use Rattle.rtk_message.specs.declared.any_fault.AnyFault.TheVariants.{Other, Short, EpochRange, TooManyCells}
 use Rattle.rtk_survey.specs.Contents.{CountsFaults, count_at}
 use Rattle.rtk_survey.specs.Counting.{shown_count}
 use Rattle.rtk_survey.specs.Tracing.{is_no_number, is_other, is_short, is_outside_week, is_too_many_cells}
 use Rattle.rtk_survey.specs.declared.unread.Unread.{Unread}
-use Rattle.rtk_survey.proofs.TallyLemmas.{one-more, none-more, tally-more, tally-same}
+use Rattle.rtk_survey.proofs.TallyLemmas.{none-more, tally-more, tally-same}
 
 -- the count of a number was raised: before, after
 abbrev pub Raises : BTreeMap ℕ ℕ → ℕ → BTreeMap ℕ ℕ → Type 0
 Raises old k new = (count_at new k ≡ shown_count (count_at old k + 1)) × ((n : ℕ) → n ≢ k → count_at new n ≡ count_at old n)
 
 module _ (u : Unread) (fs : List AnyFault) where
-  pub unnumbered-more : (count : ℕ) → count ≡ shown_count (u.no_number + 1) → CountsFaults u fs → CountsFaults (record u { no_number = count }) (NoNumber ∷ fs)
-  unnumbered-more count is had = record {
-    no_number = one-more is_no_number NoNumber fs u.no_number count refl had.no_number is;
-    others = tally-same is_other NoNumber fs u.others (λ n. refl) had.others;
-    short = tally-same is_short NoNumber fs u.short (λ n. refl) had.short;
-    outside_week = tally-same is_outside_week NoNumber fs u.outside_week (λ n. refl) had.outside_week;
-    too_many_cells = tally-same is_too_many_cells NoNumber fs u.too_many_cells (λ n. refl) had.too_many_cells;
-  }
-
   pub other-more : (k : ℕ) (m : BTreeMap ℕ ℕ) → Raises u.others k m → CountsFaults u fs → CountsFaults (record u { others = m }) (Other k ∷ fs)
   other-more k m raised had = record {
     no_number = none-more is_no_number (Other k) fs u.no_number refl had.no_number;

@@ -36,9 +36,6 @@ apart (a ∷ w) (b ∷ v) other = elim (cases_Bool (a == b)) [
 abbrev pub IsNotHeaded : List ℕ → List ℕ → Type 0
 IsNotHeaded w text = (rest : List ℕ) → text ≡ w ++ rest → ⊥
 
-pub not-headed : (w v s : List ℕ) → AreApart w v → IsNotHeaded w (v ++ s)
-not-headed w v s other = λ rest is. other rest s (sym is)
-
 longer : (w v u : List ℕ) → AreApart w v → AreApart w (v ++ u)
 longer w v u other = λ r q same. other r (u ++ q) (same ∙ append_assoc v u q)
 

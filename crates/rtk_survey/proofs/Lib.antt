@@ -20,11 +20,11 @@ pub mod MsmLemmas
 pub mod NamedLemmas
 pub mod NextLemmas
 pub mod PhaseLemmas
-pub mod PlacedLemmas
 pub mod PublicLaws
 pub mod PutLemmas
 pub mod ReadLemmas
 pub mod ResultLemmas
+pub mod SbasLemmas
 pub mod SignalLemmas
 pub mod StationLemmas
 pub mod SummaryTellingLemmas

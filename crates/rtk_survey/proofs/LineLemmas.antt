@@ -20,9 +20,9 @@ use Rattle.rtk_survey.specs.declared.equipment.Equipment.{Equipment}
 use Rattle.rtk_survey.specs.FrameDates.{proposed_date}
 use Rattle.rtk_survey.specs.FrameEquipment.{told_lines}
 use Rattle.rtk_survey.specs.Proposal.{epochs_with_value, entries_with}
-use Rattle.rtk_survey.specs.NextCommand.{station_proposal}
-use Rattle.rtk_survey.specs.Steps.OtherSystems.{glonass_held, taken_held}
-use Rattle.rtk_survey.specs.Summary.{all_numbers, epochs_beside, taken_beside, glonass_beside, station_lines}
+use Rattle.rtk_survey.specs.NextCommand.{with_own_sbas, station_proposal}
+use Rattle.rtk_survey.specs.Steps.OtherSystems.{glonass_held, taken_held, clocked_held}
+use Rattle.rtk_survey.specs.Summary.{all_numbers, epochs_beside, taken_beside, glonass_beside, systems_clocked, station_lines}
 use Rattle.rtk_survey.specs.SummaryText.{look_line, number_line, numbered_line, message_numbers, message_lines, system_epoch_lines, channel_line, list_line, time_lines, near_text, untaken_numbers, listed_satellite, satellites_text, listed_index, indices_text, joined_names, joined_texts, all_codes_text, words_text, auto_line, next_lines, signal_lines}
 use Rattle.std.specs.BTreeMap.{BTreeMap}
 use Rattle.rtk_survey.specs.Contents.{count_at, HasCodes, HasSignals, HasSystemSignals, HasSystems, IsStationOf, HasMsms, equipment_at, epochs_held, codes_held, times_of}
@@ -189,6 +189,12 @@ sent-are c s ms has others =
     ap (λ (t : Code → Bool). systems_sent t (any_codes_held s)) (codes-marked c (entries_in ms) has)
     ∙ ap (λ (t : AnyCode → Bool). systems_sent (has_code (entries_in ms)) t) (any-codes-marked s (cells_beside ms) others)
 
+clocked-are : (s : StationSurvey) (ms : List AnyMessage) → HasCodes s.signals.codes (entries_in ms) → HasSystemSignals s.system_signals (cells_beside ms) → HasSystems s.system_msm ms
+    → clocked_held s ≡ systems_clocked ms
+clocked-are s ms has others beside =
+    ap (λ (x : SystemsSent). with_own_sbas (system_epochs_held s) x) (sent-are s.signals.codes s.system_signals ms has others)
+    ∙ ap (λ (e : ℕ → ℕ). with_own_sbas e (systems_sent (has_code (entries_in ms)) (has_any_code (cells_beside ms)))) (epochs-beside-are s ms beside)
+
 -- ---- a station
 
 -- the command by what is held is that by the messages
@@ -234,7 +240,7 @@ lines_held name number s d e times =
     ++ signal_lines (λ n. get_or s.signals.satellites n false) (λ c. get_or s.signals.codes.marks (place_of c) false) (λ n. get_or s.system_signals.satellites n false) (λ c. get_or s.system_signals.codes (number_of c) false)
     ++ system_epoch_lines (system_epochs_held s)
     ++ channel_line (place_is_counted s.channels.items)
-    ++ all_clock_lines (proposed_date d) (systems_sent (λ c. get_or s.signals.codes.marks (place_of c) false) (λ c. get_or s.system_signals.codes (number_of c) false)) (clocks_at s.clocks).offsets
+    ++ all_clock_lines (proposed_date d) (clocked_held s) (clocks_at s.clocks).offsets
     ++ station_proposal name (near_text (proposed_date d)) number (epochs_held s.msm) (codes_held s.msm) (system_epochs_held s) (taken_held (proposed_date d) s) (glonass_held (proposed_date d) s)
 
 -- the lines of the counts of messages
@@ -260,8 +266,7 @@ station-lines-are name number s d e ms stands =
     let signals' : List ℕ = signal_lines (λ n. get_or s.signals.satellites n false) (λ c. get_or s.signals.codes.marks (place_of c) false) (λ n. get_or s.system_signals.satellites n false) (λ c. get_or s.system_signals.codes (number_of c) false) in
     let channels : List ℕ = channel_line (place_is_told ms) in
     let date = proposed_date d in
-    let sent : SystemsSent = systems_sent (has_code (entries_in ms)) (has_any_code (cells_beside ms)) in
-    let sent' : SystemsSent = systems_sent (λ c. get_or s.signals.codes.marks (place_of c) false) (λ c. get_or s.system_signals.codes (number_of c) false) in
+    let sent : SystemsSent = systems_clocked ms in
     let clocks : List ℕ = all_clock_lines date sent (clocks_of ms).offsets in
     let channels' : List ℕ = channel_line (place_is_counted s.channels.items) in
     let epochs' : List ℕ = system_epoch_lines (system_epochs_held s) in
@@ -270,8 +275,8 @@ station-lines-are name number s d e ms stands =
     ∙ ap (λ (t : ℕ → ℕ). head ++ messages' ++ times ++ dates ++ signals' ++ system_epoch_lines t ++ channels ++ clocks ++ proposal) (sym (epochs-beside-are s ms stands.system_msm))
     ∙ ap (λ (t : List ℕ). head ++ messages' ++ times ++ dates ++ signals' ++ epochs' ++ t ++ clocks ++ proposal) (sym (channel-line-is s.channels.items ms stands.channels))
     ∙ ap (λ (x : ClockSurvey). head ++ messages' ++ times ++ dates ++ signals' ++ epochs' ++ channels' ++ all_clock_lines date sent x.offsets ++ proposal) (sym stands.clocks)
-    ∙ ap (λ (x : SystemsSent). head ++ messages' ++ times ++ dates ++ signals' ++ epochs' ++ channels' ++ all_clock_lines date x (clocks_at s.clocks).offsets ++ proposal) (sym (sent-are s.signals.codes s.system_signals ms stands.signals.codes stands.system_signals))
-    ∙ ap (λ (t : List ℕ). head ++ messages' ++ times ++ dates ++ signals' ++ epochs' ++ channels' ++ all_clock_lines date sent' (clocks_at s.clocks).offsets ++ t) (sym (proposal-is name near number (proposed_date d) s ms stands.msm stands.system_msm stands.channels stands.clocks stands.times))
+    ∙ ap (λ (x : SystemsSent). head ++ messages' ++ times ++ dates ++ signals' ++ epochs' ++ channels' ++ all_clock_lines date x (clocks_at s.clocks).offsets ++ proposal) (sym (clocked-are s ms stands.signals.codes stands.system_signals stands.system_msm))
+    ∙ ap (λ (t : List ℕ). head ++ messages' ++ times ++ dates ++ signals' ++ epochs' ++ channels' ++ all_clock_lines date (clocked_held s) (clocks_at s.clocks).offsets ++ t) (sym (proposal-is name near number (proposed_date d) s ms stands.msm stands.system_msm stands.channels stands.clocks stands.times))
 
 -- ---- a file without a frame
 

@@ -1,11 +1,9 @@
 -- Lists of lines, one for each number.
-use Rattle.std.proofs.Common.{◌≡◌, ◌<◌, ◌+◌, ◌-◌, ◌==◌, ℕ, zero, suc, List, [], ◌∷◌, ◌++◌, length, take, drop, get_or, drop-cons, add-one, ap, sym, ◌∙◌, append_assoc, refl, arith}
+use Rattle.std.proofs.Common.{◌≡◌, ◌<◌, ◌+◌, ◌-◌, ℕ, zero, suc, List, [], ◌∷◌, ◌++◌, length, take, drop, get_or, drop-cons, add-one, ap, sym, ◌∙◌, append_assoc, refl, arith}
 use Rattle.std.proofs.lemmas.List.{append-nil, take_more}
 use Rattle.std.proofs.lemmas.Grind.{flat_map-append}
 use Rattle.std.specs.Prelude.{flat_map}
 use Rattle.std.specs.List.{range_with_len}
-use Rattle.std.proofs.Math.Dec.{eqb-suc-zero}
-use Rattle.rtk_survey.specs.Counting.{shown_count}
 
 range-suc : (a n : ℕ) → range_with_len a (suc n) ≡ range_with_len a n ++ (a + n) ∷ []
 range-suc a zero =
@@ -51,13 +49,6 @@ put-taken f xs i d before mid after within so_far more =
 -- a text, and then another one
 pub and-then : (l0 l1 l2 a b : List ℕ) → l1 ≡ l0 ++ a → l2 ≡ l1 ++ b → l2 ≡ l0 ++ (a ++ b)
 and-then l0 l1 l2 a b first second = second ∙ ap (λ t. t ++ b) first ∙ append_assoc l0 a b
-
--- a count is 0 as a summary shows it if it is 0
-pub shown-none : (n : ℕ) → (shown_count n == 0) ≡ (n == 0)
-shown-none zero = refl
-shown-none (suc n) =
-    let some : shown_count (suc n) ≡ suc (shown_count (suc n) - 1) = omega arith in
-    ap (λ (k : ℕ). k == 0) some ∙ eqb-suc-zero (shown_count (suc n) - 1) ∙ sym (eqb-suc-zero n)
 
 -- ---- what is left of a list
 

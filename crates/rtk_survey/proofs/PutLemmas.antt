@@ -10,7 +10,7 @@ four-parts old a b c d = ap (λ l. l ++ d) (three-parts old a b c) ∙ append_as
 pub five-parts : (old a b c d e : List ℕ) → ((((old ++ a) ++ b) ++ c) ++ d) ++ e ≡ old ++ ((((a ++ b) ++ c) ++ d) ++ e)
 five-parts old a b c d e = ap (λ l. l ++ e) (four-parts old a b c d) ∙ append_assoc old (((a ++ b) ++ c) ++ d) e
 
-pub six-parts : (old a b c d e f : List ℕ) → (((((old ++ a) ++ b) ++ c) ++ d) ++ e) ++ f ≡ old ++ (((((a ++ b) ++ c) ++ d) ++ e) ++ f)
+six-parts : (old a b c d e f : List ℕ) → (((((old ++ a) ++ b) ++ c) ++ d) ++ e) ++ f ≡ old ++ (((((a ++ b) ++ c) ++ d) ++ e) ++ f)
 six-parts old a b c d e f = ap (λ l. l ++ f) (five-parts old a b c d e) ∙ append_assoc old ((((a ++ b) ++ c) ++ d) ++ e) f
 
 pub seven-parts : (old a b c d e f g : List ℕ) → ((((((old ++ a) ++ b) ++ c) ++ d) ++ e) ++ f) ++ g ≡ old ++ ((((((a ++ b) ++ c) ++ d) ++ e) ++ f) ++ g)

@@ -12,14 +12,15 @@ use Rattle.rtk_survey.specs.EquipmentHistory.{no_equipment, equipment_of, with_m
 use Rattle.rtk_survey.specs.FrameDates.{no_station_dates, station_dates}
 use Rattle.rtk_survey.specs.ReadFrames.{messages_from, is_of_station}
 use Rattle.rtk_survey.specs.declared.date_message.DateMessage.{DateMessage}
-use Rattle.rtk_survey.specs.declared.date_message.DateMessage.TheVariants.{Utc, Ephemeris}
+use Rattle.rtk_survey.specs.declared.date_message.DateMessage.TheVariants.{Utc, Ephemeris, OtherEphemeris}
 use Rattle.rtk_survey.specs.declared.date_message.EphemerisDate.{EphemerisDate}
 use Rattle.rtk_survey.specs.declared.date_message.UtcDate.{UtcDate}
 use Rattle.rtk_survey.specs.declared.equipment.Equipment.{Equipment}
 use Rattle.rtk_survey.specs.declared.equipment_message.EquipmentMessage.{EquipmentMessage}
 use Rattle.rtk_survey.specs.declared.station.StationSurvey.{StationSurvey}
 use Rattle.rtk_survey.specs.declared.station_dates.StationDates.{StationDates}
-use Rattle.rtk_survey.proofs.DateLemmas.{same-dates-of, same-dates-without}
+use Rattle.rtk_survey.specs.declared.system_message.SystemWeek.{SystemWeek}
+use Rattle.rtk_survey.proofs.DateLemmas.{same-dates-of, same-dates-without, same-dates-beside}
 use Rattle.rtk_survey.proofs.MapLemmas.{put-one}
 
 -- a message of a station is one of its messages, and one of another is none
@@ -93,6 +94,11 @@ pub ephemeris-more : (m : BTreeMap ℕ StationSurvey) (e : EphemerisDate) (ms : 
     → AreStations ms ds es m → AreStations ms (Ephemeris e ∷ ds) es m
 ephemeris-more m e ms ds es all = λ n.
     subst (λ (d : StationDates). IsHeard (messages_from n ms) d (equipment_of n es) (get nat_cmp m n)) (sym (same-dates-without n e ds)) (all n)
+
+pub other-ephemeris-more : (m : BTreeMap ℕ StationSurvey) (w : SystemWeek) (ms : List AnyMessage) (ds : List DateMessage) (es : List EquipmentMessage)
+    → AreStations ms ds es m → AreStations ms (OtherEphemeris w ∷ ds) es m
+other-ephemeris-more m w ms ds es all = λ n.
+    subst (λ (d : StationDates). IsHeard (messages_from n ms) d (equipment_of n es) (get nat_cmp m n)) (sym (same-dates-beside n w ds)) (all n)
 
 -- none was heard
 pub no-stations : (m : BTreeMap ℕ StationSurvey) → m.entries ≡ [] → AreStations [] [] [] m

@@ -9,7 +9,7 @@ use Rattle.rtk_message.specs.declared.any_fault.AnyFault.{AnyFault}
 use Rattle.rtk_survey.specs.BesideGps.{cells_beside, has_index, has_any_code}
 use Rattle.rtk_survey.specs.Chains.{clocks_of}
 use Rattle.rtk_survey.specs.Channels.{place_is_told}
-use Rattle.rtk_survey.specs.UncheckedClocks.{systems_sent, all_clock_lines}
+use Rattle.rtk_survey.specs.UncheckedClocks.{all_clock_lines}
 use Rattle.rtk_survey.specs.Counting.{shown_count, count_of}
 use Rattle.rtk_survey.specs.NumberLaws.{SummaryTellsFrames, StationLinesTell, UnreadLinesTell}
 use Rattle.rtk_survey.specs.Proposal.{epochs_with_value, entries_with}
@@ -18,7 +18,7 @@ use Rattle.rtk_survey.specs.declared.equipment.Equipment.{Equipment}
 use Rattle.rtk_survey.specs.FrameDates.{dates_in, proposed_date}
 use Rattle.rtk_survey.specs.FrameEquipment.{equipment_among, told_lines}
 use Rattle.rtk_survey.specs.NextCommand.{station_proposal}
-use Rattle.rtk_survey.specs.Summary.{all_numbers, epochs_beside, taken_beside, glonass_beside, station_lines, stations_text, weeks_text, system_weeks_text, unread_lines, summary_text}
+use Rattle.rtk_survey.specs.Summary.{all_numbers, epochs_beside, taken_beside, glonass_beside, systems_clocked, station_lines, stations_text, weeks_text, system_weeks_text, unread_lines, summary_text}
 use Rattle.rtk_survey.specs.SystemTellings.{system_messages_in}
 use Rattle.rtk_survey.specs.declared.station_dates.StationDates.{StationDates}
 use Rattle.rtk_survey.specs.SummaryText.{number_line, counted_line, message_numbers, message_lines, system_epoch_lines, channel_line, time_lines, look_line, near_text, signal_lines, all_codes_text, nothing_line, untaken_numbers}
@@ -65,7 +65,7 @@ behind_times name station ms d e =
     told_lines d e ++ signal_lines (has_satellite (entries_in ms)) (has_code (entries_in ms)) (has_index (cells_beside ms)) (has_any_code (cells_beside ms))
     ++ system_epoch_lines (epochs_beside ms)
     ++ channel_line (place_is_told ms)
-    ++ all_clock_lines (proposed_date d) (systems_sent (has_code (entries_in ms)) (has_any_code (cells_beside ms))) (clocks_of ms).offsets
+    ++ all_clock_lines (proposed_date d) (systems_clocked ms) (clocks_of ms).offsets
     ++ station_proposal name (near_text (proposed_date d)) station (λ kind. epochs_with_value kind ms) (λ kind. has_code (entries_with kind ms)) (epochs_beside ms) (taken_beside (proposed_date d) ms) (glonass_beside (proposed_date d) ms)
 
 station-is : (name : List ℕ) (station : ℕ) (ms : List AnyMessage) (d : StationDates) (e : Equipment) → station_lines name station ms d e
@@ -76,7 +76,7 @@ unfolding station_lines message_lines behind_times
 station-is name station ms d e =
     grouped (number_line (codes "station ") station) (lines_by_number (codes " message ") (λ n. count_of (is_numbered n) ms) message_numbers)
     (time_lines (times_of_week ms)) (told_lines d e) (signal_lines (has_satellite (entries_in ms)) (has_code (entries_in ms)) (has_index (cells_beside ms)) (has_any_code (cells_beside ms)))
-    (system_epoch_lines (epochs_beside ms)) (channel_line (place_is_told ms)) (all_clock_lines (proposed_date d) (systems_sent (has_code (entries_in ms)) (has_any_code (cells_beside ms))) (clocks_of ms).offsets)
+    (system_epoch_lines (epochs_beside ms)) (channel_line (place_is_told ms)) (all_clock_lines (proposed_date d) (systems_clocked ms) (clocks_of ms).offsets)
     (station_proposal name (near_text (proposed_date d)) station (λ kind. epochs_with_value kind ms) (λ kind. has_code (entries_with kind ms)) (epochs_beside ms) (taken_beside (proposed_date d) ms) (glonass_beside (proposed_date d) ms))
 
 pub station-tells : StationLinesTell

@@ -1,6 +1,6 @@
 -- What a station has of other systems than GPS, one message after another.
 use Rattle.std.proofs.Common.{◌≡◌, ◌≢◌, ◌<◌, ◌+◌, ◌-◌, ◌==◌, ◌&&◌, ◌∙◌, ◌++◌, ℕ, ℤ, zero, suc, Bool, true, false, not, cond, List, [], ◌∷◌, Option, None, Some, length, take, get_or, replicate, refl, sym, ap, subst, inl, inr, ne_eqb, arith}
-use Rattle.std.specs.Prelude.{filter, nat_le}
+use Rattle.std.specs.Prelude.{◌||◌, filter, nat_le}
 use Rattle.std.specs.BTreeMap.{BTreeMap, get, is_at, Updates}
 use Rattle.std.specs.List.{AllByRecursion, filter_map, flat_map}
 use Rattle.std.specs.Map.{lookup}
@@ -8,6 +8,7 @@ use Rattle.std.specs.Option.{unwrap_or}
 use Rattle.std.specs.Ordering.{nat_cmp}
 use Rattle.std.proofs.Math.Path.{fun_ext}
 use Rattle.std.proofs.lemmas.Bool.{cases_eq, eq-eqb}
+use Rattle.std.proofs.lemmas.List.Elements.{filter_agree}
 use Rattle.std.proofs.lemmas.List.Sums.{length-filter}
 use Rattle.rtk_message.specs.declared.any_message.AnyMessage.{AnyMessage}
 use Rattle.rtk_message.specs.AnyDecoded.{number_of}
@@ -26,7 +27,7 @@ use Rattle.rtk_obs.specs.SatelliteIndex.{index_in}
 use Rattle.rtk_obs.specs.SignalCells.{unless_other, channel_in, bit_of_row, field_of_row, entry_if, signal_entry, signal_entries}
 use Rattle.rtk_obs.specs.Signals.{code_in}
 use Rattle.rtk_obs.proofs.PublicLaws.{number_below}
-use Rattle.rtk_survey.specs.BesideGps.{no_channels, is_beside_numbered, messages_beside, gives_index, gives_number, has_any_code, told_time_of, gives_value_beside, times_beside}
+use Rattle.rtk_survey.specs.BesideGps.{no_channels, is_beside_numbered, has_part_beside, is_part_numbered, messages_beside, gives_index, gives_number, has_any_code, told_time_of, gives_value_beside, times_beside}
 use Rattle.rtk_survey.specs.Contents.{count_at, CountsBeside, CountsMessages, HasMsms, HasSystemSignals, HasSystemMsm, IsMsmKept, HasSystems, messages_of_msm, epochs_of_msm}
 use Rattle.rtk_survey.specs.Steps.Tables.{messages_held, system_epochs_held}
 use Rattle.rtk_survey.specs.Counting.{shown_count, count_of}
@@ -110,46 +111,41 @@ times-without-value m ms fails =
 
 -- ---- messages by number
 
-nothing-if : (b : Bool) → ◌≡◌ {A = List AnyMessage} (cond b [] []) []
-nothing-if true = refl
-nothing-if false = refl
-
-none-beside : (n : ℕ) → messages_beside n [] ≡ []
-none-beside n = nothing-if (is_gps_number n)
-
-not-true : (b : Bool) → not b ≡ true → b ≡ false
-not-true true is = cc
-not-true false is = refl
-
-not-false : (b : Bool) → not b ≡ false → b ≡ true
-not-false true is = refl
-not-false false is = cc
+never-both : (b : Bool) → (b && false) ≡ false
+never-both true = refl
+never-both false = refl
 
 -- a message of a number is one of its messages
-beside-own : (k : ℕ) (m : AnyMessage) (ms : List AnyMessage) → k ≡ number_of m → is_beside_gps m ≡ true → messages_beside k (m ∷ ms) ≡ m ∷ messages_beside k ms
+beside-own : (k : ℕ) (m : AnyMessage) (ms : List AnyMessage) → k ≡ number_of m → has_part_beside m ≡ true → messages_beside k (m ∷ ms) ≡ m ∷ messages_beside k ms
 beside-own k m ms is beside =
-    let out : is_gps_number k ≡ false = ap is_gps_number is ∙ not-true (is_gps_number (number_of m)) beside in
     let yes : is_numbered k m ≡ true = eq-eqb (number_of m) k (sym is) in
-    let others : List AnyMessage = filter (is_numbered k) ms in
-    ap (λ (b : Bool). cond b [] (cond (is_numbered k m) (m ∷ others) others)) out
-    ∙ ap (λ (b : Bool). cond b (m ∷ others) others) yes
-    ∙ ap (λ (b : Bool). m ∷ cond b [] others) (sym out)
+    let others : List AnyMessage = messages_beside k ms in
+    ap (λ (b : Bool). cond (b && is_numbered k m) (m ∷ others) others) beside ∙ ap (λ (b : Bool). cond b (m ∷ others) others) yes
 
 -- and one of another number is none
 beside-other : (n : ℕ) (m : AnyMessage) (ms : List AnyMessage) → n ≢ number_of m → messages_beside n (m ∷ ms) ≡ messages_beside n ms
 beside-other n m ms other =
     let no : is_numbered n m ≡ false = ne_eqb (number_of m) n (λ same. other (sym same)) in
-    let others : List AnyMessage = filter (is_numbered n) ms in
-    ap (λ (b : Bool). cond (is_gps_number n) [] (cond b (m ∷ others) others)) no
+    let others : List AnyMessage = messages_beside n ms in
+    ap (λ (b : Bool). cond (has_part_beside m && b) (m ∷ others) others) no ∙ ap (λ (b : Bool). cond b (m ∷ others) others) (never-both (has_part_beside m))
 
--- nor is a message of GPS
-beside-none : (n : ℕ) (m : AnyMessage) (ms : List AnyMessage) → is_beside_gps m ≡ false → messages_beside n (m ∷ ms) ≡ messages_beside n ms
-beside-none n m ms inside = elim (cases_eq n (number_of m)) [
-  | inl same ↦
-      let gps : is_gps_number n ≡ true = ap is_gps_number same ∙ not-false (is_gps_number (number_of m)) inside in
-      ap (λ (b : Bool). cond b [] (filter (is_numbered n) (m ∷ ms))) gps ∙ ap (λ (b : Bool). cond b [] (filter (is_numbered n) ms)) (sym gps)
-  | inr other ↦ beside-other n m ms other
+-- nor is a message of GPS alone
+beside-none : (n : ℕ) (m : AnyMessage) (ms : List AnyMessage) → has_part_beside m ≡ false → messages_beside n (m ∷ ms) ≡ messages_beside n ms
+beside-none n m ms inside =
+    let others : List AnyMessage = messages_beside n ms in
+    ap (λ (b : Bool). cond (b && is_numbered n m) (m ∷ others) others) inside
+
+-- of a number that is none of GPS all messages count
+part-numbered : (n : ℕ) (m : AnyMessage) → is_gps_number n ≡ false → is_part_numbered n m ≡ is_numbered n m
+part-numbered n m out = elim (cases_eq (number_of m) n) [
+  | inl same ↦ ap (λ (b : Bool). (not b || gives_value_beside m) && is_numbered n m) (ap is_gps_number same ∙ out)
+  | inr other ↦
+      let no : is_numbered n m ≡ false = ne_eqb (number_of m) n other in
+      ap (λ (b : Bool). has_part_beside m && b) no ∙ never-both (has_part_beside m) ∙ sym no
 ]
+
+all-of-number : (n : ℕ) (ms : List AnyMessage) → is_gps_number n ≡ false → messages_beside n ms ≡ filter (is_numbered n) ms
+all-of-number n ms out = filter_agree (is_part_numbered n) (is_numbered n) (λ m. part-numbered n m out) ms
 
 -- what is held of a number is its entry, else a new one
 part-or-new : (own : List AnyMessage) (o : Option SystemMsm) (new : SystemMsm) → IsMsmKept own o → HasSystemMsm new [] → HasSystemMsm (unwrap_or o new) own
@@ -157,7 +153,7 @@ part-or-new own None new nothing begins = subst (λ (x : List AnyMessage). HasSy
 part-or-new own (Some p) new is begins = is
 
 module _ (m m' : BTreeMap ℕ SystemMsm) (old new fresh : SystemMsm) (ms : List AnyMessage) where
-  pub system-more : (x : AnyMessage) (k : ℕ) → k ≡ number_of x → is_beside_gps x ≡ true → old ≡ unwrap_or (get nat_cmp m k) fresh → HasSystemMsm fresh [] → Updates nat_cmp m m' k (Some new)
+  pub system-more : (x : AnyMessage) (k : ℕ) → k ≡ number_of x → has_part_beside x ≡ true → old ≡ unwrap_or (get nat_cmp m k) fresh → HasSystemMsm fresh [] → Updates nat_cmp m m' k (Some new)
       → ((own : List AnyMessage) → HasSystemMsm old own → HasSystemMsm new (x ∷ own)) → HasSystems m ms → HasSystems m' (x ∷ ms)
   system-more x k is beside was begins puts takes all =
       put-one (λ n o. IsMsmKept (messages_beside n ms) o) (λ n o. IsMsmKept (messages_beside n (x ∷ ms)) o) m m' k new puts
@@ -166,12 +162,12 @@ module _ (m m' : BTreeMap ℕ SystemMsm) (old new fresh : SystemMsm) (ms : List 
       (λ n other kept. subst (λ (own : List AnyMessage). IsMsmKept own (get nat_cmp m n)) (sym (beside-other n x ms (λ same. other (same ∙ sym is)))) kept)
       all
 
-pub system-same : (m : BTreeMap ℕ SystemMsm) (x : AnyMessage) (ms : List AnyMessage) → is_beside_gps x ≡ false → HasSystems m ms → HasSystems m (x ∷ ms)
+pub system-same : (m : BTreeMap ℕ SystemMsm) (x : AnyMessage) (ms : List AnyMessage) → has_part_beside x ≡ false → HasSystems m ms → HasSystems m (x ∷ ms)
 system-same m x ms inside all = λ n. subst (λ (own : List AnyMessage). IsMsmKept own (get nat_cmp m n)) (sym (beside-none n x ms inside)) (all n)
 
 pub no-systems-yet : (m : BTreeMap ℕ SystemMsm) → m.entries ≡ [] → HasSystems m []
 no-systems-yet m empty = λ n.
-    subst (λ (entries : List (ℕ × SystemMsm)). IsMsmKept (messages_beside n []) (lookup (is_at (nat_cmp n)) entries)) (sym empty) (none-beside n)
+    subst (λ (entries : List (ℕ × SystemMsm)). IsMsmKept (messages_beside n []) (lookup (is_at (nat_cmp n)) entries)) (sym empty) refl
 
 -- ---- counts
 
@@ -182,7 +178,7 @@ counted-of own (Some p) is = is.messages
 counted-beside : (n : ℕ) (parts : BTreeMap ℕ SystemMsm) (ms : List AnyMessage) → is_gps_number n ≡ false → HasSystems parts ms → messages_of_msm (get nat_cmp parts n) ≡ count_of (is_numbered n) ms
 counted-beside n parts ms out has =
     counted-of (messages_beside n ms) (get nat_cmp parts n) (has n)
-    ∙ ap (λ (b : Bool). shown_count (length (cond b [] (filter (is_numbered n) ms)))) out
+    ∙ ap (λ (own : List AnyMessage). shown_count (length own)) (all-of-number n ms out)
     ∙ ap shown_count (length-filter (is_numbered n) ms)
 
 epochs-of : (own : List AnyMessage) (o : Option SystemMsm) → IsMsmKept own o → epochs_of_msm o ≡ shown_count (epochs_in (times_beside own))

@@ -1,22 +1,17 @@
 -- The phases of the station of a conversion, and its dates.
 use Rattle.std.proofs.Common.{◌≡◌, ◌≢◌, ◌==◌, ◌&&◌, ℕ, Bool, true, false, cond, List, [], ◌∷◌, ◌++◌, Option, None, Some, refl, sym, ap, subst, ◌∙◌, inl, inr}
 use Rattle.std.specs.Prelude.{◌||◌, filter, length, unwrap_or}
-use Rattle.std.specs.List.{list_any}
 use Rattle.std.proofs.lemmas.Bool.{cases_Bool, cases_eq, eq-eqb, eqb-true}
 use Rattle.rtk_survey.specs.declared.date_message.DateMessage.{DateMessage}
 use Rattle.rtk_message.specs.declared.any_message.AnyMessage.{AnyMessage}
 use Rattle.rtk_message.specs.declared.any_message.AnyMessage.TheVariants as any
 use Rattle.rtk_message.specs.declared.message.Message.TheVariants.{Obs1004, Arp1005, Arp1006, Msm1074}
-use Rattle.rtk_message.specs.declared.system.System.{System}
-use Rattle.rtk_message.specs.declared.system.System.TheVariants.{Gps, Glonass, Galileo, Beidou, Qzss, Sbas, Navic}
 use Rattle.rtk_message.specs.AnyDecoded.{station_of, tow_of}
 use Rattle.rtk_obs.specs.declared.cell.CellEntry.{CellEntry}
-use Rattle.rtk_obs.specs.MsmCells.{if_gps, cell_of_msm, msm_entries}
 use Rattle.rtk_survey.specs.ReadFrames.{ReadFrame, messages_from}
 use Rattle.rtk_survey.specs.Tracing.{is_numbered, entries_in, entries_of_message}
 use Rattle.rtk_survey.specs.BesideGps.{gives_value_beside}
-use Rattle.rtk_survey.specs.Proposal.{entry_has_value}
-use Rattle.rtk_survey.specs.Targets.{IsAnswer, IsTargetOf, has_dating, system_of_message, observes_gps, observes, station_at, station_after, HasTargetPhases, with_time_of, with_observation, with_date_if_any, dates_of, parting_of}
+use Rattle.rtk_survey.specs.Targets.{IsAnswer, IsTargetOf, has_dating, system_beside, observes_gps, observes, station_at, station_after, HasTargetPhases, with_time_of, with_observation, with_date_if_any, dates_of, parting_of}
 use Rattle.rtk_survey.specs.Counting.{shown_count}
 use Rattle.rtk_survey.specs.Parting as parting
 use Rattle.rtk_survey.specs.Parting.{with_epochs}
@@ -58,26 +53,13 @@ phases-bare p m ms bare stand = record {
 }
 
 -- a message without an observation that dates has none of GPS, if GPS dates
-none-of : (gps other on : Bool) → on ≡ true → ((gps || other) && on) ≡ false → gps ≡ false
-none-of true other true dates bare = cc
-none-of true other false dates bare = cc
-none-of false other on dates bare = refl
-
--- and an MSM of another system has none
-bare-msm : (s : DatingSystems) (system : System) (cells : List CellEntry) (other : Bool) → s.gps ≡ true
-    → ((list_any entry_has_value (if_gps system cells) || other) && has_dating s system) ≡ false → list_any entry_has_value (if_gps system cells) ≡ false
-bare-msm s Gps cells other dates bare = none-of (list_any entry_has_value cells) other s.gps dates bare
-bare-msm s Glonass cells other dates bare = refl
-bare-msm s Galileo cells other dates bare = refl
-bare-msm s Beidou cells other dates bare = refl
-bare-msm s Qzss cells other dates bare = refl
-bare-msm s Sbas cells other dates bare = refl
-bare-msm s Navic cells other dates bare = refl
+none-of : (gps on other : Bool) → on ≡ true → ((gps && on) || other) ≡ false → gps ≡ false
+none-of true true other dates bare = cc
+none-of true false other dates bare = cc
+none-of false on other dates bare = refl
 
 bare-gps : (s : DatingSystems) (m : AnyMessage) → s.gps ≡ true → observes s m ≡ false → observes_gps m ≡ false
-bare-gps s (any.Message m) dates bare = none-of (observes_gps (any.Message m)) (gives_value_beside (any.Message m)) s.gps dates bare
-bare-gps s (any.Msm m) dates bare = bare-msm s m.system (msm_entries m.header m.cell_mask (cell_of_msm m)) (gives_value_beside (any.Msm m)) dates bare
-bare-gps s (any.Obs1012 m) dates bare = refl
+bare-gps s m dates bare = none-of (observes_gps m) s.gps (gives_value_beside m && has_dating s (system_beside m)) dates bare
 
 -- ---- the station that is known
 
@@ -192,10 +174,6 @@ pub answer-more : (q : Option Target) (fs more : List ReadFrame) (old new : Targ
     → IsAnswer q fs (Some old) → IsAnswer q more (Some new)
 answer-more None fs more old new step is = cc
 answer-more (Some t) fs more old new step is = step t is
-
-pub answer-none : (q : Option Target) (fs more : List ReadFrame) → IsAnswer q fs None → IsAnswer q more None
-answer-none None fs more is = is
-answer-none (Some t) fs more is = is
 
 -- ---- where a second date begins
 

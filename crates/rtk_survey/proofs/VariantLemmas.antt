@@ -1,6 +1,5 @@
 -- Messages of GPS and of other systems, by their variants.
-use Rattle.std.proofs.Common.{◌≡◌, ℕ, Bool, true, false, not, Option, None, cond, refl, ap, ◌∙◌}
-use Rattle.rtk_message.specs.declared.any_message.AnyMessage.{AnyMessage}
+use Rattle.std.proofs.Common.{◌≡◌, false, not, refl}
 use Rattle.rtk_message.specs.declared.any_message.AnyMessage.TheVariants as any
 use Rattle.rtk_message.specs.declared.message.Message.{Message}
 use Rattle.rtk_message.specs.declared.message.Message.TheVariants.{Obs1004, Arp1005, Arp1006, Msm1074}
@@ -9,10 +8,9 @@ use Rattle.rtk_message.specs.declared.msm_kind.MsmKind.{MsmKind}
 use Rattle.rtk_message.specs.declared.msm_kind.MsmKind.TheVariants.{Msm4, Msm5, Msm6, Msm7}
 use Rattle.rtk_message.specs.declared.system.System.{System}
 use Rattle.rtk_message.specs.declared.system.System.TheVariants.{Gps, Glonass, Galileo, Beidou, Qzss, Sbas, Navic}
-use Rattle.rtk_message.specs.AnyDecoded.{number_of, tow_of}
 use Rattle.rtk_message.specs.Systems.{number_of_type}
 use Rattle.rtk_survey.specs.BesideGps.{is_other_system}
-use Rattle.rtk_survey.specs.Tracing.{is_gps_number, is_beside_gps, gps_time_of}
+use Rattle.rtk_survey.specs.Tracing.{is_gps_number, is_beside_gps}
 
 -- the number of an MSM is one of GPS if it is of GPS
 by-type : (s : System) (k : MsmKind) → not (is_gps_number (number_of_type (record { system = s; kind = k }))) ≡ is_other_system s
@@ -53,19 +51,3 @@ beside-four (Msm1074 m) = refl
 
 pub beside-msm : (m : Msm) → is_beside_gps (any.Msm m) ≡ is_other_system m.system
 beside-msm m = by-type m.system m.kind
-
--- ---- the time of a message of GPS
-
-time-if : (gps : Bool) (t : Option ℕ) → not gps ≡ true → None ≡ cond gps t None
-time-if true t beside = cc
-time-if false t beside = refl
-
-time-unless : (gps : Bool) (t : Option ℕ) → not gps ≡ false → t ≡ cond gps t None
-time-unless true t inside = refl
-time-unless false t inside = cc
-
-pub no-time : (m : AnyMessage) → is_beside_gps m ≡ true → None ≡ gps_time_of m
-no-time m beside = time-if (is_gps_number (number_of m)) (tow_of m) beside
-
-pub own-time : (m : AnyMessage) → is_beside_gps m ≡ false → tow_of m ≡ gps_time_of m
-own-time m inside = time-unless (is_gps_number (number_of m)) (tow_of m) inside

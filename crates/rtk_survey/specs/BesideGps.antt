@@ -1,11 +1,13 @@
--- Messages of other systems than GPS: their times, and the satellites and codes of their cells.
+-- Messages of other systems than GPS, and SBAS of 1004: their times, and the satellites and codes of their cells.
 -- Lists of messages and entries are newest first.
--- Source: RTCM 10403.3, messages 1012, and 1081 to 1137
-use Rattle.std.specs.Prelude.{ℕ, ◌/◌, ◌%◌, ◌^◌, ◌==◌, ℤ, Bool, true, false, ◌&&◌, List, [], flat_map, filter, replicate, Option, None, Some, if◌then◌else◌}
+-- Source: RTCM 10403.3, messages 1004, 1012, and 1081 to 1137
+use Rattle.std.specs.Prelude.{ℕ, ◌/◌, ◌%◌, ◌^◌, ◌==◌, ℤ, Bool, true, false, ◌&&◌, ◌||◌, List, [], flat_map, filter, replicate, Option, None, Some, if◌then◌else◌}
 use Rattle.std.specs.List.{list_any, filter_map}
 use Rattle.rtk_message.specs.declared.any_message.AnyMessage.{AnyMessage}
 use Rattle.rtk_message.specs.declared.any_message.AnyMessage.TheVariants as any
 use Rattle.rtk_message.specs.Obs1012 as obs1012
+use Rattle.rtk_message.specs.declared.message.Message.{Message}
+use Rattle.rtk_message.specs.declared.message.Message.TheVariants.{Obs1004, Arp1005, Arp1006, Msm1074}
 use Rattle.rtk_message.specs.declared.system.System.{System}
 use Rattle.rtk_message.specs.declared.system.System.TheVariants.{Gps, Glonass, Galileo, Beidou, Qzss, Sbas, Navic}
 use Rattle.rtk_obs.specs.declared.any_code.AnyCode.{AnyCode}
@@ -14,16 +16,13 @@ use Rattle.rtk_obs.specs.AnyCode as any_code
 use Rattle.rtk_obs.specs.Clocks.{beidou_tow}
 use Rattle.rtk_obs.specs.GlonassCells.{entries_of_1012}
 use Rattle.rtk_obs.specs.GlonassTime.{glonass_tow}
+use Rattle.rtk_obs.specs.SbasCells.{signals_of_1004}
 use Rattle.rtk_obs.specs.SignalCells.{signal_entries}
-use Rattle.rtk_survey.specs.Tracing.{is_numbered, is_gps_number, is_beside_gps, has_value}
+use Rattle.rtk_survey.specs.Tracing.{is_numbered, is_beside_gps, has_value}
 
 -- a message of another system than GPS, of this number
 abbrev pub is_beside_numbered : ℕ → AnyMessage → Bool
 is_beside_numbered n m = is_beside_gps m && is_numbered n m
-
--- the messages of this number, if it is none of GPS
-abbrev pub messages_beside : ℕ → List AnyMessage → List AnyMessage
-messages_beside n ms = if is_gps_number n then [] else filter (is_numbered n) ms
 
 -- ---- satellites and codes
 
@@ -41,10 +40,21 @@ is_other_system Qzss = true
 is_other_system Sbas = true
 is_other_system Navic = true
 
--- the cells of a message of another system than GPS. Those of GLONASS have no phase: it would depend on the channels,
+-- a cell of another system than GPS
+abbrev pub is_beside_entry : SignalEntry → Bool
+is_beside_entry e = is_other_system (any_code.system_of e.code)
+
+-- the cells of satellites of SBAS in a 1004
+abbrev pub sbas_cells_of_four : Message → List SignalEntry
+sbas_cells_of_four (Obs1004 m) = filter is_beside_entry (signals_of_1004 m.satellites)
+sbas_cells_of_four (Arp1005 m) = []
+sbas_cells_of_four (Arp1006 m) = []
+sbas_cells_of_four (Msm1074 m) = []
+
+-- the cells of other systems than GPS of a message. Those of GLONASS have no phase: it would depend on the channels,
 -- which a capture need not tell
 abbrev pub cells_beside_gps : AnyMessage → List SignalEntry
-cells_beside_gps (any.Message m) = []
+cells_beside_gps (any.Message m) = sbas_cells_of_four m
 cells_beside_gps (any.Msm m) = if is_other_system m.system then signal_entries no_channels m else []
 cells_beside_gps (any.Obs1012 m) = entries_of_1012 no_channels m.satellites
 
@@ -88,10 +98,23 @@ told_time_of (any.Message m) = None
 told_time_of (any.Msm m) = Some (told_time m.system m.header.tow)
 told_time_of (any.Obs1012 m) = Some (told_time Glonass (obs1012.clock_of m))
 
--- a message of another system than GPS that has a cell with a range, a phase or a strength
+-- a message that has a cell of another system than GPS with a range, a phase or a strength
 abbrev pub gives_value_beside : AnyMessage → Bool
 gives_value_beside m = list_any signal_has_value (cells_beside_gps m)
 
--- the times of such messages
+-- the times of such messages; a 1004 tells the time of GPS, and has none here
 abbrev pub times_beside : List AnyMessage → List ℕ
 times_beside ms = filter_map told_time_of (filter gives_value_beside ms)
+
+-- ---- messages by number
+
+-- a message of another system than GPS, or one that gives a value of one: a 1004 in which a satellite of SBAS has a value
+abbrev pub has_part_beside : AnyMessage → Bool
+has_part_beside m = is_beside_gps m || gives_value_beside m
+
+abbrev pub is_part_numbered : ℕ → AnyMessage → Bool
+is_part_numbered n m = has_part_beside m && is_numbered n m
+
+-- such messages of this number
+abbrev pub messages_beside : ℕ → List AnyMessage → List AnyMessage
+messages_beside n ms = filter (is_part_numbered n) ms

@@ -1,13 +1,13 @@
 -- What a capture tells of the moment of its first epoch (this project's rule).
-use Rattle.std.specs.Prelude.{ℕ, ◌+◌, ◌-◌, ◌==◌, Bool, true, false, ◌&&◌, nat_le, nat_lt, List, [], ◌∷◌, ◌++◌, length, Option, None, Some, if◌then◌else◌}
+use Rattle.std.specs.Prelude.{ℕ, ◌+◌, ◌-◌, ◌*◌, ◌%◌, ◌==◌, Bool, true, false, ◌&&◌, nat_le, nat_lt, List, [], ◌∷◌, ◌++◌, length, Option, None, Some, if◌then◌else◌}
 use Rattle.std.specs.List.{list_any}
 use Rattle.arrayvec.specs.ArrayVec.{ArrayVec}
 use Rattle.rtk_message.specs.Fields.{week_ms}
 use Rattle.rtk_survey.specs.Epochs.{with_time, begun, last_time_of_week}
-use Rattle.rtk_survey.specs.Telling.{told, own_moment}
+use Rattle.rtk_survey.specs.Telling.{half_week_ms, told, own_moment}
 use Rattle.rtk_survey.specs.declared.capture_dates.CaptureDates.{CaptureDates}
 use Rattle.rtk_survey.specs.declared.date_message.DateMessage.{DateMessage}
-use Rattle.rtk_survey.specs.declared.date_message.DateMessage.TheVariants.{Utc, Ephemeris}
+use Rattle.rtk_survey.specs.declared.date_message.DateMessage.TheVariants.{Utc, Ephemeris, OtherEphemeris}
 use Rattle.rtk_survey.specs.declared.span.Span.{Span}
 use Rattle.rtk_survey.specs.declared.tellings.Told.{Told}
 use Rattle.rtk_survey.specs.declared.tellings.Tellings.{Tellings}
@@ -44,12 +44,13 @@ with_told list x =
 abbrev pub told_first : DateMessage → ℕ → Told
 told_first d first = record { message = d; first = first }
 
--- dates of the station, those of ephemerides, and dates of other stations stand apart
+-- dates of the station, those of ephemerides of GPS and of other systems, and dates of other stations stand apart
 abbrev pub with_first : ℕ → DateMessage → ℕ → Tellings → Tellings
 with_first station (Utc d) first t =
     if d.station == station then record t { own = with_told t.own (told_first (Utc d) first) }
     else record t { others = with_told t.others (told_first (Utc d) first) }
 with_first station (Ephemeris e) first t = record t { weeks = with_told t.weeks (told_first (Ephemeris e) first) }
+with_first station (OtherEphemeris w) first t = record t { system_weeks = with_told t.system_weeks (told_first (OtherEphemeris w) first) }
 
 abbrev pub with_first_if_any : ℕ → DateMessage → Option ℕ → Tellings → Tellings
 with_first_if_any station d None t = t
@@ -65,21 +66,39 @@ with_tellings now station s [] t = t
 with_tellings now station s (d ∷ ds) t = with_tellings now station s ds (with_telling now station s d t)
 
 abbrev pub no_tellings : Tellings
-no_tellings = record { own = record { items = [] }; weeks = record { items = [] }; others = record { items = [] } }
+no_tellings =
+    record { own = record { items = [] }; weeks = record { items = [] }; system_weeks = record { items = [] }; others = record { items = [] } }
 
 -- ---- the capture so far
 
 abbrev pub no_dates : CaptureDates
-no_dates = record { span = None; waiting = record { items = [] }; told = no_tellings }
+no_dates = record { span = None; waiting = record { items = [] }; waiting_weeks = record { items = [] }; told = no_tellings }
 
 -- constant
 -- a message before the first epoch waits for it; 64 wait at most, and others are passed over
+abbrev pub with_waiting_date : CaptureDates → DateMessage → CaptureDates
+with_waiting_date c d = if nat_lt (length c.waiting.items) 64 then record c { waiting = record { items = c.waiting.items ++ d ∷ [] } } else c
+
+-- constant
+-- ephemerides of other systems than GPS wait apart from these, 16 at most, so that they take the place of none
+abbrev pub with_waiting_week : CaptureDates → DateMessage → CaptureDates
+with_waiting_week c d =
+    if nat_lt (length c.waiting_weeks.items) 16 then record c { waiting_weeks = record { items = c.waiting_weeks.items ++ d ∷ [] } } else c
+
 abbrev pub with_waiting : CaptureDates → DateMessage → CaptureDates
-with_waiting c d = if nat_lt (length c.waiting.items) 64 then record c { waiting = record { items = c.waiting.items ++ d ∷ [] } } else c
+with_waiting c (Utc d) = with_waiting_date c (Utc d)
+with_waiting c (Ephemeris e) = with_waiting_date c (Ephemeris e)
+with_waiting c (OtherEphemeris w) = with_waiting_week c (OtherEphemeris w)
 
 -- the first epoch of the station, which the messages that wait tell
 abbrev pub with_first_epoch : ℕ → ℕ → CaptureDates → Span → CaptureDates
-with_first_epoch now station c s = record { span = Some s; waiting = record { items = [] }; told = with_tellings now station s c.waiting.items c.told }
+with_first_epoch now station c s =
+    record {
+      span = Some s;
+      waiting = record { items = [] };
+      waiting_weeks = record { items = [] };
+      told = with_tellings now station s c.waiting_weeks.items (with_tellings now station s c.waiting.items c.told);
+    }
 
 -- after some epochs, or none: the time of week of an epoch more of the station
 abbrev pub with_epoch_after : ℕ → ℕ → Option Span → CaptureDates → ℕ → CaptureDates
@@ -108,6 +127,7 @@ first_if_own true now s d = first_epoch_told now s d
 abbrev pub is_own : ℕ → DateMessage → Bool
 is_own station (Utc d) = d.station == station
 is_own station (Ephemeris e) = false
+is_own station (OtherEphemeris w) = false
 
 -- the first epoch that a message tells, if it is a 1013 or a 1029 of this station and an epoch came
 abbrev pub first_by_own_after : ℕ → ℕ → Option Span → DateMessage → Option ℕ
@@ -124,9 +144,28 @@ abbrev pub or_else : List Told → List Told → List Told
 or_else [] others = others
 or_else (x ∷ xs) others = x ∷ xs
 
--- the dates of the station; if there are none, those of ephemerides; if none, those of other stations
+-- constant
+-- a week of GPS tells the moment that a week of another system tells, within half a week, but for one or more times
+-- the 1,024 weeks after which the week of GPS (DF076) begins anew
+abbrev pub is_rolled_over : Told → Told → Bool
+is_rolled_over s w =
+    nat_le week_ms (w.first - s.first)
+    && nat_lt (((w.first - s.first) % (1024 * week_ms) + half_week_ms) % (1024 * week_ms)) week_ms
+
+abbrev pub is_one_rolled_over : List Told → Told → Bool
+is_one_rolled_over ws s = list_any (is_rolled_over s) ws
+
+-- a week of another system tells which of the moments 1,024 weeks apart a week of GPS means, and it is not the latest
+abbrev pub do_system_weeks_decide : Tellings → Bool
+do_system_weeks_decide t = list_any (is_one_rolled_over t.weeks.items) t.system_weeks.items
+
+-- the dates of the station; if there are none, those of ephemerides of GPS; if none, those of other stations; if none,
+-- those of ephemerides of other systems; these count before ephemerides of GPS if they tell that the week of GPS is
+-- an earlier one
 abbrev pub counting : Tellings → List Told
-counting t = or_else t.own.items (or_else t.weeks.items t.others.items)
+counting t =
+    or_else t.own.items
+    (if do_system_weeks_decide t then t.system_weeks.items else or_else t.weeks.items (or_else t.others.items t.system_weeks.items))
 
 -- ---- a capture without an epoch
 
@@ -159,9 +198,10 @@ with_own_moments now station [] t = t
 with_own_moments now station (d ∷ ds) t = with_own_moments now station ds (with_own_moment now station d t)
 
 -- the earliest moment of those that these messages name and that count, chosen as among first epochs
-abbrev pub own_moment_after : ℕ → ℕ → Option Span → List DateMessage → Option Told
-own_moment_after now station None ds = earliest_telling (counting (with_own_moments now station ds no_tellings))
-own_moment_after now station (Some s) ds = None
+abbrev pub own_moment_after : ℕ → ℕ → Option Span → List DateMessage → List DateMessage → Option Told
+own_moment_after now station None ds ws =
+    earliest_telling (counting (with_own_moments now station ws (with_own_moments now station ds no_tellings)))
+own_moment_after now station (Some s) ds ws = None
 
 abbrev pub own_moment_of : ℕ → ℕ → CaptureDates → Option Told
-own_moment_of now station c = own_moment_after now station c.span c.waiting.items
+own_moment_of now station c = own_moment_after now station c.span c.waiting.items c.waiting_weeks.items

@@ -2,7 +2,7 @@
 -- multiple-message bit (DF393, DF005) is 0, and the next one begins behind it. Lists of messages are newest first, and
 -- lists of clocks and offsets are in the order of the capture.
 -- Source: RTCM 10403.3, DF005, DF034, DF393 and DF416; which clocks are compared is this project's rule
-use Rattle.std.specs.Prelude.{ℕ, suc, ◌+◌, ◌-◌, ◌/◌, ◌%◌, ◌^◌, ◌==◌, Bool, true, false, not, nat_le, nat_lt, List, [], ◌∷◌, ◌++◌, length, set, get_or, Option, None, Some, if◌then◌else◌}
+use Rattle.std.specs.Prelude.{ℕ, suc, ◌+◌, ◌-◌, ◌/◌, ◌%◌, ◌^◌, ◌==◌, Bool, true, false, not, ◌&&◌, nat_le, nat_lt, List, [], ◌∷◌, ◌++◌, length, set, get_or, Option, None, Some, if◌then◌else◌}
 use Rattle.std.specs.declared.vec.Vec.{Vec}
 use Rattle.arrayvec.specs.ArrayVec.{ArrayVec}
 use Rattle.rtk_message.specs.Fields.{week_ms}
@@ -21,6 +21,7 @@ use Rattle.rtk_survey.specs.declared.clock_chains.ClockOffset.{ClockOffset}
 use Rattle.rtk_survey.specs.declared.clock_chains.ClockOffsets.{ClockOffsets}
 use Rattle.rtk_survey.specs.declared.clock_chains.ClockSurvey.{ClockSurvey}
 use Rattle.rtk_survey.specs.declared.clock_chains.ClockTold.{ClockTold}
+use Rattle.rtk_survey.specs.declared.clock_chains.DayOffset.{DayOffset}
 
 -- ---- the clock of a message
 
@@ -132,15 +133,57 @@ with_counted_at None ahead list = if nat_lt (length list.items) 8 then record { 
 abbrev pub with_counted : ℕ → ArrayVec ClockOffset → ArrayVec ClockOffset
 with_counted ahead list = with_counted_at (offset_place 0 ahead list.items) ahead list
 
+-- ---- the days of GLONASS
+
+-- formula
+-- the day of the week that a clock tells which is ahead by this of a time of week: of UTC, which clocks of GLONASS tell
+-- here. A leap second comes between two such days
+abbrev pub day_of_clock : ℕ → ℕ → ℕ
+day_of_clock base ahead = (base + ahead) % week_ms / day_ms
+
+abbrev pub is_of_day : ℕ → ℕ → DayOffset → Bool
+is_of_day day ahead o = o.day == day && o.ahead_ms == ahead
+
+-- the place of an offset on a day, the first of which has this place
+abbrev pub day_place : ℕ → ℕ → ℕ → List DayOffset → Option ℕ
+day_place k day ahead [] = None
+day_place k day ahead (o ∷ os) = if is_of_day day ahead o then Some k else day_place (suc k) day ahead os
+
+abbrev pub counted_day : DayOffset → DayOffset
+counted_day o = record { day = o.day; ahead_ms = o.ahead_ms; count = shown_count (o.count + 1) }
+
+abbrev pub new_day : ℕ → ℕ → DayOffset
+new_day day ahead = record { day = day; ahead_ms = ahead; count = 1 }
+
+-- constant
+-- an offset that is known on its day counts there; the first 16 that differ are kept
+abbrev pub with_day_counted_at : Option ℕ → ℕ → ℕ → ArrayVec DayOffset → ArrayVec DayOffset
+with_day_counted_at (Some k) day ahead list = record { items = set list.items k (counted_day (get_or list.items k (new_day day ahead))) }
+with_day_counted_at None day ahead list = if nat_lt (length list.items) 16 then record { items = list.items ++ new_day day ahead ∷ [] } else list
+
+abbrev pub with_day_counted : ℕ → ℕ → ArrayVec DayOffset → ArrayVec DayOffset
+with_day_counted day ahead list = with_day_counted_at (day_place 0 day ahead list.items) day ahead list
+
+-- a clock of GLONASS more, which is ahead by this of a time of week
+abbrev pub with_glonass : ℕ → ℕ → ClockOffsets → ClockOffsets
+with_glonass base ahead s =
+    record s {
+      glonass = with_counted ahead s.glonass;
+      glonass_days = with_day_counted (day_of_clock base ahead) ahead s.glonass_days;
+    }
+
+-- ---- all systems
+
 -- table
-abbrev pub with_ahead : System → ℕ → ClockOffsets → ClockOffsets
-with_ahead Gps ahead s = record s { gps = with_counted ahead s.gps }
-with_ahead Glonass ahead s = record s { glonass = with_counted ahead s.glonass }
-with_ahead Galileo ahead s = record s { galileo = with_counted ahead s.galileo }
-with_ahead Beidou ahead s = record s { beidou = with_counted ahead s.beidou }
-with_ahead Qzss ahead s = record s { qzss = with_counted ahead s.qzss }
-with_ahead Sbas ahead s = record s { sbas = with_counted ahead s.sbas }
-with_ahead Navic ahead s = record s { navic = with_counted ahead s.navic }
+-- a clock of a system more, which is ahead by this of a time of week
+abbrev pub with_ahead : System → ℕ → ℕ → ClockOffsets → ClockOffsets
+with_ahead Gps base ahead s = record s { gps = with_counted ahead s.gps }
+with_ahead Glonass base ahead s = with_glonass base ahead s
+with_ahead Galileo base ahead s = record s { galileo = with_counted ahead s.galileo }
+with_ahead Beidou base ahead s = record s { beidou = with_counted ahead s.beidou }
+with_ahead Qzss base ahead s = record s { qzss = with_counted ahead s.qzss }
+with_ahead Sbas base ahead s = record s { sbas = with_counted ahead s.sbas }
+with_ahead Navic base ahead s = record s { navic = with_counted ahead s.navic }
 
 -- table
 -- the offsets of a system
@@ -154,7 +197,7 @@ offsets_of s Sbas = s.sbas.items
 offsets_of s Navic = s.navic.items
 
 abbrev pub with_offset : ℕ → ClockTold → ClockOffsets → ClockOffsets
-with_offset base c s = with_ahead c.system (clock_ahead base c) s
+with_offset base c s = with_ahead c.system base (clock_ahead base c) s
 
 -- the offsets of some clocks more
 abbrev pub with_compared : ℕ → List ClockTold → ClockOffsets → ClockOffsets
@@ -186,6 +229,7 @@ no_offsets =
       qzss = record { items = [] };
       sbas = record { items = [] };
       navic = record { items = [] };
+      glonass_days = record { items = [] };
     }
 
 abbrev pub no_clocks : ClockSurvey

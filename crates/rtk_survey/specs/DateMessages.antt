@@ -1,12 +1,13 @@
 -- The messages that tell a date, by the places of their fields (RTCM 10403.3): a 1013 and a 1029 tell
--- a day and a second of the day (UTC), a 1019 the week and the reference time of an ephemeris. The
--- first bit of a payload has the place 0.
+-- a day and a second of the day (UTC), a 1019 the week and the reference time of an ephemeris of GPS, a
+-- 1042 those of BeiDou, a 1045 and a 1046 those of Galileo. The first bit of a payload has the place 0.
 use Rattle.std.specs.Prelude.{ℕ, ◌+◌, ◌*◌, ◌==◌, Bool, List, length, take, drop, Option, None, Some, nat_lt, if◌then◌else◌}
 use Rattle.rtk_bits.specs.Bits.{unsigned}
 use Rattle.rtk_survey.specs.declared.date_message.DateMessage.{DateMessage}
-use Rattle.rtk_survey.specs.declared.date_message.DateMessage.TheVariants.{Utc, Ephemeris}
+use Rattle.rtk_survey.specs.declared.date_message.DateMessage.TheVariants.{Utc, Ephemeris, OtherEphemeris}
 use Rattle.rtk_survey.specs.declared.date_message.EphemerisDate.{EphemerisDate}
 use Rattle.rtk_survey.specs.declared.date_message.UtcDate.{UtcDate}
+use Rattle.rtk_survey.specs.declared.system_message.SystemWeek.{SystemWeek}
 
 -- formula
 -- the unsigned number of `width` bits from a place on
@@ -33,6 +34,18 @@ size_of_1029 bs = 72 + 8 * unsigned_at 64 8 bs
 abbrev pub ephemeris_at : List Bool → EphemerisDate
 ephemeris_at bs = record { satellite = unsigned_at 12 6 bs; week = unsigned_at 18 10 bs; reference_time_s = 16 * unsigned_at 288 16 bs }
 
+-- formula
+-- what a 1042 tells: DF488, DF489 and DF505, whose unit is 8 s
+abbrev pub beidou_week_at : List Bool → SystemWeek
+beidou_week_at bs =
+    record { number = 1042; satellite = unsigned_at 12 6 bs; week = unsigned_at 18 13 bs; reference_time_s = 8 * unsigned_at 299 17 bs }
+
+-- formula
+-- what a 1045 or a 1046 tells: DF252, DF289 and DF304, whose unit is 60 s
+abbrev pub galileo_week_at : ℕ → List Bool → SystemWeek
+galileo_week_at number bs =
+    record { number = number; satellite = unsigned_at 12 6 bs; week = unsigned_at 18 12 bs; reference_time_s = 60 * unsigned_at 294 14 bs }
+
 -- a message that is cut short tells nothing
 abbrev pub if_whole : ℕ → List Bool → DateMessage → Option DateMessage
 if_whole size bs date = if nat_lt (length bs) size then None else Some date
@@ -43,7 +56,10 @@ abbrev pub date_numbered : ℕ → List Bool → Option DateMessage
 date_numbered number bs =
     if number == 1013 then if_whole (size_of_1013 bs) bs (Utc (utc_at 1013 bs)) else
     if number == 1029 then if_whole (size_of_1029 bs) bs (Utc (utc_at 1029 bs)) else
-    if number == 1019 then if_whole 488 bs (Ephemeris (ephemeris_at bs)) else None
+    if number == 1019 then if_whole 488 bs (Ephemeris (ephemeris_at bs)) else
+    if number == 1042 then if_whole 511 bs (OtherEphemeris (beidou_week_at bs)) else
+    if number == 1045 then if_whole 496 bs (OtherEphemeris (galileo_week_at 1045 bs)) else
+    if number == 1046 then if_whole 504 bs (OtherEphemeris (galileo_week_at 1046 bs)) else None
 
 -- the message that tells a date, if the bits begin with one; its number is DF002
 abbrev pub date_in : List Bool → Option DateMessage

@@ -8,14 +8,14 @@ use Rattle.rtk_message.specs.declared.any_fault.AnyFault.{AnyFault}
 use Rattle.rtk_survey.specs.DateMessages.{date_in}
 use Rattle.rtk_survey.specs.Telling.{is_date}
 use Rattle.rtk_survey.specs.declared.date_message.DateMessage.{DateMessage}
-use Rattle.rtk_survey.specs.declared.date_message.DateMessage.TheVariants.{Utc, Ephemeris}
+use Rattle.rtk_survey.specs.declared.date_message.DateMessage.TheVariants.{Utc, Ephemeris, OtherEphemeris}
 use Rattle.rtk_survey.specs.declared.date_message.UtcDate.{UtcDate}
 use Rattle.rtk_survey.specs.Counting.{count_of}
 use Rattle.rtk_survey.specs.ReadFrames.{ReadFrame}
 use Rattle.rtk_survey.specs.declared.station_dates.DateCount.{DateCount}
 use Rattle.rtk_survey.specs.declared.station_dates.StationDates.{StationDates}
 
--- a frame tells a date if it is no message that is read, and a 1013, 1029 or 1019
+-- a frame tells a date if it is no message that is read, and a 1013, 1029, 1019, 1042, 1045 or 1046
 abbrev pub date_of_reading : List ℕ → Result AnyMessage AnyFault → Option DateMessage
 date_of_reading payload (Ok m) = None
 date_of_reading payload (Err fault) = date_in (bits payload)
@@ -33,11 +33,13 @@ dates_in fs = filter_map date_of_frame fs
 abbrev pub dates_as : ℕ → ℕ → DateMessage → Bool
 dates_as number station (Utc d) = is_date d && ((d.number == number) && (d.station == station))
 dates_as number station (Ephemeris e) = false
+dates_as number station (OtherEphemeris w) = false
 
 abbrev pub utc_if : Bool → DateMessage → Option UtcDate
 utc_if false d = None
 utc_if true (Utc d) = Some d
 utc_if true (Ephemeris e) = None
+utc_if true (OtherEphemeris w) = None
 
 -- the first date, if there is one, else a later one
 abbrev pub earlier_or : Option UtcDate → Option UtcDate → Option UtcDate
@@ -78,3 +80,4 @@ proposed_date d = earlier_or d.of_1013.first d.of_1029.first
 abbrev pub is_of_week : ℕ → DateMessage → Bool
 is_of_week week (Utc d) = false
 is_of_week week (Ephemeris e) = e.week == week
+is_of_week week (OtherEphemeris w) = false

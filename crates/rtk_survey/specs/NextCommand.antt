@@ -38,6 +38,16 @@ kind_by epochs system = proposed (epochs_by epochs system)
 abbrev pub number_by : (ℕ → ℕ) → System → ℕ
 number_by epochs system = msm_number system (kind_by epochs system)
 
+-- ---- the systems with clocks
+
+-- an MSM of a system has an epoch with a value
+abbrev pub sends_msm : (ℕ → ℕ) → System → Bool
+sends_msm epochs system = nat_lt 0 (epochs (number_by epochs system))
+
+-- SBAS has clocks by its MSM alone: a 1004 has that of GPS
+abbrev pub with_own_sbas : (ℕ → ℕ) → SystemsSent → SystemsSent
+with_own_sbas epochs sent = record sent { sbas = sends_msm epochs Sbas }
+
 -- ---- 1012
 
 -- formula
@@ -49,7 +59,7 @@ abbrev pub is_time_near_if_any : ℕ → Option ℕ → Bool
 is_time_near_if_any near None = false
 is_time_near_if_any near (Some tow) = is_time_near near tow
 
--- 1012, which tell no day, are dated right near a date: the first and the last time of week of GPS lie within half a day of it
+-- 1012, which tell no day, are dated right near a date: the first and the last GPS time of week lie within half a day of it
 abbrev pub dates_1012 : Option UtcDate → Option ℕ → Option ℕ → Bool
 dates_1012 None first last = false
 dates_1012 (Some d) first last = is_time_near_if_any (moment_of d) first && is_time_near_if_any (moment_of d) last
@@ -72,9 +82,14 @@ takes_code date s epochs code c system = not (is_system_wrong date s system) && 
 abbrev pub takes_code_1012 : Option UtcDate → ClockOffsets → (ℕ → AnyCode → Bool) → AnyCode → Bool
 takes_code_1012 date s code c = not (is_system_wrong date s Glonass) && code 1012 c
 
+-- a code has a value of a satellite of SBAS in 1004, if clocks of SBAS are not wrong
+abbrev pub takes_code_1004 : Option UtcDate → ClockOffsets → (ℕ → AnyCode → Bool) → AnyCode → Bool
+takes_code_1004 date s code c = not (is_system_wrong date s Sbas) && code 1004 c
+
 -- the codes of other systems than GPS that the command takes, with 1012 or without them
 unfoldable pub other_taken : Option UtcDate → ClockOffsets → (ℕ → ℕ) → (ℕ → AnyCode → Bool) → Bool → AnyCode → Bool
-other_taken date s epochs code legacy c = (legacy && takes_code_1012 date s code c) || list_any (takes_code date s epochs code c) systems_beside
+other_taken date s epochs code legacy c =
+    (legacy && takes_code_1012 date s code c) || (takes_code_1004 date s code c || list_any (takes_code date s epochs code c) systems_beside)
 
 -- ---- the option of kinds
 

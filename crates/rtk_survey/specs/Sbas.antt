@@ -1,4 +1,4 @@
--- Satellites of SBAS in a 1004, which a conversion leaves out.
+-- Satellites of SBAS in a 1004.
 use Rattle.std.specs.Prelude.{Bool, false, ◌&&◌, nat_le}
 use Rattle.std.specs.List.{list_any}
 use Rattle.rtk_message.specs.declared.any_message.AnyMessage.{AnyMessage}

@@ -17,7 +17,7 @@ use Rattle.rtk_survey.specs.Channels.{tells_field, place_is_told}
 use Rattle.rtk_survey.specs.Counting.{shown_count, count_of}
 use Rattle.rtk_survey.specs.FrameDates.{dates_in, station_dates, proposed_date, is_of_week}
 use Rattle.rtk_survey.specs.FrameEquipment.{equipment_among, is_mentioned, told_lines}
-use Rattle.rtk_survey.specs.NextCommand.{number_by, next_takes_1012, other_taken, slot_items, glonass_options, station_proposal}
+use Rattle.rtk_survey.specs.NextCommand.{number_by, with_own_sbas, next_takes_1012, other_taken, slot_items, glonass_options, station_proposal}
 use Rattle.rtk_survey.specs.Proposal.{epochs_in, epochs_with_value, entries_with}
 use Rattle.rtk_survey.specs.ReadFrames.{ReadFrame, ReadsFrames, bytes_in, messages_in, faults_in, messages_from}
 use Rattle.rtk_survey.specs.Tracing.{is_numbered, is_other, is_short, is_outside_week, is_no_number, is_too_many_cells, times_of_week, newest_time, oldest_time, entries_in, has_satellite, has_code}
@@ -27,6 +27,7 @@ use Rattle.rtk_survey.specs.UncheckedClocks.{systems_sent, all_clock_lines}
 use Rattle.rtk_survey.specs.declared.date_message.UtcDate.{UtcDate}
 use Rattle.rtk_survey.specs.declared.station_dates.StationDates.{StationDates}
 use Rattle.rtk_survey.specs.declared.system_message.SystemMessage.{SystemMessage}
+use Rattle.rtk_survey.specs.declared.systems_sent.SystemsSent.{SystemsSent}
 
 -- table
 -- the numbers of stations and of messages, of 12 bits
@@ -67,6 +68,10 @@ fields_told ms slot field = count_of (tells_field slot field) ms
 abbrev pub glonass_beside : Option UtcDate → List AnyMessage → List ℕ
 glonass_beside date ms = glonass_options (slot_items (slots_beside (legacy_beside date ms) ms) (fields_told ms)) (legacy_beside date ms)
 
+-- the systems of a station whose messages have clocks
+abbrev pub systems_clocked : List AnyMessage → SystemsSent
+systems_clocked ms = with_own_sbas (epochs_beside ms) (systems_sent (has_code (entries_in ms)) (has_any_code (cells_beside ms)))
+
 -- formula
 -- the lines of a station in the file of this name, of which these messages came, with what others told of it
 unfoldable pub station_lines : List ℕ → ℕ → List AnyMessage → StationDates → Equipment → List ℕ
@@ -78,7 +83,7 @@ station_lines name station ms d e =
     ++ signal_lines (has_satellite (entries_in ms)) (has_code (entries_in ms)) (has_index (cells_beside ms)) (has_any_code (cells_beside ms))
     ++ system_epoch_lines (epochs_beside ms)
     ++ channel_line (place_is_told ms)
-    ++ all_clock_lines (proposed_date d) (systems_sent (has_code (entries_in ms)) (has_any_code (cells_beside ms))) (clocks_of ms).offsets
+    ++ all_clock_lines (proposed_date d) (systems_clocked ms) (clocks_of ms).offsets
     ++ station_proposal name (near_text (proposed_date d)) station (λ kind. epochs_with_value kind ms) (λ kind. has_code (entries_with kind ms))
     (epochs_beside ms) (taken_beside (proposed_date d) ms) (glonass_beside (proposed_date d) ms)
 

@@ -86,7 +86,7 @@ time_line (Some first) None = codes " time-of-week -\n"
 time_line (Some first) (Some last) = codes " time-of-week " ++ decimal first ++ codes " " ++ decimal last ++ 10 ∷ []
 
 -- formula
--- the lines of the times of a station's observation messages of GPS, newest first
+-- the lines of the GPS times of a station's observation messages, newest first
 abbrev pub time_lines : List ℕ → List ℕ
 time_lines ts =
     time_line (oldest_time ts) (newest_time ts)

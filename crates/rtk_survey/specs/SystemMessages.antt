@@ -1,24 +1,11 @@
 -- The messages that tell a week of Galileo or BeiDou (1042, 1045, 1046), a channel of GLONASS (1020) or leap seconds
 -- (1013), by the places of their fields (RTCM 10403.3). The first bit of a payload has the place 0.
-use Rattle.std.specs.Prelude.{ℕ, ◌*◌, ◌==◌, Bool, List, length, Option, None, Some, nat_lt, if◌then◌else◌}
-use Rattle.rtk_survey.specs.DateMessages.{unsigned_at, size_of_1013}
+use Rattle.std.specs.Prelude.{ℕ, ◌==◌, Bool, List, length, Option, None, Some, nat_lt, if◌then◌else◌}
+use Rattle.rtk_survey.specs.DateMessages.{unsigned_at, size_of_1013, beidou_week_at, galileo_week_at}
 use Rattle.rtk_survey.specs.declared.system_message.LeapSeconds.{LeapSeconds}
 use Rattle.rtk_survey.specs.declared.system_message.SlotChannel.{SlotChannel}
 use Rattle.rtk_survey.specs.declared.system_message.SystemMessage.{SystemMessage}
 use Rattle.rtk_survey.specs.declared.system_message.SystemMessage.TheVariants.{Week, Slot, Leap}
-use Rattle.rtk_survey.specs.declared.system_message.SystemWeek.{SystemWeek}
-
--- formula
--- what a 1042 tells: DF488, DF489 and DF505, whose unit is 8 s
-abbrev pub beidou_week_at : List Bool → SystemWeek
-beidou_week_at bs =
-    record { number = 1042; satellite = unsigned_at 12 6 bs; week = unsigned_at 18 13 bs; reference_time_s = 8 * unsigned_at 299 17 bs }
-
--- formula
--- what a 1045 or a 1046 tells: DF252, DF289 and DF304, whose unit is 60 s
-abbrev pub galileo_week_at : ℕ → List Bool → SystemWeek
-galileo_week_at number bs =
-    record { number = number; satellite = unsigned_at 12 6 bs; week = unsigned_at 18 12 bs; reference_time_s = 60 * unsigned_at 294 14 bs }
 
 -- formula
 -- what a 1020 tells: DF038 and DF040, which is 7 more than the channel

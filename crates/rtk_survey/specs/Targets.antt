@@ -26,7 +26,7 @@ use Rattle.rtk_survey.specs.Telling.{is_to_come}
 use Rattle.rtk_survey.specs.Tracing.{entries_of_message}
 use Rattle.rtk_survey.specs.declared.capture_dates.CaptureDates.{CaptureDates}
 use Rattle.rtk_survey.specs.declared.date_message.DateMessage.{DateMessage}
-use Rattle.rtk_survey.specs.declared.date_message.DateMessage.TheVariants.{Utc, Ephemeris}
+use Rattle.rtk_survey.specs.declared.date_message.DateMessage.TheVariants.{Utc, Ephemeris, OtherEphemeris}
 use Rattle.rtk_survey.specs.declared.date_message.UtcDate.{UtcDate}
 use Rattle.rtk_survey.specs.declared.dating_systems.DatingSystems.{DatingSystems}
 use Rattle.rtk_survey.specs.declared.equipment_message.EquipmentMessage.{EquipmentMessage}
@@ -59,10 +59,11 @@ has_dating s Sbas = s.sbas
 has_dating s Navic = s.navic
 
 -- table
-abbrev pub system_of_message : AnyMessage → System
-system_of_message (any.Message m) = Gps
-system_of_message (any.Msm m) = m.system
-system_of_message (any.Obs1012 m) = Glonass
+-- the system of the cells of a message that are beside GPS: in a 1004 they are of SBAS
+abbrev pub system_beside : AnyMessage → System
+system_beside (any.Message m) = Sbas
+system_beside (any.Msm m) = m.system
+system_beside (any.Obs1012 m) = Glonass
 
 -- a message has an observation of GPS: one of its cells has a range, a phase or a strength
 abbrev pub observes_gps : AnyMessage → Bool
@@ -70,7 +71,7 @@ observes_gps m = list_any entry_has_value (entries_of_message m)
 
 -- a message has an observation of a system that dates
 abbrev pub observes : DatingSystems → AnyMessage → Bool
-observes s m = (observes_gps m || gives_value_beside m) && has_dating s (system_of_message m)
+observes s m = (observes_gps m && s.gps) || (gives_value_beside m && has_dating s (system_beside m))
 
 -- a code of a system that dates is marked: it has a value
 abbrev pub marks_dating : DatingSystems → List Bool → AnyCode → Bool
@@ -194,6 +195,7 @@ first_to_come now (Some d) m = Some d
 first_to_come now None None = None
 first_to_come now None (Some (Utc d)) = if is_to_come now d then Some d else None
 first_to_come now None (Some (Ephemeris e)) = None
+first_to_come now None (Some (OtherEphemeris w)) = None
 
 abbrev pub to_come_with_reading : ℕ → Option UtcDate → Result AnyMessage AnyFault → List ℕ → Option UtcDate
 to_come_with_reading now known (Ok m) payload = known

@@ -1,12 +1,13 @@
 -- Which moment a date message tells near a time of week (this project's rule). Moments are in ms since
 -- 1980-01-06 00:00:00.000 of GPS time; the leap seconds between it and UTC are left out, since half a
 -- week is the measure.
-use Rattle.std.specs.Prelude.{ℕ, ◌+◌, ◌-◌, ◌*◌, ◌/◌, ◌%◌, Bool, ◌&&◌, ◌||◌, nat_le, nat_lt, min, Option, None, Some, if◌then◌else◌}
+use Rattle.std.specs.Prelude.{ℕ, ◌+◌, ◌-◌, ◌*◌, ◌/◌, ◌%◌, ◌==◌, Bool, ◌&&◌, ◌||◌, nat_le, nat_lt, min, Option, None, Some, if◌then◌else◌}
 use Rattle.rtk_message.specs.Fields.{week_ms}
 use Rattle.rtk_survey.specs.declared.date_message.DateMessage.{DateMessage}
-use Rattle.rtk_survey.specs.declared.date_message.DateMessage.TheVariants.{Utc, Ephemeris}
+use Rattle.rtk_survey.specs.declared.date_message.DateMessage.TheVariants.{Utc, Ephemeris, OtherEphemeris}
 use Rattle.rtk_survey.specs.declared.date_message.EphemerisDate.{EphemerisDate}
 use Rattle.rtk_survey.specs.declared.date_message.UtcDate.{UtcDate}
+use Rattle.rtk_survey.specs.declared.system_message.SystemWeek.{SystemWeek}
 
 -- constant
 abbrev pub half_week_ms : ℕ
@@ -87,12 +88,38 @@ told_by_ephemeris now e tow =
     if nat_lt (week_of now) (weeks_before now e.week) then None else
     Some (week_ms * (week_of now - weeks_before now e.week) + tow)
 
+-- ---- a week of another system
+
+-- constant
+-- how many weeks a message tells apart: the week of a 1042 has 13 bits (DF489), that of a 1045 or 1046 12 bits (DF289)
+abbrev pub weeks_told_apart : ℕ → ℕ
+weeks_told_apart number = if number == 1042 then 8192 else 4096
+
+-- constant
+-- the week of GPS that is week 0 of the system: of BeiDou that of 2006-01-01, of Galileo that of 1999-08-22
+abbrev pub first_week_of : ℕ → ℕ
+first_week_of number = if number == 1042 then 1356 else 1024
+
+-- formula
+-- how many weeks before the week of now the latest week is that the message may name
+abbrev pub system_weeks_before : ℕ → SystemWeek → ℕ
+system_weeks_before now w = (week_of now + 2 * weeks_told_apart w.number - (w.week + first_week_of w.number)) % weeks_told_apart w.number
+
+-- formula
+-- the 14 s by which the clock of BeiDou is behind GPS time are left out too
+abbrev pub told_by_system_week : ℕ → SystemWeek → ℕ → Option ℕ
+told_by_system_week now w tow =
+    if are_apart w.reference_time_s tow then None else
+    if nat_lt (week_of now) (system_weeks_before now w) then None else
+    Some (week_ms * (week_of now - system_weeks_before now w) + tow)
+
 -- ---- each message
 
 -- the moment that a message tells of an epoch with this time of week, by the present
 abbrev pub told : ℕ → DateMessage → ℕ → Option ℕ
 told now (Utc d) tow = told_by_utc now d tow
 told now (Ephemeris e) tow = told_by_ephemeris now e tow
+told now (OtherEphemeris w) tow = told_by_system_week now w tow
 
 -- ---- a capture without an epoch
 
@@ -103,7 +130,13 @@ own_moment_of_ephemeris now e =
     if nat_lt (1000 * e.reference_time_s) week_ms then told_by_ephemeris now e (1000 * e.reference_time_s) else None
 
 -- formula
+-- formula
+abbrev pub own_moment_of_system_week : ℕ → SystemWeek → Option ℕ
+own_moment_of_system_week now w =
+    if nat_lt (1000 * w.reference_time_s) week_ms then told_by_system_week now w (1000 * w.reference_time_s) else None
+
 -- the moment that a message names itself, by the present
 abbrev pub own_moment : ℕ → DateMessage → Option ℕ
 own_moment now (Utc d) = if is_possible now d then Some (moment_of d) else None
 own_moment now (Ephemeris e) = own_moment_of_ephemeris now e
+own_moment now (OtherEphemeris w) = own_moment_of_system_week now w

@@ -3,10 +3,14 @@
 use Rattle.std.specs.Prelude.{ℕ, ◌+◌, ◌==◌, Bool, true, false, not, ◌&&◌, ◌||◌, List, [], ◌∷◌, flat_map, Option, None, Some, unwrap_or, is_some, if◌then◌else◌}
 use Rattle.std.specs.List.{list_any, filter_map}
 use Rattle.rtk_message.specs.declared.any_message.AnyMessage.{AnyMessage}
+use Rattle.rtk_message.specs.declared.any_message.AnyMessage.TheVariants as any
 use Rattle.rtk_message.specs.declared.any_fault.AnyFault.{AnyFault}
 use Rattle.rtk_message.specs.declared.any_fault.AnyFault.TheVariants.{NoNumber, Other, Short, EpochRange, TooManyCells}
 use Rattle.rtk_message.specs.Accepted.{of_gps, all_kinds, accepts}
-use Rattle.rtk_message.specs.AnyDecoded.{number_of, tow_of}
+use Rattle.rtk_message.specs.AnyDecoded.{number_of}
+use Rattle.rtk_message.specs.Decoded.{tow_of}
+use Rattle.rtk_message.specs.declared.system.System.{System}
+use Rattle.rtk_message.specs.declared.system.System.TheVariants.{Gps, Glonass, Galileo, Beidou, Qzss, Sbas, Navic}
 use Rattle.rtk_obs.specs.declared.cell.Cell.{Cell}
 use Rattle.rtk_obs.specs.declared.cell.CellEntry.{CellEntry}
 use Rattle.rtk_obs.specs.declared.code.Code.{Code}
@@ -53,11 +57,25 @@ is_too_many_cells n _ = false
 
 -- ---- times
 
--- the time of week of a message of GPS (DF004)
-abbrev pub gps_time_of : AnyMessage → Option ℕ
-gps_time_of m = if is_gps_number (number_of m) then tow_of m else None
+-- table
+-- the time of week that a clock of a system tells, if it is GPS time. Clocks of GLONASS tell UTC, and those of BeiDou a time
+-- of their own, which some receivers have wrong
+abbrev pub gps_time_by : System → ℕ → Option ℕ
+gps_time_by Gps clock = Some clock
+gps_time_by Glonass clock = None
+gps_time_by Galileo clock = Some clock
+gps_time_by Beidou clock = None
+gps_time_by Qzss clock = Some clock
+gps_time_by Sbas clock = Some clock
+gps_time_by Navic clock = Some clock
 
--- the times of week of the observation messages of GPS
+-- the time of week of a message whose clock tells GPS time (DF004 and its like)
+abbrev pub gps_time_of : AnyMessage → Option ℕ
+gps_time_of (any.Message m) = tow_of m
+gps_time_of (any.Msm m) = gps_time_by m.system m.header.tow
+gps_time_of (any.Obs1012 m) = None
+
+-- the times of week of the observation messages of GPS, Galileo, QZSS, SBAS and NavIC
 abbrev pub times_of_week : List AnyMessage → List ℕ
 times_of_week ms = filter_map gps_time_of ms
 

@@ -1,19 +1,25 @@
-//! Messages of other systems than GPS: which they are, their times and their cells.
+//! Messages of other systems than GPS, and SBAS of 1004: which they are, their times and their cells.
 
-ghost use Rattle.std.specs.Prelude.{◌≡◌, ◌/◌, ◌%◌, ◌^◌, ◌<◌, [], if◌then◌else◌};
+ghost use Rattle.std.specs.Prelude.{◌≡◌, ◌/◌, ◌%◌, ◌^◌, ◌<◌, [], filter, if◌then◌else◌};
 ghost use Rattle.rtk_message.specs.AnyDecoded.{IsValid};
 ghost use Rattle.rtk_message.specs.MsmForm.{IsValid as IsValidMsm};
+ghost use Rattle.rtk_message.specs.Decoded.{IsValid as IsValidFour};
+ghost use Rattle.rtk_message.specs.Obs1004.{IsValid as IsValid1004};
 ghost use Rattle.rtk_message.specs.Obs1012.{IsValid as IsValid1012};
 ghost use Rattle.rtk_obs.specs.Clocks.{beidou_tow};
 ghost use Rattle.rtk_obs.specs.GlonassCells.{entries_of_1012};
 ghost use Rattle.rtk_obs.specs.GlonassTime.{glonass_tow};
+ghost use Rattle.rtk_obs.specs.SbasCells.{signals_of_1004};
 ghost use Rattle.rtk_obs.specs.SignalCells.{signal_entries};
 ghost use Rattle.rtk_survey.specs.BesideGps as spec;
 ghost use Rattle.rtk_survey.specs.Tracing.{is_beside_gps};
 
+use crate::sbas::have_sbas;
 use arrayvec::ArrayVec;
-use rtk_message::{AnyMessage, Msm, Obs1012, System};
-use rtk_obs::{Channels, SignalEntry, WEEK_MS, put_entries_1012, put_signal_entries};
+use rtk_message::{AnyMessage, Message, Msm, Obs1004, Obs1012, System};
+use rtk_obs::{
+    Channels, SignalEntry, WEEK_MS, put_entries_1012, put_signal_entries, put_signals_1004,
+};
 
 const DAY_MS: u64 = 86_400_000;
 
@@ -115,13 +121,51 @@ fn put_cells_1012(message: &Obs1012, found: &mut ArrayVec<SignalEntry, 64>)
     put_entries_1012(message, &channels, found);
 }
 
-/// Puts the cells of a message of another system than GPS over a list. Another message has none.
+// Is it a cell of another system than GPS?
+fn is_beside_entry(entry: &SignalEntry) -> bool
+    ensures { result ≡ spec.is_beside_entry entry.now }
+{
+    is_other_system(entry.code.system())
+}
+
+// Leaves the cells of other systems than GPS.
+fn keep_beside(found: &mut ArrayVec<SignalEntry, 64>)
+    ensures { found.new.items ≡ filter spec.is_beside_entry found.old.items }
+{
+    found.retain(|entry| is_beside_entry(entry));
+}
+
+// Puts the cells of satellites of SBAS in a 1004 over a list. Few 1004 have one, so this is asked first.
+fn put_sbas_of_1004(message: &Obs1004, found: &mut ArrayVec<SignalEntry, 64>)
+    requires { IsValid1004 message.now }
+    ensures { found.new.items ≡ filter spec.is_beside_entry (signals_of_1004 message.now.satellites) }
+{
+    if have_sbas(message.satellites.as_slice()) {
+        put_signals_1004(message, found);
+        keep_beside(found);
+    } else {
+        found.clear();
+    }
+}
+
+// The same of a message that may be a 1004.
+fn put_sbas_of_four(message: &Message, found: &mut ArrayVec<SignalEntry, 64>)
+    requires { IsValidFour message.now }
+    ensures { found.new.items ≡ spec.sbas_cells_of_four message.now }
+{
+    match message {
+        Message::Obs1004(message) => put_sbas_of_1004(message, found),
+        Message::Arp1005(_) | Message::Arp1006(_) | Message::Msm1074(_) => found.clear(),
+    }
+}
+
+/// Puts the cells of other systems than GPS of a message over a list.
 pub(crate) fn put_cells_beside_gps(message: &AnyMessage, found: &mut ArrayVec<SignalEntry, 64>)
     requires { IsValid message.now }
     ensures { found.new.items ≡ spec.cells_beside_gps message.now }
 {
     match message {
-        AnyMessage::Message(_) => found.clear(),
+        AnyMessage::Message(message) => put_sbas_of_four(message, found),
         AnyMessage::Msm(message) => put_cells_of_other(message, found),
         AnyMessage::Obs1012(message) => put_cells_1012(message, found),
     }

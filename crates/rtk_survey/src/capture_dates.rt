@@ -1,7 +1,7 @@
 //! The epochs of a station in a capture, and what the capture tells of the first of them.
 
 ghost use Rattle.std.specs.Prelude.{◌≡◌};
-ghost use Rattle.rtk_survey.specs.CaptureDates.{no_dates, with_tellings, with_waiting, with_epoch_time, with_date, first_by_own, with_own_moments, earlier_told, earliest_telling, own_moment_of};
+ghost use Rattle.rtk_survey.specs.CaptureDates.{no_dates, with_tellings, with_waiting_date, with_waiting_week, with_waiting, with_epoch_time, with_date, first_by_own, with_own_moments, earlier_told, earliest_telling, own_moment_of};
 
 use crate::date_message::DateMessage;
 use crate::span::Span;
@@ -12,14 +12,19 @@ use rtk_obs::GpsMs;
 /// How many messages wait for the first epoch. Others are passed over.
 const MOST_WAITING: usize = 64;
 
-/// The epochs of a station in a capture, and the first epochs that its messages tell. It has some 4 kB
+/// How many 1042, 1045 and 1046 wait for it beside them, so that they take the place of none.
+const MOST_WAITING_WEEKS: usize = 16;
+
+/// The epochs of a station in a capture, and the first epochs that its messages tell. It has some 3 kB
 /// and asks for no memory.
 #[derive(Clone, Drop)]
 pub struct CaptureDates {
     /// The epochs of the station; `None` if there is none.
     pub span: Option<Span>,
-    /// The messages that came before the first epoch: the first 64 of them.
+    /// The 1013, 1029 and 1019 that came before the first epoch: the first 64 of them.
     pub waiting: ArrayVec<DateMessage, MOST_WAITING>,
+    /// The 1042, 1045 and 1046 that came before the first epoch: the first 16 of them.
+    pub waiting_weeks: ArrayVec<DateMessage, MOST_WAITING_WEEKS>,
     /// What messages told of the first epoch.
     pub told: Tellings,
 }
@@ -69,7 +74,26 @@ impl CaptureDates {
         CaptureDates {
             span: None,
             waiting: ArrayVec::new(),
+            waiting_weeks: ArrayVec::new(),
             told: Tellings::new(),
+        }
+    }
+
+    // A 1013, 1029 or 1019 more before the first epoch.
+    fn wait_with_date(&mut self, message: DateMessage)
+        ensures { self.new ≡ with_waiting_date self.old message }
+    {
+        if self.waiting.len() < MOST_WAITING {
+            self.waiting.push(message);
+        }
+    }
+
+    // A 1042, 1045 or 1046 more before the first epoch.
+    fn wait_with_week(&mut self, message: DateMessage)
+        ensures { self.new ≡ with_waiting_week self.old message }
+    {
+        if self.waiting_weeks.len() < MOST_WAITING_WEEKS {
+            self.waiting_weeks.push(message);
         }
     }
 
@@ -77,8 +101,9 @@ impl CaptureDates {
     pub fn wait(&mut self, message: DateMessage)
         ensures { self.new ≡ with_waiting self.old message }
     {
-        if self.waiting.len() < MOST_WAITING {
-            self.waiting.push(message);
+        match message {
+            DateMessage::Utc(_) | DateMessage::Ephemeris(_) => self.wait_with_date(message),
+            DateMessage::OtherEphemeris(_) => self.wait_with_week(message),
         }
     }
 
@@ -92,7 +117,15 @@ impl CaptureDates {
         }
         let span = Span::begun(tow);
         take_all(&mut self.told, now, station, &span, self.waiting.as_slice());
+        take_all(
+            &mut self.told,
+            now,
+            station,
+            &span,
+            self.waiting_weeks.as_slice(),
+        );
         self.waiting.clear();
+        self.waiting_weeks.clear();
         self.span = Some(span);
     }
 
@@ -115,6 +148,7 @@ impl CaptureDates {
         }
         let mut named = Tellings::new();
         take_own_moments(&mut named, now, station, self.waiting.as_slice());
+        take_own_moments(&mut named, now, station, self.waiting_weeks.as_slice());
         earliest_telling(named.counting())
     }
 

@@ -2,7 +2,7 @@
 //!
 //! A chain ends with an observation message whose multiple-message bit is 0. Its clock is that of its first
 //! message of GPS; if there is none, of Galileo, QZSS, SBAS or NavIC. A 1012 tells no day, so its clock is compared
-//! within half a day.
+//! within half a day. A leap second comes between two days of UTC, so clocks of GLONASS are counted by these days too.
 
 ghost use Rattle.std.specs.Prelude.{◌≡◌, ◌<◌, ◌≤◌, length, drop, IfSome, OnOk};
 ghost use Rattle.rtk_survey.specs.Chains as spec;
@@ -19,6 +19,9 @@ const MOST_WAITING: usize = 32;
 
 /// How many offsets of a system that differ are kept.
 const MOST_OFFSETS: usize = 8;
+
+/// How many offsets of GLONASS are kept that differ or are of days that differ.
+const MOST_DAY_OFFSETS: usize = 16;
 
 /// A clock of GLONASS has the day (DF416) before 27 bits of the time of day (DF034).
 const TIME_OF_DAY: u32 = 1 << 27;
@@ -67,7 +70,19 @@ pub struct ClockOffset {
     pub count: u64,
 }
 
-/// The offsets of each system: the first 8 that differ, in the order in which they came.
+/// By how much clocks of GLONASS on a day of the week are ahead of those of their chains.
+#[derive(Clone, Copy, Debug, Default, PartialEq, Eq)]
+pub struct DayOffset {
+    /// The day of UTC that these clocks tell: 0 for Sunday, 6 for Saturday.
+    pub day: u8,
+    /// In ms, less than a week, without the leap seconds.
+    pub ahead_ms: u32,
+    /// How many messages have it. Stays at the greatest `u64`.
+    pub count: u64,
+}
+
+/// The offsets of each system: the first 8 that differ, in the order in which they came. Those of GLONASS also stand
+/// apart for each day: the first 16 that differ.
 #[derive(Clone, Drop)]
 pub struct ClockOffsets {
     pub gps: ArrayVec<ClockOffset, MOST_OFFSETS>,
@@ -77,6 +92,7 @@ pub struct ClockOffsets {
     pub qzss: ArrayVec<ClockOffset, MOST_OFFSETS>,
     pub sbas: ArrayVec<ClockOffset, MOST_OFFSETS>,
     pub navic: ArrayVec<ClockOffset, MOST_OFFSETS>,
+    pub glonass_days: ArrayVec<DayOffset, MOST_DAY_OFFSETS>,
 }
 
 /// What is held of the clocks of a station.
@@ -278,6 +294,49 @@ fn count_offset(list: &mut ArrayVec<ClockOffset, MOST_OFFSETS>, ahead: u32)
     }
 }
 
+// The day of the week of UTC that a clock tells which is ahead by this of a time of week.
+fn day_of_clock(base: u32, ahead: u32) -> u8
+    ensures { result ≡ spec.day_of_clock base ahead }
+{
+    ((u64::from(base) + u64::from(ahead)) % WEEK_MS / DAY_MS) as u8
+}
+
+fn is_of_day(day: u8, ahead: u32, offset: DayOffset) -> bool
+    ensures { result ≡ spec.is_of_day day ahead offset }
+{
+    offset.day == day && offset.ahead_ms == ahead
+}
+
+fn place_on_day(day: u8, ahead: u32, list: &[DayOffset]) -> Option<usize>
+    ensures value { result ≡ spec.day_place 0 day ahead list.now }
+    ensures bound { IfSome result (λ at. at < length list.now) }
+{
+    for (at, offset) in list.iter().enumerate() {
+        if is_of_day(day, ahead, *offset) {
+            return Some(at);
+        }
+    }
+    None
+}
+
+// Counts an offset on a day.
+fn count_on_day(list: &mut ArrayVec<DayOffset, MOST_DAY_OFFSETS>, day: u8, ahead: u32)
+    ensures { list.new ≡ spec.with_day_counted day ahead list.old }
+{
+    match place_on_day(day, ahead, list.as_slice()) {
+        Some(at) => {
+            let offset = &mut list.as_mut_slice()[at];
+            offset.count = offset.count.saturating_add(1);
+        }
+        None if list.len() < MOST_DAY_OFFSETS => list.push(DayOffset {
+            day,
+            ahead_ms: ahead,
+            count: 1,
+        }),
+        None => {}
+    }
+}
+
 impl ClockOffsets {
     /// No chain ended.
     pub(crate) fn new() -> ClockOffsets
@@ -291,6 +350,7 @@ impl ClockOffsets {
             qzss: ArrayVec::new(),
             sbas: ArrayVec::new(),
             navic: ArrayVec::new(),
+            glonass_days: ArrayVec::new(),
         }
     }
 
@@ -309,12 +369,21 @@ impl ClockOffsets {
         }
     }
 
-    fn count(&mut self, system: System, ahead: u32)
-        ensures { self.new ≡ spec.with_ahead system ahead self.old }
+    // A clock of GLONASS more, in a chain that this time is of.
+    fn count_glonass(&mut self, base: u32, ahead: u32)
+        ensures { self.new ≡ spec.with_glonass base ahead self.old }
+    {
+        count_offset(&mut self.glonass, ahead);
+        count_on_day(&mut self.glonass_days, day_of_clock(base, ahead), ahead);
+    }
+
+    // A clock of a system more, in a chain that this time is of.
+    fn count(&mut self, system: System, base: u32, ahead: u32)
+        ensures { self.new ≡ spec.with_ahead system base ahead self.old }
     {
         match system {
             System::Gps => count_offset(&mut self.gps, ahead),
-            System::Glonass => count_offset(&mut self.glonass, ahead),
+            System::Glonass => self.count_glonass(base, ahead),
             System::Galileo => count_offset(&mut self.galileo, ahead),
             System::Beidou => count_offset(&mut self.beidou, ahead),
             System::Qzss => count_offset(&mut self.qzss, ahead),
@@ -327,7 +396,7 @@ impl ClockOffsets {
     fn compare(&mut self, base: u32, clock: ClockTold)
         ensures { self.new ≡ spec.with_offset base clock self.old }
     {
-        self.count(clock.system, clock_ahead(base, clock));
+        self.count(clock.system, base, clock_ahead(base, clock));
     }
 
     // Some clocks more.

@@ -70,6 +70,7 @@ fn take_date_message(
     match message {
         DateMessage::Utc(date) => take_date(alloc, stations, date),
         DateMessage::Ephemeris(ephemeris) => count_number(weeks, ephemeris.week),
+        DateMessage::OtherEphemeris(_week) => Ok(()),
     }
 }
 

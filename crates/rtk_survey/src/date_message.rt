@@ -1,13 +1,14 @@
-//! The messages that tell a date: 1013, 1029 and 1019.
+//! The messages that tell a date: 1013, 1029, 1019, 1042, 1045 and 1046.
 //!
 //! Of these messages only the fields that tell a date are read, and the counts that say how long the
 //! message is.
 
 ghost use Rattle.std.specs.Prelude.{◌≡◌, ◌≤◌, length, drop};
 ghost use Rattle.rtk_bits.specs.Bits.{bits};
-ghost use Rattle.rtk_survey.specs.DateMessages.{utc_at, size_of_1013, size_of_1029, ephemeris_at, if_whole, date_in};
-ghost use Rattle.rtk_survey.specs.declared.date_message.DateMessage.TheVariants.{Utc, Ephemeris};
+ghost use Rattle.rtk_survey.specs.DateMessages.{utc_at, size_of_1013, size_of_1029, ephemeris_at, beidou_week_at, galileo_week_at, if_whole, date_in};
+ghost use Rattle.rtk_survey.specs.declared.date_message.DateMessage.TheVariants.{Utc, Ephemeris, OtherEphemeris};
 
+use crate::system_message::{SystemWeek, beidou_week, bit_count, galileo_week};
 use rtk_bits::BitReader;
 
 /// A day and a second of the day (UTC), as a 1013 or a 1029 has them. They may be no date.
@@ -41,6 +42,8 @@ pub enum DateMessage {
     Utc(UtcDate),
     /// A 1019.
     Ephemeris(EphemerisDate),
+    /// A 1042, 1045 or 1046: the ephemeris of a satellite of BeiDou or Galileo.
+    OtherEphemeris(SystemWeek),
 }
 
 // A list that has room for such messages is filled with it.
@@ -132,6 +135,33 @@ fn read_1019(payload: &[u8]) -> Option<DateMessage>
     }))
 }
 
+fn read_1042(payload: &[u8]) -> Option<DateMessage>
+    ensures { result ≡ if_whole 511 (bits payload.now) (OtherEphemeris (beidou_week_at (bits payload.now))) }
+{
+    if bit_count(payload) < 511 {
+        return None;
+    }
+    Some(DateMessage::OtherEphemeris(beidou_week(payload)))
+}
+
+fn read_1045(payload: &[u8]) -> Option<DateMessage>
+    ensures { result ≡ if_whole 496 (bits payload.now) (OtherEphemeris (galileo_week_at 1045 (bits payload.now))) }
+{
+    if bit_count(payload) < 496 {
+        return None;
+    }
+    Some(DateMessage::OtherEphemeris(galileo_week(payload, 1045)))
+}
+
+fn read_1046(payload: &[u8]) -> Option<DateMessage>
+    ensures { result ≡ if_whole 504 (bits payload.now) (OtherEphemeris (galileo_week_at 1046 (bits payload.now))) }
+{
+    if bit_count(payload) < 504 {
+        return None;
+    }
+    Some(DateMessage::OtherEphemeris(galileo_week(payload, 1046)))
+}
+
 /// The message that tells a date, if the payload begins with one. A message with fewer bits than its
 /// counts ask for is none. Bits after the last field are not part of the message.
 pub fn date_in(payload: &[u8]) -> Option<DateMessage>
@@ -142,6 +172,9 @@ pub fn date_in(payload: &[u8]) -> Option<DateMessage>
         1013 => read_1013(payload),
         1029 => read_1029(payload),
         1019 => read_1019(payload),
+        1042 => read_1042(payload),
+        1045 => read_1045(payload),
+        1046 => read_1046(payload),
         _ => None,
     }
 }

@@ -49,11 +49,11 @@ impl DatingSystems {
         }
     }
 
-    /// Do observations of a message date?
-    pub(crate) fn have_message(&self, message: &AnyMessage) -> bool
-        ensures { result ≡ spec.has_dating self.now (spec.system_of_message message.now) }
+    /// Do observations of a message date that are beside GPS?
+    pub(crate) fn have_part(&self, message: &AnyMessage) -> bool
+        ensures { result ≡ spec.has_dating self.now (spec.system_beside message.now) }
     {
-        self.has(system_of_message(message))
+        self.has(system_beside(message))
     }
 
     // Is a code of such a system marked?
@@ -91,11 +91,12 @@ fn have_mark(marks: &[bool]) -> bool
     marks.iter().any(is_set)
 }
 
-fn system_of_message(message: &AnyMessage) -> System
-    ensures { result ≡ spec.system_of_message message.now }
+// The system of the cells of a message that are beside GPS.
+fn system_beside(message: &AnyMessage) -> System
+    ensures { result ≡ spec.system_beside message.now }
 {
     match message {
-        AnyMessage::Message(_) => System::Gps,
+        AnyMessage::Message(_) => System::Sbas,
         AnyMessage::Msm(message) => message.system,
         AnyMessage::Obs1012(_) => System::Glonass,
     }

@@ -26,11 +26,11 @@ use crate::equipment_lines::{is_told, put_equipment};
 use crate::line::{put_counted, put_line, put_numbered};
 use crate::look::Look;
 use crate::message_lines::{put_epochs, put_messages};
+use crate::next_command::systems_clocked;
 use crate::proposal_lines::put_proposal;
 use crate::signal_lines::{all_codes_text, put_signals};
 use crate::station::StationSurvey;
 use crate::survey::CaptureSurvey;
-use crate::systems_sent::SystemsSent;
 use crate::times_of_week::Times;
 use crate::unchecked_clocks::put_clocks;
 use crate::unread::{Unread, count_of_number};
@@ -156,7 +156,7 @@ fn put_station(
     put_signals(alloc, lines, &station.signals, &station.system_signals)?;
     put_epochs(lines, station)?;
     put_channels(alloc, lines, station.channels.as_slice())?;
-    let sent = SystemsSent::of(&station.signals.codes.marks, &station.system_signals.codes);
+    let sent = systems_clocked(station);
     put_clocks(
         lines,
         station.dates.proposed_date(),

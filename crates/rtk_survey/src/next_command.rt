@@ -4,12 +4,13 @@
 
 ghost use Rattle.std.specs.Prelude.{◌≡◌, ◌<◌, ◌==◌, ◌++◌, ◌&&◌, ◌||◌, not, ℕ, false, get_or, IfOk, IfSome, OnOk};
 ghost use Rattle.std.specs.Option.{option_copied};
+ghost use Rattle.rtk_message.specs.declared.system.System.TheVariants.{Sbas};
 ghost use Rattle.rtk_obs.specs.AnyCode.{number_of};
 ghost use Rattle.rtk_obs.specs.declared.any_code.AnyCode.{AnyCode};
 ghost use Rattle.rtk_survey.specs.Chains.{no_clocks, clocks_at};
 ghost use Rattle.rtk_survey.specs.NextCommand as spec;
 ghost use Rattle.rtk_survey.specs.Proposal.{better_of};
-ghost use Rattle.rtk_survey.specs.Steps.OtherSystems.{code_in_part, codes_held_by, slot_in_part, slot_held, slots_held, fields_held, legacy_held, glonass_held, taken_held};
+ghost use Rattle.rtk_survey.specs.Steps.OtherSystems.{code_in_part, codes_held_by, slot_in_part, slot_held, slots_held, fields_held, legacy_held, glonass_held, taken_held, clocked_held};
 ghost use Rattle.rtk_survey.specs.Steps.Tables.{system_epochs_held};
 ghost use Rattle.rtk_survey.specs.SummaryText.{msm_option};
 ghost use Rattle.rtk_survey.specs.WrongClocks.{is_system_wrong};
@@ -71,6 +72,25 @@ fn number_by(station: &StationSurvey, system: System) -> u16
     let kind = kind_by(station, system);
     let msm = MsmType { system, kind };
     msm.number()
+}
+
+// ---- the systems with clocks
+
+// Has an MSM of SBAS an epoch with a value?
+fn sends_sbas_msm(station: &StationSurvey) -> bool
+    ensures { result ≡ spec.sends_msm (system_epochs_held station.now) Sbas }
+{
+    let kind = kind_by(station, System::Sbas);
+    0 < epochs_by(station, System::Sbas, kind)
+}
+
+/// The systems of a station whose messages have clocks.
+pub(crate) fn systems_clocked(station: &StationSurvey) -> SystemsSent
+    ensures { result ≡ clocked_held station.now }
+{
+    let mut sent = SystemsSent::of(&station.signals.codes.marks, &station.system_signals.codes);
+    sent.sbas = sends_sbas_msm(station);
+    sent
 }
 
 // ---- 1012
@@ -189,6 +209,17 @@ fn join_1012(
     }
 }
 
+// Marks the codes of satellites of SBAS of 1004, unless the clocks of SBAS are wrong.
+fn join_1004(marks: &mut [bool; ANY_CODES], date: Option<UtcDate>, station: &StationSurvey)
+    ensures { (c : AnyCode) → get_or marks.new (number_of c) false
+        ≡ (spec.takes_code_1004 date (clocks_at station.now.clocks).offsets (codes_held_by station.now) c || get_or marks.old (number_of c) false) }
+{
+    if are_clocks_wrong(date, station.clocks.as_slice(), System::Sbas) {
+        return;
+    }
+    join_part(marks, station.system_msm.get(&1004));
+}
+
 /// The codes of other systems than GPS that the command takes.
 pub(crate) fn taken_codes(date: Option<UtcDate>, station: &StationSurvey) -> [bool; ANY_CODES]
     ensures { (c : AnyCode) → get_or result (number_of c) false ≡ taken_held date station.now c }
@@ -201,6 +232,7 @@ pub(crate) fn taken_codes(date: Option<UtcDate>, station: &StationSurvey) -> [bo
     join_system(&mut marks, date, station, System::Beidou);
     join_system(&mut marks, date, station, System::Galileo);
     join_system(&mut marks, date, station, System::Glonass);
+    join_1004(&mut marks, date, station);
     join_1012(&mut marks, date, station, legacy);
     marks
 }

@@ -1,4 +1,4 @@
-//! Satellites of SBAS in a 1004, which a conversion leaves out.
+//! Satellites of SBAS in a 1004.
 
 ghost use Rattle.std.specs.Prelude.{◌≡◌};
 ghost use Rattle.std.specs.List.{list_any};
@@ -17,7 +17,8 @@ fn is_sbas(satellite: &Satellite) -> bool
     FIRST_SBAS <= satellite.satellite && satellite.satellite <= LAST_SBAS
 }
 
-fn have_sbas(satellites: &[Satellite]) -> bool
+/// Has one of the satellites an ID of SBAS?
+pub(crate) fn have_sbas(satellites: &[Satellite]) -> bool
     ensures { result ≡ list_any spec.is_sbas satellites.now }
 {
     satellites.iter().any(is_sbas)

@@ -47,14 +47,14 @@ pub struct MessageCounts {
 #[derive(Drop)]
 pub struct StationSurvey {
     pub counts: MessageCounts,
-    /// The times of week of its observation messages of GPS.
+    /// The times of week of its observation messages of GPS, Galileo, QZSS, SBAS and NavIC.
     pub times: Times,
     /// The satellites and codes of GPS that have a value.
     pub signals: Signals,
     pub msm: MsmParts,
     /// The satellites and codes of other systems that have a value.
     pub system_signals: SystemSignals,
-    /// Its messages of other systems, by number (DF002).
+    /// Its messages of other systems, and its 1004 in which a satellite of SBAS has a value, by number (DF002).
     pub system_msm: BTreeMap<u16, SystemMsm>,
     /// How many messages tell each channel of each slot of GLONASS (`count_of_field`).
     pub channels: Vec<u64>,

@@ -5,7 +5,7 @@
 
 ghost use Rattle.std.specs.Prelude.{◌≡◌, ◌≤◌, ◌<◌, ◌+◌, ◌^◌, length, drop};
 ghost use Rattle.rtk_bits.specs.Bits.{bits};
-ghost use Rattle.rtk_survey.specs.DateMessages.{unsigned_at, size_of_1013};
+ghost use Rattle.rtk_survey.specs.DateMessages.{unsigned_at, size_of_1013, beidou_week_at, galileo_week_at};
 ghost use Rattle.rtk_survey.specs.SystemMessages as spec;
 ghost use Rattle.rtk_survey.specs.declared.system_message.SystemMessage.TheVariants.{Week, Slot};
 
@@ -75,17 +75,18 @@ fn field_at(payload: &[u8], place: usize, width: usize) -> u64
     reader.next_u(width)
 }
 
-// How many bits the payload has.
-fn bit_count(payload: &[u8]) -> u128
+/// How many bits the payload has.
+pub(crate) fn bit_count(payload: &[u8]) -> u128
     ensures { result ≡ length (bits payload.now) }
 {
     let reader = BitReader::new(payload);
     reader.remaining()
 }
 
-fn beidou_week(payload: &[u8]) -> SystemWeek
+/// What a 1042 tells.
+pub(crate) fn beidou_week(payload: &[u8]) -> SystemWeek
     requires { 511 ≤ length (bits payload.now) }
-    ensures { result ≡ spec.beidou_week_at (bits payload.now) }
+    ensures { result ≡ beidou_week_at (bits payload.now) }
 {
     SystemWeek {
         number: 1042,
@@ -95,9 +96,10 @@ fn beidou_week(payload: &[u8]) -> SystemWeek
     }
 }
 
-fn galileo_week(payload: &[u8], number: u16) -> SystemWeek
+/// What a 1045 or a 1046 tells.
+pub(crate) fn galileo_week(payload: &[u8], number: u16) -> SystemWeek
     requires { 496 ≤ length (bits payload.now) }
-    ensures { result ≡ spec.galileo_week_at number (bits payload.now) }
+    ensures { result ≡ galileo_week_at number (bits payload.now) }
 {
     SystemWeek {
         number,
@@ -128,7 +130,7 @@ fn leap_seconds(payload: &[u8]) -> LeapSeconds
 }
 
 fn read_1042(payload: &[u8]) -> Option<SystemMessage>
-    ensures { result ≡ spec.if_long 511 (bits payload.now) (Week (spec.beidou_week_at (bits payload.now))) }
+    ensures { result ≡ spec.if_long 511 (bits payload.now) (Week (beidou_week_at (bits payload.now))) }
 {
     if bit_count(payload) < 511 {
         return None;
@@ -137,7 +139,7 @@ fn read_1042(payload: &[u8]) -> Option<SystemMessage>
 }
 
 fn read_1045(payload: &[u8]) -> Option<SystemMessage>
-    ensures { result ≡ spec.if_long 496 (bits payload.now) (Week (spec.galileo_week_at 1045 (bits payload.now))) }
+    ensures { result ≡ spec.if_long 496 (bits payload.now) (Week (galileo_week_at 1045 (bits payload.now))) }
 {
     if bit_count(payload) < 496 {
         return None;
@@ -146,7 +148,7 @@ fn read_1045(payload: &[u8]) -> Option<SystemMessage>
 }
 
 fn read_1046(payload: &[u8]) -> Option<SystemMessage>
-    ensures { result ≡ spec.if_long 504 (bits payload.now) (Week (spec.galileo_week_at 1046 (bits payload.now))) }
+    ensures { result ≡ spec.if_long 504 (bits payload.now) (Week (galileo_week_at 1046 (bits payload.now))) }
 {
     if bit_count(payload) < 504 {
         return None;

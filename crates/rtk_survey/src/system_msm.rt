@@ -1,4 +1,4 @@
-//! What a station has of the messages of other systems than GPS, by their number.
+//! What a station has of the messages of other systems than GPS, and of SBAS of 1004, by their number.
 
 ghost use Rattle.std.specs.Prelude.{◌≡◌, List, ℕ, true, [], ◌∷◌, OnOk};
 ghost use Rattle.std.specs.BTreeMap.{get};
@@ -9,7 +9,6 @@ ghost use Rattle.rtk_message.specs.declared.any_message.AnyMessage.{AnyMessage};
 ghost use Rattle.rtk_survey.specs.BesideGps as spec;
 ghost use Rattle.rtk_survey.specs.BesideGps.{cells_beside_gps, told_time_of, times_beside};
 ghost use Rattle.rtk_survey.specs.Contents.{epochs_so_far, HasSystemMsm, HasSystems, messages_of_msm, epochs_of_msm};
-ghost use Rattle.rtk_survey.specs.Tracing.{is_beside_gps};
 
 use crate::beside_gps::{is_beside_gps, told_time_of};
 use crate::counting::count_if;
@@ -71,7 +70,7 @@ impl SystemMsm {
         }
     }
 
-    // A message more of the number, with its cells.
+    // A message more of the number, with its cells of other systems than GPS.
     fn take(&mut self, message: &AnyMessage, entries: &[SignalEntry])
         requires { entries.now ≡ cells_beside_gps message.now }
         ensures { (own : List AnyMessage) → HasSystemMsm self.old own → HasSystemMsm self.new (message.now ∷ own) }
@@ -89,13 +88,21 @@ pub(crate) fn no_systems(alloc: Global) -> BTreeMap<u16, SystemMsm>
     BTreeMap::new(alloc)
 }
 
-// A message more of another system than GPS.
+// Is a message of another system than GPS, or does it give a value of one?
+fn has_part_beside(message: &AnyMessage, entries: &[SignalEntry]) -> bool
+    requires { entries.now ≡ cells_beside_gps message.now }
+    ensures { result ≡ spec.has_part_beside message.now }
+{
+    is_beside_gps(message) || gives_value(message, entries)
+}
+
+// Such a message more.
 fn take_beside(
     parts: &mut BTreeMap<u16, SystemMsm>,
     message: &AnyMessage,
     entries: &[SignalEntry],
 ) -> Result<(), AllocError>
-    requires beside { is_beside_gps message.now ≡ true }
+    requires beside { spec.has_part_beside message.now ≡ true }
     requires entries { entries.now ≡ cells_beside_gps message.now }
     ensures { OnOk result ((ms : List AnyMessage) → HasSystems parts.old ms → HasSystems parts.new (message.now ∷ ms)) }
 {
@@ -104,7 +111,8 @@ fn take_beside(
     Ok(())
 }
 
-/// A message more of the station, with its cells, if it is of another system than GPS.
+/// A message more of the station, with its cells of other systems than GPS, if it is of such a system or gives a
+/// value of one.
 pub(crate) fn take_system_message(
     parts: &mut BTreeMap<u16, SystemMsm>,
     message: &AnyMessage,
@@ -113,7 +121,7 @@ pub(crate) fn take_system_message(
     requires { entries.now ≡ cells_beside_gps message.now }
     ensures { OnOk result ((ms : List AnyMessage) → HasSystems parts.old ms → HasSystems parts.new (message.now ∷ ms)) }
 {
-    if is_beside_gps(message) {
+    if has_part_beside(message, entries) {
         take_beside(parts, message, entries)
     } else {
         Ok(())

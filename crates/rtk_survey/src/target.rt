@@ -94,8 +94,8 @@ fn observes(
     requires signals { signals.now ≡ cells_beside_gps message.now }
     ensures { result ≡ spec.observes systems.now message.now }
 {
-    (observes_gps(message, entries) || gives_value(message, signals))
-        && systems.have_message(message)
+    (observes_gps(message, entries) && systems.gps)
+        || (gives_value(message, signals) && systems.have_part(message))
 }
 
 impl TargetDates {

@@ -4,6 +4,7 @@ ghost use Rattle.std.specs.Prelude.{◌≡◌, ◌^◌, ◌<◌, ◌≤◌, ◌+
 ghost use Rattle.rtk_survey.specs.Telling as spec;
 
 use crate::date_message::{DateMessage, EphemerisDate, UtcDate};
+use crate::system_message::SystemWeek;
 use rtk_obs::{GpsMs, HALF_WEEK_MS, WEEK_MS};
 
 pub(crate) const DAY_MS: u64 = 86_400_000;
@@ -122,6 +123,57 @@ fn own_moment_of_ephemeris(now: GpsMs, ephemeris: EphemerisDate) -> Option<u64>
     }
 }
 
+// How many weeks a message of this number tells apart.
+fn weeks_told_apart(number: u16) -> u64
+    ensures value { result ≡ spec.weeks_told_apart number }
+    ensures least { 4096 ≤ result }
+    ensures most { result ≤ 8192 }
+{
+    if number == 1042 { 8192 } else { 4096 }
+}
+
+// The week of GPS that is week 0 of the system of such a message.
+fn first_week_of(number: u16) -> u64
+    ensures value { result ≡ spec.first_week_of number }
+    ensures most { result ≤ 1356 }
+{
+    if number == 1042 { 1356 } else { 1024 }
+}
+
+// How many weeks before the week of now the latest week is that the message may name.
+fn system_weeks_before(now: GpsMs, message: SystemWeek) -> u64
+    ensures { result ≡ spec.system_weeks_before now message }
+{
+    let apart = weeks_told_apart(message.number);
+    let week = u64::from(message.week) + first_week_of(message.number);
+    (now.ms() / WEEK_MS + 2 * apart).saturating_sub(week) % apart
+}
+
+fn told_by_system_week(now: GpsMs, message: SystemWeek, tow: u32) -> Option<u64>
+    ensures { result ≡ spec.told_by_system_week now message tow }
+{
+    if are_apart(message.reference_time_s, tow) {
+        return None;
+    }
+    let present = now.ms() / WEEK_MS;
+    let before = system_weeks_before(now, message);
+    if present < before {
+        return None;
+    }
+    Some(WEEK_MS * (present - before) + u64::from(tow))
+}
+
+fn own_moment_of_system_week(now: GpsMs, message: SystemWeek) -> Option<u64>
+    ensures { result ≡ spec.own_moment_of_system_week now message }
+{
+    let tow = 1000 * u64::from(message.reference_time_s);
+    if tow < WEEK_MS {
+        told_by_system_week(now, message, tow as u32)
+    } else {
+        None
+    }
+}
+
 /// The moment that a message names itself: that of its day and second, or the reference time of its
 /// ephemeris; `None` if its date is passed over, as in `told`.
 pub fn own_moment(now: GpsMs, message: &DateMessage) -> Option<u64>
@@ -131,6 +183,7 @@ pub fn own_moment(now: GpsMs, message: &DateMessage) -> Option<u64>
         DateMessage::Utc(date) if is_possible(now, *date) => Some(moment_of(*date).ms()),
         DateMessage::Utc(_) => None,
         DateMessage::Ephemeris(ephemeris) => own_moment_of_ephemeris(now, *ephemeris),
+        DateMessage::OtherEphemeris(message) => own_moment_of_system_week(now, *message),
     }
 }
 
@@ -140,12 +193,14 @@ pub fn own_moment(now: GpsMs, message: &DateMessage) -> Option<u64>
 /// A 1013 or a 1029 tells the moment nearest to its own, of two alike the later. It is passed over if
 /// its day is before 1980-01-13 or more than one after that of `now`, or if no day has its second. A
 /// 1019 tells the latest week that is not after that of `now`. It is passed over if a week's end lies
-/// between its reference time and the time of week, since senders differ there in the week they name.
+/// between its reference time and the time of week, since senders differ there in the week they name. So
+/// does a 1042, 1045 or 1046, by the week of its system.
 pub fn told(now: GpsMs, message: &DateMessage, tow: u32) -> Option<u64>
     ensures { result ≡ spec.told now message.now tow }
 {
     match message {
         DateMessage::Utc(date) => told_by_utc(now, *date, tow),
         DateMessage::Ephemeris(ephemeris) => told_by_ephemeris(now, *ephemeris, tow),
+        DateMessage::OtherEphemeris(message) => told_by_system_week(now, *message, tow),
     }
 }

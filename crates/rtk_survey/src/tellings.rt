@@ -2,16 +2,19 @@
 
 ghost use Rattle.std.specs.Prelude.{◌≡◌, ◌^◌, ◌<◌, Some};
 ghost use Rattle.std.specs.List.{list_any};
-ghost use Rattle.rtk_survey.specs.CaptureDates.{tells_same, is_reference, first_epoch_from, first_epoch_told, with_told, with_first, with_telling, reference_named, with_own_moment, no_tellings, counting};
+ghost use Rattle.rtk_survey.specs.CaptureDates.{tells_same, is_reference, first_epoch_from, first_epoch_told, with_told, with_first, with_telling, reference_named, with_own_moment, no_tellings, is_rolled_over, is_one_rolled_over, do_system_weeks_decide, counting};
 
 use crate::date_message::DateMessage;
 use crate::span::Span;
 use crate::telling::{own_moment, told};
 use arrayvec::ArrayVec;
-use rtk_obs::{GpsMs, WEEK_MS};
+use rtk_obs::{GpsMs, HALF_WEEK_MS, WEEK_MS};
 
 /// The last moment near which a conversion dates: 2099-12-31 23:59:59.999.
 const LAST_REFERENCE_MS: u64 = 3_786_479_999_999;
+
+/// The week of GPS begins anew after 1,024 weeks: DF076 has 10 bits.
+const ROLLOVER_MS: u64 = 1024 * WEEK_MS;
 
 /// How many first epochs that differ are kept.
 const MOST_TOLD: usize = 16;
@@ -32,6 +35,8 @@ pub struct Tellings {
     pub own: ArrayVec<Told, MOST_TOLD>,
     /// By 1019, which names no station.
     pub weeks: ArrayVec<Told, MOST_TOLD>,
+    /// By 1042, 1045 and 1046, which name no station.
+    pub system_weeks: ArrayVec<Told, MOST_TOLD>,
     /// By 1013 and 1029 of other stations.
     pub others: ArrayVec<Told, MOST_TOLD>,
 }
@@ -91,6 +96,21 @@ fn put(list: &mut ArrayVec<Told, MOST_TOLD>, told: Told)
     }
 }
 
+// Does a week of GPS tell the moment of a week of another system, within half a week, but for one or more times the
+// 1,024 weeks after which it begins anew?
+fn is_rolled_over(system: &Told, gps: &Told) -> bool
+    ensures { result ≡ is_rolled_over system.now gps.now }
+{
+    let later = gps.first.saturating_sub(system.first);
+    WEEK_MS <= later && (later % ROLLOVER_MS + HALF_WEEK_MS) % ROLLOVER_MS < WEEK_MS
+}
+
+fn is_one_rolled_over(weeks: &[Told], system: &Told) -> bool
+    ensures { result ≡ is_one_rolled_over weeks.now system.now }
+{
+    weeks.iter().any(|gps| is_rolled_over(system, gps))
+}
+
 impl Tellings {
     /// No message came.
     pub(crate) fn new() -> Tellings
@@ -99,6 +119,7 @@ impl Tellings {
         Tellings {
             own: ArrayVec::new(),
             weeks: ArrayVec::new(),
+            system_weeks: ArrayVec::new(),
             others: ArrayVec::new(),
         }
     }
@@ -114,6 +135,7 @@ impl Tellings {
             DateMessage::Utc(date) if date.station == station => put(&mut self.own, told),
             DateMessage::Utc(_) => put(&mut self.others, told),
             DateMessage::Ephemeris(_) => put(&mut self.weeks, told),
+            DateMessage::OtherEphemeris(_) => put(&mut self.system_weeks, told),
         }
     }
 
@@ -135,17 +157,36 @@ impl Tellings {
         }
     }
 
+    /// Does a 1042, 1045 or 1046 tell that the week of a 1019 is an earlier one than the latest?
+    pub fn do_system_weeks_decide(&self) -> bool
+        ensures { result ≡ do_system_weeks_decide self.now }
+    {
+        let weeks = self.weeks.as_slice();
+        let systems = self.system_weeks.as_slice();
+        systems
+            .iter()
+            .any(|system| is_one_rolled_over(weeks, system))
+    }
+
     /// The first epochs that count: those by 1013 and 1029 of the station; if there are none, those by
-    /// 1019; if there are none, those by 1013 and 1029 of other stations.
+    /// 1019; if there are none, those by 1013 and 1029 of other stations; if there are none, those by 1042,
+    /// 1045 and 1046. These count before those by 1019 if they tell that its week is an earlier one than the
+    /// latest.
     pub fn counting(&self) -> &[Told]
         ensures { result.now ≡ counting self.now }
     {
         if !self.own.is_empty() {
             return self.own.as_slice();
         }
+        if self.do_system_weeks_decide() {
+            return self.system_weeks.as_slice();
+        }
         if !self.weeks.is_empty() {
             return self.weeks.as_slice();
         }
-        self.others.as_slice()
+        if !self.others.is_empty() {
+            return self.others.as_slice();
+        }
+        self.system_weeks.as_slice()
     }
 }

@@ -1,12 +1,12 @@
-//! The times of week of a station's observation messages of GPS.
+//! The times of week of a station's observation messages of the systems whose clocks tell GPS time: GPS, Galileo, QZSS,
+//! SBAS and NavIC.
 
 ghost use Rattle.std.specs.Prelude.{◌≡◌, List, ℕ, [], ◌∷◌};
 ghost use Rattle.rtk_message.specs.declared.any_message.AnyMessage.{AnyMessage};
 ghost use Rattle.rtk_survey.specs.Contents.{times_of};
-ghost use Rattle.rtk_survey.specs.Tracing.{change_from, gps_time_of, times_of_week};
+ghost use Rattle.rtk_survey.specs.Tracing.{change_from, gps_time_by, gps_time_of, times_of_week};
 
-use crate::beside_gps::is_beside_gps;
-use rtk_message::AnyMessage;
+use rtk_message::{AnyMessage, System};
 
 /// The first time and the last one, in ms, and how many differ from the one before.
 #[derive(Clone, Copy, Debug, PartialEq, Eq)]
@@ -16,14 +16,24 @@ pub struct Times {
     pub changes: u64,
 }
 
-/// The time of week of a message of GPS, if it has one.
+// The time of week that a clock of a system tells, if it is GPS time.
+fn gps_time_by(system: System, clock: u32) -> Option<u32>
+    ensures { result ≡ gps_time_by system clock }
+{
+    match system {
+        System::Gps | System::Galileo | System::Qzss | System::Sbas | System::Navic => Some(clock),
+        System::Glonass | System::Beidou => None,
+    }
+}
+
+/// The time of week of a message, if it has one and its clock tells GPS time.
 pub(crate) fn gps_time_of(message: &AnyMessage) -> Option<u32>
     ensures { result ≡ gps_time_of message.now }
 {
-    if is_beside_gps(message) {
-        None
-    } else {
-        message.tow()
+    match message {
+        AnyMessage::Message(message) => message.tow(),
+        AnyMessage::Msm(message) => gps_time_by(message.system, message.header.tow),
+        AnyMessage::Obs1012(_) => None,
     }
 }
 
@@ -58,7 +68,7 @@ impl Times {
         self.last = Some(time);
     }
 
-    /// Notes the time of week of a message of GPS, if it has one.
+    /// Notes the time of week of a message, if it has one and its clock tells GPS time.
     pub fn note_message(&mut self, message: &AnyMessage)
         ensures { (ms : List AnyMessage) → self.old ≡ times_of (times_of_week ms)
             → self.new ≡ times_of (times_of_week (message.now ∷ ms)) }

@@ -5,10 +5,10 @@ use Rattle.std.proofs.lemmas.Bool.{cases_lt, cases_order, cases_Bool, ltb-true, 
 use Rattle.rtk_obs.specs.Carriers.{AreChannels, IsSlot, channel_at}
 use Rattle.rtk_obs.specs.LeapSeconds.{IsLastRow}
 use Rattle.rtk_obs.specs.declared.any_code.AnyCode.{AnyCode}
-use Rattle.rtk_rinex.specs.MixedHead.{GlonassView, has_glonass}
+use Rattle.rtk_rinex.specs.MixedHead.{GlonassView}
 use Rattle.rtk_survey.specs.declared.survey.CaptureSurvey.{CaptureSurvey}
 use Rattle.rtk_systems.specs.AlikeChannels.{is_alike}
-use Rattle.rtk_systems.specs.SlotChannels.{count_told, IsMostTold, IsToldField, IsToldChannel, channel_if, is_slot_given, AreOwnChannels, channel_or, chosen_channel, IsChannelFound, AreChannelsFound, AreChannelsChosen, AreSecondsChosen, IsGlonassOf, IsGlonassFound}
+use Rattle.rtk_systems.specs.SlotChannels.{count_told, IsMostTold, IsToldField, IsToldChannel, channel_if, is_slot_given, AreOwnChannels, channel_or, chosen_channel, IsChannelFound, AreChannelsFound, AreChannelsChosen, AreSecondsChosen, IsGlonassFound}
 use Rattle.rtk_systems.specs.Steps.ToldFields.{most_told_with}
 use Rattle.rtk_systems.specs.declared.slot_channels.MostTold.{MostTold}
 use Rattle.rtk_systems.specs.declared.values.TakenMessages.{TakenMessages}

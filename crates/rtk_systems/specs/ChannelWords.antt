@@ -1,5 +1,5 @@
 -- The option that names the channels of GLONASS, and the line of slots that have none (this project's rule).
-use Rattle.std.specs.Prelude.{ℕ, ℤ, Bool, not, ◌&&◌, nat_le, nat_lt, unsigned_abs, List, [], ◌∷◌, ◌++◌, flat_map, codes, decimal, Option, None, Some, is_some, if◌then◌else◌}
+use Rattle.std.specs.Prelude.{ℕ, ℤ, Bool, not, ◌&&◌, nat_lt, unsigned_abs, List, [], ◌∷◌, ◌++◌, flat_map, codes, decimal, Option, None, Some, is_some, if◌then◌else◌}
 use Rattle.std.specs.Fmt.{sign_text}
 use Rattle.std.specs.Int.{is_negative}
 use Rattle.std.specs.List.{list_any}

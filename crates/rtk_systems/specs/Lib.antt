@@ -1,6 +1,7 @@
 pub mod AlikeChannels
 pub mod ChannelWords
 pub mod ClockOffsets
+pub mod ClockSeconds
 pub mod FoundSeconds
 pub mod MessageLines
 pub mod SlotChannels

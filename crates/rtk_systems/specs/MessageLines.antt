@@ -7,7 +7,7 @@ use Rattle.rtk_message.specs.declared.msm_kind.MsmKind.TheVariants.{Msm4, Msm5, 
 use Rattle.rtk_message.specs.Accepted.{accepts}
 use Rattle.rtk_message.specs.Systems.{number_of_kind}
 use Rattle.rtk_survey.specs.declared.survey.CaptureSurvey.{CaptureSurvey}
-use Rattle.rtk_systems.specs.Values.{held_in_captures, messages_in_captures, obs_1004_in_captures, others_in_captures, sbas_in_captures}
+use Rattle.rtk_systems.specs.Values.{all_1012_in_captures, held_in_captures, messages_in_captures, obs_1004_in_captures, others_in_captures, sbas_in_captures, with_refused}
 
 -- formula
 -- words, a message number and its count; a count of 0 has no line
@@ -31,18 +31,27 @@ unread_gps taken ss = unread_lines_from (codes " not in the file: GPS ") taken s
 
 -- formula
 -- words, a count and an end; a count of 0 has no line
-abbrev pub counted_line : List ℕ → ℕ → List ℕ → List ℕ
-counted_line words count end = if count == 0 then [] else words ++ decimal count ++ end
+abbrev pub ended_count_line : List ℕ → ℕ → List ℕ → List ℕ
+ended_count_line words count end = if count == 0 then [] else words ++ decimal count ++ end
 
 -- formula
 -- the 1012 of captures in which they can't be dated
 abbrev pub long_line : ℕ → List ℕ
-long_line count = counted_line (codes " untaken GLONASS 1012 ") count (codes ": more than a day\n")
+long_line count = ended_count_line (codes " untaken GLONASS 1012 ") count (codes ": more than a day\n")
 
--- 1012, unless they are taken; they may be left out since they can't be dated
+-- formula
+-- so many messages of GLONASS of a number, unless they are taken
+abbrev pub glonass_line_of : Accepted → ℕ → ℕ → List ℕ
+glonass_line_of taken number count =
+    if accepts taken number then [] else count_line_of (codes " not in the file: GLONASS ") number count
+
+-- 1012, unless they are taken
+abbrev pub untaken_1012_line : Accepted → List CaptureSurvey → List ℕ
+untaken_1012_line taken ss = glonass_line_of taken 1012 (all_1012_in_captures ss)
+
+-- the same; they may be left out since they can't be dated
 abbrev pub line_of_1012 : Bool → Accepted → List CaptureSurvey → List ℕ
-line_of_1012 is_long taken ss =
-    if is_long then long_line (others_in_captures ss 1012) else unread_line (codes " not in the file: GLONASS ") taken ss 1012
+line_of_1012 is_long taken ss = if is_long then long_line (all_1012_in_captures ss) else untaken_1012_line taken ss
 
 -- table
 -- observations of GLONASS by themselves: 1009 to 1012
@@ -75,12 +84,13 @@ unfoldable pub all_unread : Bool → Accepted → List CaptureSurvey → List �
 all_unread is_long taken ss = unread_gps taken ss ++ unread_glonass_to_sbas is_long taken ss ++ unread_qzss_to_navic taken ss
 
 -- formula
--- an MSM of GPS of a station, unless it is taken
-abbrev pub msm_line_of : Accepted → ℕ → ℕ → List ℕ
-msm_line_of taken number count = if accepts taken number then [] else count_line_of (codes " not in the file: GPS ") number count
+-- an MSM of GPS of a station, unless it is taken; messages that can't be read are counted too
+abbrev pub msm_line_of : Accepted → List CaptureSurvey → ℕ → ℕ → List ℕ
+msm_line_of taken ss number count =
+    if accepts taken number then [] else count_line_of (codes " not in the file: GPS ") number (with_refused ss number count)
 
 abbrev pub msm_line : Accepted → List CaptureSurvey → ℕ → MsmKind → List ℕ
-msm_line taken ss station kind = msm_line_of taken (number_of_kind kind) (messages_in_captures ss station kind)
+msm_line taken ss station kind = msm_line_of taken ss (number_of_kind kind) (messages_in_captures ss station kind)
 
 unfoldable pub msm_lines : Accepted → List CaptureSurvey → ℕ → List ℕ
 msm_lines taken ss station =

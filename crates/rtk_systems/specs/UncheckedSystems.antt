@@ -1,5 +1,5 @@
 -- The systems whose clocks no chain compares with that of another system (this project's rule).
-use Rattle.std.specs.Prelude.{ℕ, ◌==◌, Bool, true, false, not, ◌&&◌, ◌||◌, is_some, List, [], ◌∷◌, ◌++◌, flat_map, codes, Option, None, Some, if◌then◌else◌}
+use Rattle.std.specs.Prelude.{ℕ, ◌==◌, Bool, true, false, not, ◌&&◌, ◌||◌, nat_lt, is_some, List, [], ◌∷◌, ◌++◌, flat_map, codes, Option, None, Some, if◌then◌else◌}
 use Rattle.std.specs.BTreeMap.{get}
 use Rattle.std.specs.List.{list_any}
 use Rattle.std.specs.Ordering.{nat_cmp}
@@ -16,7 +16,7 @@ use Rattle.rtk_survey.specs.declared.survey.CaptureSurvey.{CaptureSurvey}
 use Rattle.rtk_systems.specs.ClockOffsets.{clocks_compared}
 use Rattle.rtk_survey.specs.Contents.{station_in}
 use Rattle.rtk_systems.specs.SystemMsms.{systems_in_order}
-use Rattle.rtk_systems.specs.Values.{is_gps_system}
+use Rattle.rtk_systems.specs.Values.{is_gps_system, is_glonass_system}
 
 -- ---- the systems that a station sends
 
@@ -28,27 +28,23 @@ has_msm system t kind = is_some (get nat_cmp t.system_msm (number_of_type (recor
 abbrev pub kinds_in_order : List MsmKind
 kinds_in_order = Msm4 ∷ Msm5 ∷ Msm6 ∷ Msm7 ∷ []
 
--- table
--- 1012 has the clock of GLONASS
-abbrev pub is_glonass_system : System → Bool
-is_glonass_system Gps = false
-is_glonass_system Glonass = true
-is_glonass_system Galileo = false
-is_glonass_system Beidou = false
-is_glonass_system Qzss = false
-is_glonass_system Sbas = false
-is_glonass_system Navic = false
-
--- a 1012 came
+-- a 1012 came, which has the clock of GLONASS
 abbrev pub has_1012 : StationSurvey → Bool
 has_1012 t = is_some (get nat_cmp t.system_msm 1012)
 
 abbrev pub sends_beside : System → StationSurvey → Bool
 sends_beside system t = list_any (has_msm system t) kinds_in_order || (is_glonass_system system && has_1012 t)
 
+-- table
+-- a message with the clock of GPS came: a 1004 or an MSM
+abbrev pub has_gps_messages : StationSurvey → Bool
+has_gps_messages t =
+    nat_lt 0 t.counts.obs_1004
+    || (nat_lt 0 t.msm.msm4.messages || (nat_lt 0 t.msm.msm5.messages || (nat_lt 0 t.msm.msm6.messages || nat_lt 0 t.msm.msm7.messages)))
+
 -- a message with the clock of a system came
 abbrev pub sends_system : System → StationSurvey → Bool
-sends_system system t = if is_gps_system system then is_some t.times.first else sends_beside system t
+sends_system system t = if is_gps_system system then has_gps_messages t else sends_beside system t
 
 abbrev pub station_sends : System → Option StationSurvey → Bool
 station_sends system None = false

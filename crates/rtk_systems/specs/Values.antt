@@ -35,6 +35,16 @@ is_gps_system Qzss = false
 is_gps_system Sbas = false
 is_gps_system Navic = false
 
+-- table
+abbrev pub is_glonass_system : System → Bool
+is_glonass_system Gps = false
+is_glonass_system Glonass = true
+is_glonass_system Galileo = false
+is_glonass_system Beidou = false
+is_glonass_system Qzss = false
+is_glonass_system Sbas = false
+is_glonass_system Navic = false
+
 -- ---- epochs
 
 abbrev pub no_epochs : Epochs
@@ -124,12 +134,12 @@ has_code_in c (Some p) = get_or p.signals.codes (number_of c) false
 abbrev pub has_code_numbered : ℕ → AnyCode → StationSurvey → Bool
 has_code_numbered number c t = has_code_in c (get nat_cmp t.system_msm number)
 
--- a code of another system than GPS has a value in a message of a station that a conversion takes: an MSM, or a 1012, which
--- has codes of GLONASS alone
+-- a code of another system than GPS has a value in a message of a station that a conversion takes: an MSM, a 1012, which
+-- has codes of GLONASS alone, or a 1004, which has of these the code of SBAS alone
 abbrev pub has_code_beside : System → TakenMessages → AnyCode → StationSurvey → Bool
 has_code_beside system taken c t =
     has_code_numbered (number_of_type (record { system = system; kind = kind_of taken.kinds system })) c t
-    || (taken.obs1012 && has_code_numbered 1012 c t)
+    || ((taken.obs1012 && has_code_numbered 1012 c t) || has_code_numbered 1004 c t)
 
 -- a code of a system has a value in a message of a station that a conversion takes
 abbrev pub has_code_by : System → TakenMessages → AnyCode → StationSurvey → Bool
@@ -210,6 +220,26 @@ others_of_capture number s = shown_count (others_held s.contents number + refuse
 abbrev pub others_in_captures : List CaptureSurvey → ℕ → ℕ
 others_in_captures ss number = shown_count (sum_by (others_of_capture number) ss)
 
+-- how many messages of a number that a conversion of GPS reads can't be read
+abbrev pub refused_reading : Option MsmType → Unread → ℕ → ℕ
+refused_reading None u number = refused_of_number u number
+refused_reading (Some m) u number = if is_gps_system m.system then refused_of_number u number else 0
+
+abbrev pub refused_in_capture : ℕ → CaptureSurvey → ℕ
+refused_in_capture number s = refused_reading (type_of_number number) s.contents.unread number
+
+-- those of captures, of all stations: such a message tells no station
+abbrev pub refused_in_captures : List CaptureSurvey → ℕ → ℕ
+refused_in_captures ss number = shown_count (sum_by (refused_in_capture number) ss)
+
+-- so many messages of a number, and those that can't be read
+abbrev pub with_refused : List CaptureSurvey → ℕ → ℕ → ℕ
+with_refused ss number count = shown_count (count + refused_in_captures ss number)
+
+-- how many 1012 captures have, whether they are read or not
+abbrev pub all_1012_in_captures : List CaptureSurvey → ℕ
+all_1012_in_captures ss = with_refused ss 1012 (others_in_captures ss 1012)
+
 -- table
 -- how many messages of a number that is read a station has
 abbrev pub read_of_station : ℕ → StationSurvey → ℕ
@@ -231,4 +261,4 @@ read_in_captures ss number = shown_count (sum_by (read_in_capture number) ss)
 
 -- how many messages of a number captures have, whether they are read or not
 abbrev pub held_in_captures : List CaptureSurvey → ℕ → ℕ
-held_in_captures ss number = shown_count (others_in_captures ss number + read_in_captures ss number)
+held_in_captures ss number = with_refused ss number (shown_count (others_in_captures ss number + read_in_captures ss number))

@@ -5,11 +5,12 @@
 ghost use Rattle.std.specs.Prelude.{◌≡◌, ◌++◌, flat_map, OnOk};
 ghost use Rattle.rtk_systems.specs.ClockOffsets as spec;
 
-use crate::clock_offsets::{behind_of, clock_told, clocks_compared};
+use crate::clock_offsets::{gps_offsets_in_captures, told_among};
+use crate::clock_seconds::ClockSeconds;
 use crate::system_flags::SystemFlags;
 use crate::system_msms::system_letter;
 use rtk_message::System;
-use rtk_survey::{CaptureSurvey, put_clock_line};
+use rtk_survey::{CaptureSurvey, ClockOffset, compared_clocks, put_clock_line};
 use std::alloc::{AllocError, Global};
 
 /// The systems whose clocks are compared with those of GPS, in the order of a file.
@@ -22,20 +23,33 @@ const COMPARED: [System; 6] = [
     System::Navic,
 ];
 
+// Appends the line of a system whose clocks have these offsets, if one is not 0.
+fn put_told_line(
+    alloc: Global,
+    lines: &mut Vec<u8>,
+    system: System,
+    all: &[ClockOffset],
+) -> Result<(), AllocError>
+    ensures { OnOk result (lines.new.items ≡ lines.old.items ++ spec.told_line_of system all.now) }
+{
+    let told = told_among(alloc, all)?;
+    put_clock_line(lines, system_letter(system), compared_clocks(all), told)?;
+    Ok(())
+}
+
 // Appends the line of a system, if its clocks differ from those of their chains.
 fn put_told_clock(
     alloc: Global,
     lines: &mut Vec<u8>,
     surveys: &[CaptureSurvey],
     station: u16,
-    behind: u32,
+    seconds: &ClockSeconds,
     system: System,
 ) -> Result<(), AllocError>
-    ensures { OnOk result (lines.new.items ≡ lines.old.items ++ spec.told_clock_line surveys.now station behind system) }
+    ensures { OnOk result (lines.new.items ≡ lines.old.items ++ spec.told_clock_line surveys.now station seconds.now system) }
 {
-    let told = clock_told(alloc, surveys, station, system, behind)?;
-    let compared = clocks_compared(surveys, station, system);
-    put_clock_line(lines, system_letter(system), compared, told)?;
+    let all = gps_offsets_in_captures(alloc, seconds, surveys, station, system)?;
+    put_told_line(alloc, lines, system, all.as_slice())?;
     Ok(())
 }
 
@@ -46,16 +60,15 @@ fn put_asked_clock(
     asked: SystemFlags,
     surveys: &[CaptureSurvey],
     station: u16,
-    leap_seconds: u8,
+    seconds: &ClockSeconds,
     system: System,
 ) -> Result<(), AllocError>
-    ensures { OnOk result (lines.new.items ≡ lines.old.items ++ spec.asked_clock_line asked surveys.now station leap_seconds system) }
+    ensures { OnOk result (lines.new.items ≡ lines.old.items ++ spec.asked_clock_line asked surveys.now station seconds.now system) }
 {
     if !asked.has(system) {
         return Ok(());
     }
-    let behind = behind_of(leap_seconds, system);
-    put_told_clock(alloc, lines, surveys, station, behind, system)?;
+    put_told_clock(alloc, lines, surveys, station, seconds, system)?;
     Ok(())
 }
 
@@ -65,14 +78,14 @@ fn put_clocks_among(
     asked: SystemFlags,
     surveys: &[CaptureSurvey],
     station: u16,
-    leap_seconds: u8,
+    seconds: &ClockSeconds,
     systems: &[System],
 ) -> Result<(), AllocError>
     ensures { OnOk result (lines.new.items ≡ lines.old.items
-        ++ flat_map (spec.asked_clock_line asked surveys.now station leap_seconds) systems.now) }
+        ++ flat_map (spec.asked_clock_line asked surveys.now station seconds.now) systems.now) }
 {
     for system in systems {
-        put_asked_clock(alloc, lines, asked, surveys, station, leap_seconds, *system)?;
+        put_asked_clock(alloc, lines, asked, surveys, station, seconds, *system)?;
     }
     Ok(())
 }
@@ -85,17 +98,9 @@ pub fn put_told_clocks(
     asked: SystemFlags,
     surveys: &[CaptureSurvey],
     station: u16,
-    leap_seconds: u8,
+    seconds: &ClockSeconds,
 ) -> Result<(), AllocError>
-    ensures { OnOk result (lines.new.items ≡ lines.old.items ++ spec.told_clock_lines asked surveys.now station leap_seconds) }
+    ensures { OnOk result (lines.new.items ≡ lines.old.items ++ spec.told_clock_lines asked surveys.now station seconds.now) }
 {
-    put_clocks_among(
-        alloc,
-        lines,
-        asked,
-        surveys,
-        station,
-        leap_seconds,
-        &COMPARED,
-    )
+    put_clocks_among(alloc, lines, asked, surveys, station, seconds, &COMPARED)
 }

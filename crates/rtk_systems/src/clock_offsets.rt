@@ -1,14 +1,17 @@
 //! How far the clocks of a station's systems are apart in captures, and which systems are left out by them.
 
-ghost use Rattle.std.specs.Prelude.{◌≡◌, ◌<◌, ◌≤◌, ◌++◌, map, IfOk, OnOk};
+ghost use Rattle.std.specs.Prelude.{◌≡◌, ◌++◌, map, IfOk, OnOk};
 ghost use Rattle.std.specs.Option.{option_copied};
 ghost use Rattle.rtk_systems.specs.ClockOffsets as spec;
 
+use crate::clock_seconds::ClockSeconds;
 use crate::system_flags::SystemFlags;
+use crate::values::is_glonass_system;
 use rtk_message::System;
 use rtk_obs::WEEK_MS;
 use rtk_survey::{
-    CaptureSurvey, ClockOffset, ClockSurvey, StationSurvey, compared_clocks, told_offset,
+    CaptureSurvey, ClockOffset, ClockOffsets, ClockSurvey, DayOffset, StationSurvey,
+    compared_clocks, told_offset,
 };
 use std::alloc::{AllocError, Global};
 
@@ -35,16 +38,137 @@ fn offsets_of_station(system: System, station: Option<&StationSurvey>) -> &[Cloc
     }
 }
 
-/// The offsets of a system within the chains of a capture.
-pub(crate) fn offsets_in_capture(
-    station: u16,
-    system: System,
-    survey: &CaptureSurvey,
-) -> &[ClockOffset]
+// The offsets of a system within the chains of a capture.
+fn offsets_in_capture(station: u16, system: System, survey: &CaptureSurvey) -> &[ClockOffset]
     ensures { result.now ≡ spec.offsets_in_capture station system survey.now }
 {
     offsets_of_station(system, survey.contents.stations.get(&station))
 }
+
+/// How many clocks of a system are compared.
+pub(crate) fn clocks_compared(surveys: &[CaptureSurvey], station: u16, system: System) -> u64
+    ensures { result ≡ spec.clocks_compared surveys.now station system }
+{
+    let mut count = 0u64;
+    for survey in surveys {
+        let more = compared_clocks(offsets_in_capture(station, system, survey));
+        count = count.saturating_add(more);
+    }
+    count
+}
+
+// ---- the offsets of GPS time
+
+// The offset of GPS time, in ms, of clocks that are so many seconds behind it.
+fn gps_ahead(seconds: u8, ahead: u32) -> u32
+    ensures { result ≡ spec.gps_ahead seconds ahead }
+{
+    ((u64::from(ahead) + 1000 * u64::from(seconds)) % WEEK_MS) as u32
+}
+
+fn offset_on_day(seconds: &ClockSeconds, offset: DayOffset) -> ClockOffset
+    ensures { result ≡ spec.offset_on_day seconds.now offset }
+{
+    ClockOffset {
+        ahead_ms: gps_ahead(seconds.on(offset.day), offset.ahead_ms),
+        count: offset.count,
+    }
+}
+
+// Appends the offsets of clocks of GLONASS.
+fn put_days(
+    list: &mut Vec<ClockOffset>,
+    seconds: &ClockSeconds,
+    days: &[DayOffset],
+) -> Result<(), AllocError>
+    ensures { OnOk result (list.new.items ≡ list.old.items ++ map (spec.offset_on_day seconds.now) days.now) }
+{
+    for offset in days {
+        list.push(offset_on_day(seconds, *offset))?;
+    }
+    Ok(())
+}
+
+// Appends the offsets of clocks of a system.
+fn put_by(
+    list: &mut Vec<ClockOffset>,
+    seconds: &ClockSeconds,
+    system: System,
+    offsets: &ClockOffsets,
+) -> Result<(), AllocError>
+    ensures { OnOk result (list.new.items ≡ list.old.items ++ spec.gps_offsets_by seconds.now system offsets.now) }
+{
+    if is_glonass_system(system) {
+        put_days(list, seconds, offsets.glonass_days.as_slice())
+    } else {
+        list.extend_from_slice(offsets.of(system))
+    }
+}
+
+fn put_in_clocks(
+    list: &mut Vec<ClockOffset>,
+    seconds: &ClockSeconds,
+    system: System,
+    clocks: &[ClockSurvey],
+) -> Result<(), AllocError>
+    ensures { OnOk result (list.new.items ≡ list.old.items ++ spec.gps_offsets_in_clocks seconds.now system clocks.now) }
+{
+    match clocks.first() {
+        Some(clocks) => put_by(list, seconds, system, &clocks.offsets),
+        None => Ok(()),
+    }
+}
+
+fn put_of_station(
+    list: &mut Vec<ClockOffset>,
+    seconds: &ClockSeconds,
+    system: System,
+    station: Option<&StationSurvey>,
+) -> Result<(), AllocError>
+    ensures { OnOk result (list.new.items ≡ list.old.items ++ spec.gps_offsets_of_station seconds.now system (option_copied station.entry)) }
+{
+    match station {
+        Some(station) => put_in_clocks(list, seconds, system, station.clocks.as_slice()),
+        None => Ok(()),
+    }
+}
+
+/// Appends the offsets of a system within the chains of a capture.
+pub(crate) fn put_in_capture(
+    list: &mut Vec<ClockOffset>,
+    seconds: &ClockSeconds,
+    station: u16,
+    system: System,
+    survey: &CaptureSurvey,
+) -> Result<(), AllocError>
+    ensures { OnOk result (list.new.items ≡ list.old.items ++ spec.gps_offsets_in_capture seconds.now station system survey.now) }
+{
+    put_of_station(
+        list,
+        seconds,
+        system,
+        survey.contents.stations.get(&station),
+    )
+}
+
+/// The offsets of a system within the chains of all captures.
+pub(crate) fn gps_offsets_in_captures(
+    alloc: Global,
+    seconds: &ClockSeconds,
+    surveys: &[CaptureSurvey],
+    station: u16,
+    system: System,
+) -> Result<Vec<ClockOffset>, AllocError>
+    ensures { IfOk result (λ list. list.items ≡ spec.gps_offsets_in_captures seconds.now surveys.now station system) }
+{
+    let mut list = Vec::new(alloc);
+    for survey in surveys {
+        put_in_capture(&mut list, seconds, station, system, survey)?;
+    }
+    Ok(list)
+}
+
+// ---- how many clocks have an offset
 
 fn count_if_ahead(ahead: u32, offset: ClockOffset) -> u64
     ensures { result ≡ spec.count_if_ahead ahead offset }
@@ -67,121 +191,35 @@ pub(crate) fn ahead_in_list(ahead: u32, offsets: &[ClockOffset]) -> u64
     count
 }
 
-// How many clocks of all captures are ahead by this.
-fn ahead_in_captures(surveys: &[CaptureSurvey], station: u16, system: System, ahead: u32) -> u64
-    ensures { result ≡ spec.ahead_in_captures surveys.now station system ahead }
-{
-    let mut count = 0u64;
-    for survey in surveys {
-        let more = ahead_in_list(ahead, offsets_in_capture(station, system, survey));
-        count = count.saturating_add(more);
-    }
-    count
-}
-
-/// The offset of GPS time, in ms, of clocks that are so much behind it.
-pub(crate) fn gps_ahead(behind: u32, ahead: u32) -> u32
-    ensures { result ≡ spec.gps_ahead behind ahead }
-{
-    ((u64::from(ahead) + u64::from(behind)) % WEEK_MS) as u32
-}
-
-/// The offset of clocks that are behind GPS time by what they should be.
-pub(crate) fn zero_ahead(behind: u32) -> u32
-    requires { behind < 604_800_000 }
-    ensures { result ≡ spec.zero_ahead behind }
-{
-    ((WEEK_MS - u64::from(behind)) % WEEK_MS) as u32
-}
-
-fn total_offset(
-    surveys: &[CaptureSurvey],
-    station: u16,
-    system: System,
-    behind: u32,
-    offset: ClockOffset,
-) -> ClockOffset
-    ensures { result ≡ spec.total_offset surveys.now station system behind offset }
+fn total_among(all: &[ClockOffset], offset: ClockOffset) -> ClockOffset
+    ensures { result ≡ spec.total_among all.now offset }
 {
     ClockOffset {
-        ahead_ms: gps_ahead(behind, offset.ahead_ms),
-        count: ahead_in_captures(surveys, station, system, offset.ahead_ms),
+        ahead_ms: offset.ahead_ms,
+        count: ahead_in_list(offset.ahead_ms, all),
     }
 }
 
-// Appends the offsets of a list, each with the count of all captures.
-fn put_totals(
-    totals: &mut Vec<ClockOffset>,
-    surveys: &[CaptureSurvey],
-    station: u16,
-    system: System,
-    behind: u32,
-    offsets: &[ClockOffset],
-) -> Result<(), AllocError>
-    ensures { OnOk result (totals.new.items ≡ totals.old.items ++ map (spec.total_offset surveys.now station system behind) offsets.now) }
-{
-    for offset in offsets {
-        totals.push(total_offset(surveys, station, system, behind, *offset))?;
-    }
-    Ok(())
-}
-
-fn put_totals_of(
-    totals: &mut Vec<ClockOffset>,
-    surveys: &[CaptureSurvey],
-    station: u16,
-    system: System,
-    behind: u32,
-    survey: &CaptureSurvey,
-) -> Result<(), AllocError>
-    ensures { OnOk result (totals.new.items ≡ totals.old.items ++ spec.totals_of_capture surveys.now station system behind survey.now) }
-{
-    let offsets = offsets_in_capture(station, system, survey);
-    put_totals(totals, surveys, station, system, behind, offsets)?;
-    Ok(())
-}
-
-// The offsets of all captures.
-fn total_offsets(
-    alloc: Global,
-    surveys: &[CaptureSurvey],
-    station: u16,
-    system: System,
-    behind: u32,
-) -> Result<Vec<ClockOffset>, AllocError>
-    ensures { IfOk result (λ totals. totals.items ≡ spec.total_offsets surveys.now station system behind) }
+// The offsets of a list, each with the count of all.
+fn totals_among(alloc: Global, all: &[ClockOffset]) -> Result<Vec<ClockOffset>, AllocError>
+    ensures { IfOk result (λ totals. totals.items ≡ map (spec.total_among all.now) all.now) }
 {
     let mut totals = Vec::new(alloc);
-    for survey in surveys {
-        put_totals_of(&mut totals, surveys, station, system, behind, survey)?;
+    for offset in all {
+        totals.push(total_among(all, *offset))?;
     }
     Ok(totals)
 }
 
-/// The offset that is told of a system.
-pub(crate) fn clock_told(
+/// The offset that is told of a list.
+pub(crate) fn told_among(
     alloc: Global,
-    surveys: &[CaptureSurvey],
-    station: u16,
-    system: System,
-    behind: u32,
+    all: &[ClockOffset],
 ) -> Result<Option<ClockOffset>, AllocError>
-    ensures { IfOk result (λ told. told ≡ spec.clock_told surveys.now station system behind) }
+    ensures { IfOk result (λ told. told ≡ spec.told_among all.now) }
 {
-    let totals = total_offsets(alloc, surveys, station, system, behind)?;
+    let totals = totals_among(alloc, all)?;
     Ok(told_offset(totals.as_slice()))
-}
-
-/// How many clocks of a system are compared.
-pub(crate) fn clocks_compared(surveys: &[CaptureSurvey], station: u16, system: System) -> u64
-    ensures { result ≡ spec.clocks_compared surveys.now station system }
-{
-    let mut count = 0u64;
-    for survey in surveys {
-        let more = compared_clocks(offsets_in_capture(station, system, survey));
-        count = count.saturating_add(more);
-    }
-    count
 }
 
 // ---- systems that are left out
@@ -198,36 +236,13 @@ fn is_wrong_offset(right: u64, told: Option<ClockOffset>) -> bool
     }
 }
 
-/// Have more clocks an offset of 500 ms or more than are right?
-pub(crate) fn is_clock_wrong(
-    alloc: Global,
-    surveys: &[CaptureSurvey],
-    station: u16,
-    behind: u32,
-    system: System,
-) -> Result<bool, AllocError>
-    requires { behind < 604_800_000 }
-    ensures { IfOk result (λ wrong. wrong ≡ spec.is_clock_wrong surveys.now station behind system) }
+/// Have more clocks of a list an offset of 500 ms or more than are right?
+pub(crate) fn is_wrong_among(alloc: Global, all: &[ClockOffset]) -> Result<bool, AllocError>
+    ensures { IfOk result (λ wrong. wrong ≡ spec.is_wrong_among all.now) }
 {
-    let right = ahead_in_captures(surveys, station, system, zero_ahead(behind));
-    let told = clock_told(alloc, surveys, station, system, behind)?;
+    let right = ahead_in_list(0, all);
+    let told = told_among(alloc, all)?;
     Ok(is_wrong_offset(right, told))
-}
-
-/// The clocks of a system are behind GPS time by so many ms: those of GLONASS by the leap seconds.
-pub(crate) fn behind_of(leap_seconds: u8, system: System) -> u32
-    ensures value { result ≡ spec.behind_of leap_seconds system }
-    ensures bound { result < 604_800_000 }
-{
-    match system {
-        System::Glonass => 1000 * u32::from(leap_seconds),
-        System::Gps
-        | System::Galileo
-        | System::Beidou
-        | System::Qzss
-        | System::Sbas
-        | System::Navic => 0,
-    }
 }
 
 // Are the clocks of a system right, by these leap seconds?
@@ -235,13 +250,13 @@ fn is_clock_right(
     alloc: Global,
     surveys: &[CaptureSurvey],
     station: u16,
-    leap_seconds: u8,
+    seconds: &ClockSeconds,
     system: System,
 ) -> Result<bool, AllocError>
-    ensures { IfOk result (λ right. right ≡ spec.is_clock_right surveys.now station leap_seconds system) }
+    ensures { IfOk result (λ right. right ≡ spec.is_clock_right surveys.now station seconds.now system) }
 {
-    let behind = behind_of(leap_seconds, system);
-    Ok(!is_clock_wrong(alloc, surveys, station, behind, system)?)
+    let all = gps_offsets_in_captures(alloc, seconds, surveys, station, system)?;
+    Ok(!is_wrong_among(alloc, all.as_slice())?)
 }
 
 /// The systems whose clocks are not wrong, by these leap seconds.
@@ -249,17 +264,17 @@ pub fn systems_with_clocks(
     alloc: Global,
     surveys: &[CaptureSurvey],
     station: u16,
-    leap_seconds: u8,
+    seconds: &ClockSeconds,
 ) -> Result<SystemFlags, AllocError>
-    ensures { IfOk result (λ systems. systems ≡ spec.systems_with_clocks surveys.now station leap_seconds) }
+    ensures { IfOk result (λ systems. systems ≡ spec.systems_with_clocks surveys.now station seconds.now) }
 {
     Ok(SystemFlags {
         gps: true,
-        glonass: is_clock_right(alloc, surveys, station, leap_seconds, System::Glonass)?,
-        galileo: is_clock_right(alloc, surveys, station, leap_seconds, System::Galileo)?,
-        beidou: is_clock_right(alloc, surveys, station, leap_seconds, System::Beidou)?,
-        qzss: is_clock_right(alloc, surveys, station, leap_seconds, System::Qzss)?,
-        sbas: is_clock_right(alloc, surveys, station, leap_seconds, System::Sbas)?,
-        navic: is_clock_right(alloc, surveys, station, leap_seconds, System::Navic)?,
+        glonass: is_clock_right(alloc, surveys, station, seconds, System::Glonass)?,
+        galileo: is_clock_right(alloc, surveys, station, seconds, System::Galileo)?,
+        beidou: is_clock_right(alloc, surveys, station, seconds, System::Beidou)?,
+        qzss: is_clock_right(alloc, surveys, station, seconds, System::Qzss)?,
+        sbas: is_clock_right(alloc, surveys, station, seconds, System::Sbas)?,
+        navic: is_clock_right(alloc, surveys, station, seconds, System::Navic)?,
     })
 }

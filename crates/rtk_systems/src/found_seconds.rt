@@ -1,42 +1,29 @@
 //! The leap seconds by which clocks of GLONASS are dated, if those of the table are not right by them.
 
-ghost use Rattle.std.specs.Prelude.{◌≡◌, ◌<◌, map, IfOk};
+ghost use Rattle.std.specs.Prelude.{◌≡◌, IfOk};
 ghost use Rattle.std.specs.List.{list_all};
 ghost use Rattle.std.specs.Option.{option_copied};
+ghost use Rattle.rtk_message.specs.declared.system.System.TheVariants.{Glonass};
+ghost use Rattle.rtk_systems.specs.ClockOffsets.{gps_offsets_in_capture};
 ghost use Rattle.rtk_systems.specs.FoundSeconds as spec;
 
 use crate::clock_offsets::{
-    ahead_in_list, behind_of, clock_told, gps_ahead, is_clock_wrong, offsets_in_capture, zero_ahead,
+    ahead_in_list, gps_offsets_in_captures, is_wrong_among, put_in_capture, told_among,
 };
+use crate::clock_seconds::ClockSeconds;
 use rtk_message::System;
 use rtk_obs::{GpsMs, WEEK_MS, leap_seconds_at};
 use rtk_setup::LeapSeconds;
-use rtk_survey::{CaptureSurvey, ClockOffset, LeapRange, told_offset};
+use rtk_survey::{CaptureSurvey, ClockOffset, LeapRange};
 use std::alloc::{AllocError, Global};
 
 // ---- one capture
 
-fn own_offset(behind: u32, offset: ClockOffset) -> ClockOffset
-    ensures { result ≡ spec.own_offset behind offset }
+// The leap seconds of the table on the day of each clock.
+fn table_seconds(near: GpsMs) -> ClockSeconds
+    ensures { result ≡ spec.table_seconds near }
 {
-    ClockOffset {
-        ahead_ms: gps_ahead(behind, offset.ahead_ms),
-        count: offset.count,
-    }
-}
-
-fn own_offsets(
-    alloc: Global,
-    behind: u32,
-    offsets: &[ClockOffset],
-) -> Result<Vec<ClockOffset>, AllocError>
-    ensures { IfOk result (λ own. own.items ≡ map (spec.own_offset behind) offsets.now) }
-{
-    let mut own = Vec::new(alloc);
-    for offset in offsets {
-        own.push(own_offset(behind, *offset))?;
-    }
-    Ok(own)
+    ClockSeconds { given: None, near }
 }
 
 fn is_frequent(right: u64, ahead: u32, told: Option<ClockOffset>) -> bool
@@ -48,50 +35,51 @@ fn is_frequent(right: u64, ahead: u32, told: Option<ClockOffset>) -> bool
     }
 }
 
-// Are the clocks of a capture most often ahead of GPS time by this?
-fn are_ahead(
-    alloc: Global,
-    behind: u32,
-    ahead: u32,
-    offsets: &[ClockOffset],
-) -> Result<bool, AllocError>
-    requires { behind < 604_800_000 }
-    ensures { IfOk result (λ is. is ≡ spec.are_ahead behind ahead offsets.now) }
+// Are the clocks of a list most often ahead of GPS time by this?
+fn are_ahead(alloc: Global, ahead: u32, offsets: &[ClockOffset]) -> Result<bool, AllocError>
+    ensures { IfOk result (λ is. is ≡ spec.are_ahead ahead offsets.now) }
 {
-    let own = own_offsets(alloc, behind, offsets)?;
-    let right = ahead_in_list(zero_ahead(behind), offsets);
-    Ok(is_frequent(right, ahead, told_offset(own.as_slice())))
+    let right = ahead_in_list(0, offsets);
+    let told = told_among(alloc, offsets)?;
+    Ok(is_frequent(right, ahead, told))
 }
 
 // Are they, or is none compared?
-fn are_ahead_if_any(
-    alloc: Global,
-    behind: u32,
-    ahead: u32,
-    offsets: &[ClockOffset],
-) -> Result<bool, AllocError>
-    requires { behind < 604_800_000 }
-    ensures { IfOk result (λ is. is ≡ spec.are_ahead_if_any behind ahead offsets.now) }
+fn are_ahead_if_any(alloc: Global, ahead: u32, offsets: &[ClockOffset]) -> Result<bool, AllocError>
+    ensures { IfOk result (λ is. is ≡ spec.are_ahead_if_any ahead offsets.now) }
 {
     if offsets.is_empty() {
         return Ok(true);
     }
-    let ahead = are_ahead(alloc, behind, ahead, offsets)?;
+    let ahead = are_ahead(alloc, ahead, offsets)?;
     Ok(ahead)
+}
+
+// The offsets of clocks of GLONASS in a capture.
+fn gps_offsets_of_capture(
+    alloc: Global,
+    days: &ClockSeconds,
+    station: u16,
+    survey: &CaptureSurvey,
+) -> Result<Vec<ClockOffset>, AllocError>
+    ensures { IfOk result (λ list. list.items ≡ gps_offsets_in_capture days.now station Glonass survey.now) }
+{
+    let mut list = Vec::new(alloc);
+    put_in_capture(&mut list, days, station, System::Glonass, survey)?;
+    Ok(list)
 }
 
 fn is_ahead_in_capture(
     alloc: Global,
     station: u16,
-    behind: u32,
+    days: &ClockSeconds,
     ahead: u32,
     survey: &CaptureSurvey,
 ) -> Result<bool, AllocError>
-    requires { behind < 604_800_000 }
-    ensures { IfOk result (λ is. is ≡ spec.is_ahead_in_capture station behind ahead survey.now) }
+    ensures { IfOk result (λ is. is ≡ spec.is_ahead_in_capture station days.now ahead survey.now) }
 {
-    let offsets = offsets_in_capture(station, System::Glonass, survey);
-    let is = are_ahead_if_any(alloc, behind, ahead, offsets)?;
+    let offsets = gps_offsets_of_capture(alloc, days, station, survey)?;
+    let is = are_ahead_if_any(alloc, ahead, offsets.as_slice())?;
     Ok(is)
 }
 
@@ -131,14 +119,13 @@ fn are_all_ahead(
     alloc: Global,
     surveys: &[CaptureSurvey],
     station: u16,
-    behind: u32,
+    days: &ClockSeconds,
     ahead: u32,
 ) -> Result<bool, AllocError>
-    requires { behind < 604_800_000 }
-    ensures { IfOk result (λ are. are ≡ list_all (spec.is_ahead_in_capture station behind ahead) surveys.now) }
+    ensures { IfOk result (λ are. are ≡ list_all (spec.is_ahead_in_capture station days.now ahead) surveys.now) }
 {
     for survey in surveys {
-        if !is_ahead_in_capture(alloc, station, behind, ahead, survey)? {
+        if !is_ahead_in_capture(alloc, station, days, ahead, survey)? {
             return Ok(false);
         }
     }
@@ -157,22 +144,21 @@ fn all_agree(
     alloc: Global,
     surveys: &[CaptureSurvey],
     station: u16,
-    behind: u32,
+    days: &ClockSeconds,
     ahead: u32,
     seconds: u64,
 ) -> Result<bool, AllocError>
-    requires { behind < 604_800_000 }
-    ensures { IfOk result (λ agree. agree ≡ spec.all_agree surveys.now station behind ahead seconds) }
+    ensures { IfOk result (λ agree. agree ≡ spec.all_agree surveys.now station days.now ahead seconds) }
 {
-    let are_ahead = are_all_ahead(alloc, surveys, station, behind, ahead)?;
+    let are_ahead = are_all_ahead(alloc, surveys, station, days, ahead)?;
     Ok(are_ahead && do_all_agree(surveys, station, seconds))
 }
 
-// Clocks that are behind GPS time by this, if they are ahead by that of where they should be.
-fn truly_behind(behind: u32, ahead: u32) -> u64
-    ensures { result ≡ spec.truly_behind behind ahead }
+// By how much clocks are behind GPS time, if they are ahead by this of where they are with the leap seconds of the table.
+fn truly_behind(table: u8, ahead: u32) -> u64
+    ensures { result ≡ spec.truly_behind table ahead }
 {
-    (u64::from(behind) + WEEK_MS).saturating_sub(u64::from(ahead)) % WEEK_MS
+    (1000 * u64::from(table) + WEEK_MS).saturating_sub(u64::from(ahead)) % WEEK_MS
 }
 
 fn whole_seconds(ms: u64) -> Option<LeapSeconds>
@@ -189,18 +175,17 @@ fn agreed_seconds(
     alloc: Global,
     surveys: &[CaptureSurvey],
     station: u16,
-    behind: u32,
+    days: &ClockSeconds,
     ahead: u32,
     seconds: Option<LeapSeconds>,
 ) -> Result<Option<LeapSeconds>, AllocError>
-    requires { behind < 604_800_000 }
-    ensures { IfOk result (λ agreed. agreed ≡ spec.agreed_seconds surveys.now station behind ahead seconds) }
+    ensures { IfOk result (λ agreed. agreed ≡ spec.agreed_seconds surveys.now station days.now ahead seconds) }
 {
     let Some(told) = seconds else {
         return Ok(None);
     };
     let number = u64::from(told.number());
-    let agree = all_agree(alloc, surveys, station, behind, ahead, number)?;
+    let agree = all_agree(alloc, surveys, station, days, ahead, number)?;
     Ok(if agree { Some(told) } else { None })
 }
 
@@ -208,39 +193,54 @@ fn seconds_by(
     alloc: Global,
     surveys: &[CaptureSurvey],
     station: u16,
-    behind: u32,
+    days: &ClockSeconds,
+    table: u8,
     told: Option<ClockOffset>,
 ) -> Result<Option<LeapSeconds>, AllocError>
-    requires { behind < 604_800_000 }
-    ensures { IfOk result (λ seconds. seconds ≡ spec.seconds_by surveys.now station behind told) }
+    ensures { IfOk result (λ seconds. seconds ≡ spec.seconds_by surveys.now station days.now table told) }
 {
     let Some(offset) = told else {
         return Ok(None);
     };
     let ahead = offset.ahead_ms;
-    let seconds = whole_seconds(truly_behind(behind, ahead));
-    let agreed = agreed_seconds(alloc, surveys, station, behind, ahead, seconds)?;
+    let seconds = whole_seconds(truly_behind(table, ahead));
+    let agreed = agreed_seconds(alloc, surveys, station, days, ahead, seconds)?;
     Ok(agreed)
 }
 
-/// The leap seconds by which clocks of GLONASS are right that are wrong by those of the table, if they are wrong by
-/// the same whole seconds everywhere.
+// The leap seconds of clocks with these offsets, if these are wrong.
+fn seconds_if_wrong(
+    alloc: Global,
+    surveys: &[CaptureSurvey],
+    station: u16,
+    days: &ClockSeconds,
+    table: u8,
+    all: &[ClockOffset],
+) -> Result<Option<LeapSeconds>, AllocError>
+    ensures { IfOk result (λ seconds. seconds ≡ spec.seconds_if_wrong surveys.now station days.now table all.now) }
+{
+    let is_wrong = is_wrong_among(alloc, all)?;
+    if !is_wrong {
+        return Ok(None);
+    }
+    let told = told_among(alloc, all)?;
+    let seconds = seconds_by(alloc, surveys, station, days, table, told)?;
+    Ok(seconds)
+}
+
+// The leap seconds by which clocks of GLONASS are right that are wrong by those of the table, if they are wrong by the
+// same whole seconds everywhere.
 fn seconds_found(
     alloc: Global,
     surveys: &[CaptureSurvey],
     station: u16,
+    days: &ClockSeconds,
     table: u8,
 ) -> Result<Option<LeapSeconds>, AllocError>
-    ensures { IfOk result (λ seconds. seconds ≡ spec.seconds_found surveys.now station table) }
+    ensures { IfOk result (λ seconds. seconds ≡ spec.seconds_found surveys.now station days.now table) }
 {
-    let system = System::Glonass;
-    let behind = behind_of(table, system);
-    let is_wrong = is_clock_wrong(alloc, surveys, station, behind, system)?;
-    if !is_wrong {
-        return Ok(None);
-    }
-    let told = clock_told(alloc, surveys, station, system, behind)?;
-    let seconds = seconds_by(alloc, surveys, station, behind, told)?;
+    let all = gps_offsets_in_captures(alloc, days, surveys, station, System::Glonass)?;
+    let seconds = seconds_if_wrong(alloc, surveys, station, days, table, all.as_slice())?;
     Ok(seconds)
 }
 
@@ -251,16 +251,17 @@ fn seconds_found_if(
     asked: bool,
     surveys: &[CaptureSurvey],
     station: u16,
+    days: &ClockSeconds,
     table: u8,
     first: u8,
     last: u8,
 ) -> Result<Option<LeapSeconds>, AllocError>
-    ensures { IfOk result (λ seconds. seconds ≡ spec.seconds_found_if asked surveys.now station table first last) }
+    ensures { IfOk result (λ seconds. seconds ≡ spec.seconds_found_if asked surveys.now station days.now table first last) }
 {
     if !(asked && first == last) {
         return Ok(None);
     }
-    let seconds = seconds_found(alloc, surveys, station, table)?;
+    let seconds = seconds_found(alloc, surveys, station, days, table)?;
     Ok(seconds)
 }
 
@@ -280,6 +281,7 @@ pub fn seconds_in_captures(
     let table = leap_seconds_at(near);
     let first = leap_seconds_at(from);
     let last = leap_seconds_at(until);
-    let seconds = seconds_found_if(alloc, asked, surveys, station, table, first, last)?;
+    let days = table_seconds(near);
+    let seconds = seconds_found_if(alloc, asked, surveys, station, &days, table, first, last)?;
     Ok(seconds)
 }

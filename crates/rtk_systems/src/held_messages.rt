@@ -110,6 +110,48 @@ pub(crate) fn others_in_captures(surveys: &[CaptureSurvey], number: u16) -> u64
     count
 }
 
+// How many messages of a number were refused, unless they are MSM of another system than GPS.
+fn refused_reading(msm: Option<MsmType>, unread: &Unread, number: u16) -> u64
+    ensures { result ≡ spec.refused_reading msm unread.now number }
+{
+    match msm {
+        Some(msm) if !is_gps_system(msm.system) => 0,
+        _ => refused_of_number(unread, number),
+    }
+}
+
+// How many messages of a number that a conversion of GPS reads can't be read in a capture.
+fn refused_in_capture(number: u16, survey: &CaptureSurvey) -> u64
+    ensures { result ≡ spec.refused_in_capture number survey.now }
+{
+    refused_reading(MsmType::of_number(number), &survey.contents.unread, number)
+}
+
+// The same of captures, of all stations.
+fn refused_in_captures(surveys: &[CaptureSurvey], number: u16) -> u64
+    ensures { result ≡ spec.refused_in_captures surveys.now number }
+{
+    let mut count = 0u64;
+    for survey in surveys {
+        count = count.saturating_add(refused_in_capture(number, survey));
+    }
+    count
+}
+
+/// So many messages of a number that a conversion of GPS reads, and those that can't be read, of all stations.
+pub(crate) fn with_refused(surveys: &[CaptureSurvey], number: u16, count: u64) -> u64
+    ensures { result ≡ spec.with_refused surveys.now number count }
+{
+    count.saturating_add(refused_in_captures(surveys, number))
+}
+
+/// How many 1012 captures have, whether they are read or not.
+pub(crate) fn all_1012_in_captures(surveys: &[CaptureSurvey]) -> u64
+    ensures { result ≡ spec.all_1012_in_captures surveys.now }
+{
+    with_refused(surveys, 1012, others_in_captures(surveys, 1012))
+}
+
 // How many messages of a number that is read captures have of a station.
 fn read_of_station(number: u16, station: &StationSurvey) -> u64
     ensures { result ≡ spec.read_of_station number station.now }
@@ -152,5 +194,7 @@ fn read_in_captures(surveys: &[CaptureSurvey], number: u16) -> u64
 pub(crate) fn held_in_captures(surveys: &[CaptureSurvey], number: u16) -> u64
     ensures { result ≡ spec.held_in_captures surveys.now number }
 {
-    others_in_captures(surveys, number).saturating_add(read_in_captures(surveys, number))
+    let others = others_in_captures(surveys, number);
+    let read = others.saturating_add(read_in_captures(surveys, number));
+    with_refused(surveys, number, read)
 }

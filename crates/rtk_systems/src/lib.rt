@@ -10,7 +10,7 @@
 //! use rtk_obs::AnyCode;
 //! use rtk_setup::SystemKinds;
 //! use rtk_survey::survey_capture;
-//! use rtk_systems::{SystemFlags, codes_in_captures};
+//! use rtk_systems::{SystemFlags, TakenMessages, codes_in_captures};
 //! use std::alloc::{AllocError, Global};
 //!
 //! // A frame with a 1004 of station 2003, with values of one satellite in C/A code.
@@ -22,8 +22,11 @@
 //!     let Ok(survey) = survey_capture(alloc, &mut capture, None, 100) else {
 //!         return Ok(false);
 //!     };
-//!     let kinds = SystemKinds::all(MsmKind::Msm4);
-//!     let codes = codes_in_captures(alloc, &[survey], 2003, SystemFlags::ALL, kinds)?;
+//!     let taken = TakenMessages {
+//!         kinds: SystemKinds::all(MsmKind::Msm4),
+//!         obs1012: false,
+//!     };
+//!     let codes = codes_in_captures(alloc, &[survey], 2003, SystemFlags::ALL, taken)?;
 //!     Ok(codes.as_slice() == [AnyCode::G1C].as_slice())
 //! }
 //! ```
@@ -35,6 +38,7 @@ mod alike_channels;
 mod channel_words;
 mod clock_lines;
 mod clock_offsets;
+mod clock_seconds;
 mod found_seconds;
 mod held_messages;
 mod message_lines;
@@ -48,6 +52,7 @@ mod values;
 pub use channel_words::put_glonass_words;
 pub use clock_lines::put_told_clocks;
 pub use clock_offsets::systems_with_clocks;
+pub use clock_seconds::ClockSeconds;
 pub use found_seconds::{is_alone, leap_in_capture, seconds_in_captures};
 pub use message_lines::{list_held, put_doppler, put_msms, put_obs_1004, put_sbas, put_unread};
 pub use slot_channels::{channels_found, channels_joined, own_channels};

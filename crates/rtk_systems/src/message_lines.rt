@@ -6,8 +6,8 @@ ghost use Rattle.std.specs.Prelude.{◌≡◌, ◌≤◌, ◌+◌, ◌++◌, IfO
 ghost use Rattle.rtk_systems.specs.MessageLines as spec;
 
 use crate::held_messages::{
-    held_in_captures, messages_in_captures, obs_1004_in_captures, others_in_captures,
-    sbas_in_captures,
+    all_1012_in_captures, held_in_captures, messages_in_captures, obs_1004_in_captures,
+    others_in_captures, sbas_in_captures, with_refused,
 };
 use rtk_message::{Accepted, MsmKind, put_named};
 use rtk_survey::CaptureSurvey;
@@ -82,7 +82,7 @@ fn put_unread_gps(
 
 // Appends a line of words, a count and an end, if the count is not 0.
 fn put_counted(lines: &mut Vec<u8>, words: &[u8], count: u64, end: &[u8]) -> Result<(), AllocError>
-    ensures { OnOk result (lines.new.items ≡ lines.old.items ++ spec.counted_line words.now count end.now) }
+    ensures { OnOk result (lines.new.items ≡ lines.old.items ++ spec.ended_count_line words.now count end.now) }
 {
     if count == 0 {
         return Ok(());
@@ -103,7 +103,35 @@ fn put_long(lines: &mut Vec<u8>, count: u64) -> Result<(), AllocError>
     )
 }
 
+// Appends the line of so many messages of GLONASS of a number, unless they are taken.
+fn put_glonass_numbered(
+    lines: &mut Vec<u8>,
+    taken: Accepted,
+    number: u16,
+    count: u64,
+) -> Result<(), AllocError>
+    ensures { OnOk result (lines.new.items ≡ lines.old.items ++ spec.glonass_line_of taken number count) }
+{
+    if taken.accepts(number) {
+        return Ok(());
+    }
+    put_count_line(lines, b" not in the file: GLONASS ", number, count)
+}
+
 // Appends the line of 1012, unless they are taken.
+fn put_untaken_1012(
+    lines: &mut Vec<u8>,
+    surveys: &[CaptureSurvey],
+    taken: Accepted,
+) -> Result<(), AllocError>
+    ensures { OnOk result (lines.new.items ≡ lines.old.items ++ spec.untaken_1012_line taken surveys.now) }
+{
+    let count = all_1012_in_captures(surveys);
+    put_glonass_numbered(lines, taken, 1012, count)?;
+    Ok(())
+}
+
+// Appends the line of 1012, which may be left out since they can't be dated.
 fn put_1012(
     lines: &mut Vec<u8>,
     surveys: &[CaptureSurvey],
@@ -113,9 +141,9 @@ fn put_1012(
     ensures { OnOk result (lines.new.items ≡ lines.old.items ++ spec.line_of_1012 is_long taken surveys.now) }
 {
     if is_long {
-        put_long(lines, others_in_captures(surveys, 1012))
+        put_long(lines, all_1012_in_captures(surveys))
     } else {
-        put_unread_line(lines, surveys, b" not in the file: GLONASS ", taken, 1012)
+        put_untaken_1012(lines, surveys, taken)
     }
 }
 
@@ -201,18 +229,20 @@ pub fn put_unread(
     Ok(())
 }
 
-// Appends the line of a number of which a station has so many messages, unless it is taken.
+// Appends the line of a number of which a station has so many messages that are read, unless it is taken.
 fn put_msm_numbered(
     lines: &mut Vec<u8>,
+    surveys: &[CaptureSurvey],
     taken: Accepted,
     number: u16,
-    count: u64,
+    read: u64,
 ) -> Result<(), AllocError>
-    ensures { OnOk result (lines.new.items ≡ lines.old.items ++ spec.msm_line_of taken number count) }
+    ensures { OnOk result (lines.new.items ≡ lines.old.items ++ spec.msm_line_of taken surveys.now number read) }
 {
     if taken.accepts(number) {
         return Ok(());
     }
+    let count = with_refused(surveys, number, read);
     put_count_line(lines, b" not in the file: GPS ", number, count)
 }
 
@@ -227,7 +257,7 @@ fn put_msm(
     ensures { OnOk result (lines.new.items ≡ lines.old.items ++ spec.msm_line taken surveys.now station msm) }
 {
     let count = messages_in_captures(surveys, station, msm);
-    put_msm_numbered(lines, taken, msm.number(), count)?;
+    put_msm_numbered(lines, surveys, taken, msm.number(), count)?;
     Ok(())
 }
 

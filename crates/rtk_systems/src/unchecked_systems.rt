@@ -9,7 +9,7 @@ ghost use Rattle.rtk_systems.specs.UncheckedSystems as spec;
 
 use crate::clock_offsets::clocks_compared;
 use crate::system_msms::{SYSTEMS, system_letter};
-use crate::values::is_gps_system;
+use crate::values::{is_glonass_system, is_gps_system};
 use rtk_message::{MsmKind, MsmType, System};
 use rtk_setup::Setup;
 use rtk_survey::{CaptureSurvey, StationSurvey};
@@ -42,20 +42,6 @@ fn has_some_msm(system: System, station: &StationSurvey) -> bool
     KINDS.iter().any(|kind| has_msm(system, station, *kind))
 }
 
-fn is_glonass_system(system: System) -> bool
-    ensures { result ≡ spec.is_glonass_system system }
-{
-    match system {
-        System::Glonass => true,
-        System::Gps
-        | System::Galileo
-        | System::Beidou
-        | System::Qzss
-        | System::Sbas
-        | System::Navic => false,
-    }
-}
-
 fn has_1012(station: &StationSurvey) -> bool
     ensures { result ≡ spec.has_1012 station.now }
 {
@@ -68,11 +54,20 @@ fn sends_beside(system: System, station: &StationSurvey) -> bool
     has_some_msm(system, station) || (is_glonass_system(system) && has_1012(station))
 }
 
+fn has_gps_messages(station: &StationSurvey) -> bool
+    ensures { result ≡ spec.has_gps_messages station.now }
+{
+    0 < station.counts.obs_1004
+        || (0 < station.msm.msm4.messages
+            || (0 < station.msm.msm5.messages
+                || (0 < station.msm.msm6.messages || 0 < station.msm.msm7.messages)))
+}
+
 fn sends_system(system: System, station: &StationSurvey) -> bool
     ensures { result ≡ spec.sends_system system station.now }
 {
     if is_gps_system(system) {
-        station.times.first.is_some()
+        has_gps_messages(station)
     } else {
         sends_beside(system, station)
     }

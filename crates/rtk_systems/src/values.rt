@@ -37,6 +37,21 @@ pub fn is_gps_system(system: System) -> bool
     }
 }
 
+/// Is this GLONASS, whose clocks tell UTC?
+pub(crate) fn is_glonass_system(system: System) -> bool
+    ensures { result ≡ spec.is_glonass_system system }
+{
+    match system {
+        System::Glonass => true,
+        System::Gps
+        | System::Galileo
+        | System::Beidou
+        | System::Qzss
+        | System::Sbas
+        | System::Navic => false,
+    }
+}
+
 // ---- epochs
 
 fn no_epochs() -> Epochs
@@ -223,7 +238,7 @@ fn has_code_numbered(number: u16, code: AnyCode, station: &StationSurvey) -> boo
     has_code_in(code, station.system_msm.get(&number))
 }
 
-// Has a code of another system than GPS a value in an MSM or a 1012 that a conversion takes?
+// Has a code of another system than GPS a value in an MSM, a 1012 or a 1004 that a conversion takes?
 fn has_code_beside(
     system: System,
     taken: TakenMessages,
@@ -236,6 +251,7 @@ fn has_code_beside(
     let msm = MsmType { system, kind };
     has_code_numbered(msm.number(), code, station)
         || (taken.obs1012 && has_code_numbered(1012, code, station))
+        || has_code_numbered(1004, code, station)
 }
 
 // Has a code of a system a value in a message of a station that a conversion takes?

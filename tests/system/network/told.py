@@ -168,6 +168,10 @@ def results() -> Iterator[tuple[str, str, str]]:
         yield name, told(words, own, beside, known), due
     for name, parts, words in FRAMES:
         yield f"messages of {name}", str(left_of(parts)), str(bytes_of(words))
+    text, begin = bytes_of("1004 1124 1004"), len(frame(1004))
+    for cut in range(begin + 1, begin + len(frame(1124))):
+        left = without_systems([(text[:cut], "C"), (text[cut:], "")])
+        yield f"a message in two parts, of {cut - begin} bytes", str(left), str(bytes_of("1004 1004"))
 
 
 sys.exit(tally(results()))

@@ -8,7 +8,7 @@ use Rattle.rtk_obs.specs.declared.any_code.AnyCode.{AnyCode}
 use Rattle.rtk_systems.specs.declared.system_flags.SystemFlags.{SystemFlags}
 use Rattle.rtk_rinex.specs.Header.{IsMarker}
 use Rattle.rtk_rinex.specs.MixedHead.{IsMixedList}
-use Rattle.rtk_cli.specs.declared.options.AutoOptions.{AutoOptions}
+use Rattle.rtk_cli.specs.declared.auto_words.AutoOptions.{AutoOptions}
 use Rattle.rtk_cli.specs.declared.words.BadWords.{BadWords}
 use Rattle.rtk_cli.specs.declared.words.BadWords.TheVariants.{Near, Made, Codes, CodeOfSystem, CodeOfGps, Marker, Channels, Systems}
 use Rattle.rtk_cli.specs.declared.words.WordsFault.{WordsFault}

@@ -6,7 +6,7 @@ use Rattle.rtk_obs.specs.SatelliteIndex.{IsSatelliteIndex, system_at, letter_of,
 use Rattle.rtk_chart.specs.Choice.{is_chosen}
 use Rattle.rtk_chart.specs.declared.choice.Choice.{Choice}
 use Rattle.rtk_chart.specs.declared.choice.Choice.TheVariants.{All as EachOne, These}
-use Rattle.rtk_cli.specs.declared.options.ChartOptions.{ChartOptions}
+use Rattle.rtk_cli.specs.declared.chart_words.ChartOptions.{ChartOptions}
 use Rattle.rtk_cli.specs.declared.words.BadWords.{BadWords}
 use Rattle.rtk_cli.specs.declared.words.BadWords.TheVariants.{Systems, Satellites}
 use Rattle.rtk_cli.specs.Steps.NameList.{comma_names}

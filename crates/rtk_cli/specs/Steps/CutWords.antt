@@ -1,7 +1,7 @@
 -- What the words of `cut` say, and why they are refused.
 use Rattle.std.specs.Prelude.{◌≡◌, ◌<◌, ◌⊎◌, ℕ, Option, Some}
 use Rattle.rtk_cut.specs.declared.part.Part.{Part}
-use Rattle.rtk_cli.specs.declared.options.CutOptions.{CutOptions}
+use Rattle.rtk_cli.specs.declared.cut_words.CutOptions.{CutOptions}
 use Rattle.rtk_cli.specs.declared.words.BadWords.{BadWords}
 use Rattle.rtk_cli.specs.declared.words.BadWords.TheVariants.{From, Until}
 use Rattle.rtk_cli.specs.Steps.MomentText.{SaysMomentOrNone, HasNoMoment}

@@ -5,13 +5,16 @@ use Rattle.std.specs.Ordering.{nat_cmp}
 use Rattle.rtk_message.specs.declared.system.System.TheVariants.{Glonass}
 use Rattle.rtk_obs.specs.declared.any_code.AnyCode.{AnyCode}
 use Rattle.rtk_obs.specs.AnyCode.{number_of}
+use Rattle.rtk_obs.specs.Code.{place_of}
 use Rattle.rtk_survey.specs.Chains.{clocks_at}
 use Rattle.rtk_survey.specs.Channels.{place_of_field}
-use Rattle.rtk_survey.specs.NextCommand.{number_by, next_takes_1012, other_taken, slot_items, glonass_options}
+use Rattle.rtk_survey.specs.NextCommand.{number_by, with_own_sbas, next_takes_1012, other_taken, slot_items, glonass_options}
 use Rattle.rtk_survey.specs.Steps.Tables.{system_epochs_held}
+use Rattle.rtk_survey.specs.UncheckedClocks.{systems_sent}
 use Rattle.rtk_survey.specs.declared.date_message.UtcDate.{UtcDate}
 use Rattle.rtk_survey.specs.declared.station.StationSurvey.{StationSurvey}
 use Rattle.rtk_survey.specs.declared.system_msm.SystemMsm.{SystemMsm}
+use Rattle.rtk_survey.specs.declared.systems_sent.SystemsSent.{SystemsSent}
 
 -- a code has a value in the messages of a number
 abbrev pub code_in_part : Option SystemMsm → AnyCode → Bool
@@ -44,6 +47,12 @@ fields_held s slot field = get_or s.channels.items (place_of_field slot field) 0
 -- the codes that the command takes
 abbrev pub taken_held : Option UtcDate → StationSurvey → AnyCode → Bool
 taken_held date s = other_taken date (clocks_at s.clocks).offsets (system_epochs_held s) (codes_held_by s) (legacy_held date s)
+
+-- the systems whose messages have clocks
+abbrev pub clocked_held : StationSurvey → SystemsSent
+clocked_held s =
+    with_own_sbas (system_epochs_held s)
+    (systems_sent (λ c. get_or s.signals.codes.marks (place_of c) false) (λ c. get_or s.system_signals.codes (number_of c) false))
 
 -- the options of GLONASS
 abbrev pub glonass_held : Option UtcDate → StationSurvey → List ℕ

@@ -1,10 +1,10 @@
 use Rattle.std.proofs.Common.{◌≡◌, ◌++◌, drop}
 use Rattle.rtk_captures.specs.CaptureNames.{capture_name, lines_by}
-use Rattle.rtk_plan.specs.KnownLines.{other_dates_if_any}
-use Rattle.rtk_captures.specs.StationCaptures.{dates_in}
+use Rattle.rtk_plan.specs.KnownLines.{other_dates_at}
 use Rattle.rtk_plan.proofs.capture_lines.put_other_dates.Given as goal
 
 -- the lines so far and those of the captures that are left are those of all
 abbrev pub invariant-loop-at : goal.invariant-loop-at
 invariant-loop-at l =
-    l.lines.items ++ lines_by (λ at s. other_dates_if_any l.setup.station l.setup.near (dates_in l.setup.station s).span s (capture_name l.captures.names.now at)) l.at (drop l.at (l.captures.surveys.now)) ≡ l.fn.lines.items ++ lines_by (λ at s. other_dates_if_any l.setup.station l.setup.near (dates_in l.setup.station s).span s (capture_name l.captures.names.now at)) 0 (l.captures.surveys.now)
+    l.lines.items ++ lines_by (λ at s. other_dates_at l.setup.station l.setup.near s (capture_name l.captures.names.now at)) l.at (drop l.at (l.captures.surveys.now))
+    ≡ l.fn.lines.items ++ lines_by (λ at s. other_dates_at l.setup.station l.setup.near s (capture_name l.captures.names.now at)) 0 (l.captures.surveys.now)

@@ -1,13 +1,12 @@
-use Rattle.std.proofs.Common.{◌≡◌, ℕ, Bool, List, Option, inl, sym, ap, subst}
+use Rattle.std.proofs.Common.{◌≡◌, ◌∙◌, ℕ, Bool, List, Option, inl, sym, ap, subst}
 use Rattle.rtk_obs.specs.Dating.{IsReference}
 use Rattle.rtk_survey.specs.declared.survey.CaptureSurvey.{CaptureSurvey}
 use Rattle.rtk_plan.specs.Causes.{IsSetupCause, IsCaptureCause}
-use Rattle.rtk_plan.specs.Plan.{IsNear1012}
-use Rattle.rtk_systems.specs.SlotChannels.{AreSecondsChosen}
+use Rattle.rtk_plan.specs.Plan.{IsNear1012, clock_seconds}
 use Rattle.rtk_captures.specs.CaptureCauses.{AreTooMany}
 use Rattle.rtk_survey.specs.Surveys.{places_of}
 use Rattle.rtk_captures.specs.Linking.{AreLinksOf}
-use Rattle.rtk_captures.specs.Dating.{IsInReach, IsNearOf, captures_of}
+use Rattle.rtk_captures.specs.Dating.{IsInReach, IsNearOf}
 use Rattle.rtk_captures.specs.declared.refusal.Refusal.{Refusal}
 use Rattle.rtk_captures.specs.declared.refusal.Refusal.TheVariants.{NoCode, OutsideDates}
 use Rattle.rtk_captures.specs.declared.station_capture.StationCapture.{StationCapture}
@@ -57,6 +56,11 @@ returns-in_err-limit_links-clause-refused c =
     (links-cause ss links w c.args.skip_empty c.args.as_given c.args.captured.now.station cs are)
     c.in_err-limit_links.ensures.refused
 
+-- the captures are those of the station
+pub setup_near-requires-clause-near : goal.setup_near-requires-clause-near
+setup_near-requires-clause-near c =
+    subst (λ (cs : List StationCapture). IsNearOf c.args.wanted.now.near cs c.in_ok-dating.dating.near) c.requires.captures c.in_ok-dating.ensures.near
+
 -- the moment near which all are dated is in reach
 pub returns-clause-in_reach : goal.returns-clause-in_reach
 returns-clause-in_reach c =
@@ -67,7 +71,7 @@ pub returns-clause-leap_seconds : goal.returns-clause-leap_seconds
 returns-clause-leap_seconds c = (
   c.in_ok-dating.dating.near,
   c.in_ok-dating.ensures.near,
-  subst (λ (o : Option ℕ). AreSecondsChosen o c.in_ok-dating.dating.near c.seconds_chosen.result) (sym c.in_ok-setup.ensures.seconds) c.seconds_chosen.ensures.said,
+  c.seconds_compared.ensures ∙ ap (λ (o : Option ℕ). clock_seconds o c.in_ok-dating.dating.near) (sym c.in_ok-setup.ensures.seconds),
 )
 
 pub returns-clause-has_near_1012 : goal.returns-clause-has_near_1012

@@ -1,5 +1,4 @@
-use Rattle.std.proofs.Common.{◌≡◌, ◌∙◌, ℕ, List, Option, sym, ap, subst}
-use Rattle.rtk_obs.specs.declared.any_code.AnyCode.{AnyCode}
+use Rattle.std.proofs.Common.{◌≡◌, ◌∙◌, ℕ, Option, sym, ap, subst}
 use Rattle.rtk_rinex.specs.MixedHead.{GlonassView, MixedHeadView}
 use Rattle.rtk_setup.specs.Setup.{SetupView}
 use Rattle.rtk_systems.specs.SlotChannels.{IsGlonassFound}

@@ -1,5 +1,4 @@
 use Rattle.std.proofs.Common.{ℕ, Option, ap, sym, ◌∙◌}
-use Rattle.rtk_setup.specs.Setup.{SetupView}
 use Rattle.rtk_plan.proofs.station_setup.with_seconds.Goals as goal
 
 pub returns-in-None : goal.returns-in-None

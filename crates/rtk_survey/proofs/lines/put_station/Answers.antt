@@ -7,13 +7,13 @@ use Rattle.rtk_survey.specs.Chains.{no_clocks, clocks_at}
 use Rattle.rtk_survey.specs.FrameDates.{proposed_date}
 use Rattle.rtk_survey.specs.FrameEquipment.{told_lines}
 use Rattle.rtk_survey.specs.NextCommand.{station_proposal}
-use Rattle.rtk_survey.specs.Steps.OtherSystems.{glonass_held, taken_held}
+use Rattle.rtk_survey.specs.Steps.OtherSystems.{glonass_held, taken_held, clocked_held}
 use Rattle.rtk_survey.specs.Summary.{station_lines}
 use Rattle.rtk_survey.specs.SummaryText.{number_line, message_lines, system_epoch_lines, channel_line, time_lines, near_text, signal_lines}
 use Rattle.rtk_survey.specs.Contents.{equipment_at, epochs_held, codes_held}
 use Rattle.rtk_survey.specs.Steps.Tables.{messages_held, system_epochs_held, place_is_counted}
 use Rattle.rtk_survey.specs.Tracing.{times_of_week}
-use Rattle.rtk_survey.specs.UncheckedClocks.{systems_sent, all_clock_lines}
+use Rattle.rtk_survey.specs.UncheckedClocks.{all_clock_lines}
 use Rattle.rtk_survey.specs.declared.clock_chains.ClockSurvey.{ClockSurvey}
 use Rattle.rtk_survey.specs.declared.date_message.UtcDate.{UtcDate}
 use Rattle.rtk_survey.specs.declared.station_dates.StationDates.{StationDates}
@@ -33,7 +33,7 @@ returns c = λ ms date told stands.
     let signals : List ℕ =
     signal_lines (λ n. get_or s.signals.satellites n false) (λ code. get_or s.signals.codes.marks (place_of code) false)
     (λ n. get_or s.system_signals.satellites n false) (λ code. get_or s.system_signals.codes (number_of code) false) in
-    let sent : SystemsSent = systems_sent (λ code. get_or s.signals.codes.marks (place_of code) false) (λ code. get_or s.system_signals.codes (number_of code) false) in
+    let sent : SystemsSent = clocked_held s in
     let l0 : List ℕ = c.args.lines.now.items in
     let l1 : List ℕ = c.put_line.new.lines.items in
     let l2 : List ℕ = c.put_messages.new.lines.items in
@@ -58,9 +58,9 @@ returns c = λ ms date told stands.
     c.in_ok-put_signals.ensures)
     c.in_ok-put_epochs.ensures)
     (c.in_ok-put_channels.ensures ∙ ap (λ (t : List ℕ). l6 ++ channel_line (place_is_counted t)) c.as_slice.ensures.value))
-    (c.in_ok-put_clocks.ensures ∙ ap (λ (t : List ClockSurvey). l7 ++ all_clock_lines c.proposed_date.result c.of-sent.result (get_or t 0 no_clocks).offsets) c.as_slice-2.ensures.value
-    ∙ ap (λ (o : Option UtcDate). l7 ++ all_clock_lines o c.of-sent.result (clocks_at s.clocks).offsets) c.proposed_date.ensures
-    ∙ ap (λ (x : SystemsSent). l7 ++ all_clock_lines (proposed_date d) x (clocks_at s.clocks).offsets) c.of-sent.ensures))
+    (c.in_ok-put_clocks.ensures ∙ ap (λ (t : List ClockSurvey). l7 ++ all_clock_lines c.proposed_date.result c.systems_clocked-sent.result (get_or t 0 no_clocks).offsets) c.as_slice-2.ensures.value
+    ∙ ap (λ (o : Option UtcDate). l7 ++ all_clock_lines o c.systems_clocked-sent.result (clocks_at s.clocks).offsets) c.proposed_date.ensures
+    ∙ ap (λ (x : SystemsSent). l7 ++ all_clock_lines (proposed_date d) x (clocks_at s.clocks).offsets) c.systems_clocked-sent.ensures))
     c.in_ok-put_proposal.ensures
     ∙ ap (λ (t : List ℕ). l0 ++ t) (sym (station-lines-are name number s d e ms (own-survey ms date told s stands)))
     ∙ ap (λ (x : StationDates). l0 ++ station_lines name number ms x e) stands.dates ∙ ap (λ (x : Equipment). l0 ++ station_lines name number ms date x) stands.equipment

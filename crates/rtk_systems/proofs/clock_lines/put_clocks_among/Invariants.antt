@@ -5,4 +5,4 @@ use Rattle.rtk_systems.proofs.clock_lines.put_clocks_among.Given as goal
 
 abbrev pub invariant-loop-system : goal.invariant-loop-system
 invariant-loop-system l =
-    l.lines.items ≡ l.fn.lines.items ++ flat_map (asked_clock_line l.asked l.surveys l.station l.leap_seconds) (take l.system-index l.systems)
+    l.lines.items ≡ l.fn.lines.items ++ flat_map (asked_clock_line l.asked l.surveys l.station l.seconds) (take l.system-index l.systems)

@@ -4,4 +4,4 @@ use Rattle.rtk_systems.specs.FoundSeconds.{is_ahead_in_capture}
 use Rattle.rtk_systems.proofs.found_seconds.are_all_ahead.Given as goal
 
 abbrev pub invariant-loop-survey : goal.invariant-loop-survey
-invariant-loop-survey l = list_all (is_ahead_in_capture l.station l.behind l.ahead) (take l.survey-index l.surveys) ≡ true
+invariant-loop-survey l = list_all (is_ahead_in_capture l.station l.days l.ahead) (take l.survey-index l.surveys) ≡ true

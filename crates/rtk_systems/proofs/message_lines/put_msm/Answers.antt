@@ -7,5 +7,5 @@ pub returns : goal.returns
 returns c =
     let old : List ℕ = c.args.lines.now.items in
     c.in_ok-put_msm_numbered.ensures
-    ∙ ap (λ (n : ℕ). old ++ msm_line_of c.args.taken n c.messages_in_captures-count.result) c.number.ensures
-    ∙ ap (λ (n : ℕ). old ++ msm_line_of c.args.taken (number_of_kind c.args.msm) n) c.messages_in_captures-count.ensures
+    ∙ ap (λ (n : ℕ). old ++ msm_line_of c.args.taken c.args.surveys.now n c.messages_in_captures-count.result) c.number.ensures
+    ∙ ap (λ (n : ℕ). old ++ msm_line_of c.args.taken c.args.surveys.now (number_of_kind c.args.msm) n) c.messages_in_captures-count.ensures
