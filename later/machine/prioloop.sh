@@ -1,16 +1,17 @@
 #!/bin/bash
-# shares of processors: by session (autogroup), and within a session by process
-echo -20 > /proc/self/autogroup
+echo -15 > /proc/self/autogroup
 while :; do
 for p in $(pgrep -f 'rattle (check|build)'); do
   d=$(readlink /proc/$p/cwd)
   case $d in
-    /tmp/rt-copy*/rtk_survey|/tmp/rt-copy*/rtk_systems|/tmp/rt-copy*/rtk_captures|/tmp/rt-copy*/rtk_plan|/tmp/rt-copy*/rtk_cli|/tmp/rt-copy*/rtcm2rinex) n=-15; g=-20;;
-    /work/w/gate/*) n=-15; g=-20;;
-    /tmp/rt-copy*|/work/w/land/*) n=0; g=-20;;
-    /work/w/legacy*) n=0; g=-17;;
-    /work/w/tests/crates/rtcm2rinex) n=0; g=-6;;
-    *) n=5; g=12;;
+    /tmp/rt-copy*/rtk_plan|/tmp/rt-copy*/rtk_cli|/tmp/rt-copy*/rtcm2rinex|/tmp/rt-copy*/rtk_chart|/tmp/rt-copy*/rtk_commands) n=-15; g=-12;;
+    /work/w/gate/*) n=-15; g=-12;;
+    /tmp/rt-copy*/rtk_convert|/tmp/rt-copy*/rtk_usage) n=-15; g=-12;;
+    /work/w/surv/*|/work/w/trial/*) n=0; g=-9;;
+    /work/w/findings/*) n=0; g=-6;;
+    /tmp/rt-copy*) n=5; g=-6;;
+    /work/w/chart/*) n=10; g=10;;
+    *) n=10; g=0;;
   esac
   case $d in /tmp/rt-edit*) grep -q 'autogroup-1 ' /proc/$p/autogroup && continue;; esac
   echo $g > /proc/$p/autogroup 2>/dev/null
