@@ -6,18 +6,18 @@ ghost use Rattle.rtk_cut.specs.Cut.{IsStepOrNone};
 ghost use Rattle.rtk_commands.specs.FileTable.{IsTextOfSomeFile};
 ghost use Rattle.rtk_commands.specs.FileText.{WritesAll, WritesFirst};
 ghost use Rattle.rtk_commands.specs.KeptPartInput.{IsTextOfSystems, HasNoneAbsent, CutsPlain, CutsKeptOfPlain};
-ghost use Rattle.rtk_streams.specs.declared.fault.ToolFault.TheVariants.{OutOfMemory, Output};
+ghost use Rattle.rtk_commands.specs.declared.fault.ToolFault.TheVariants.{OutOfMemory, Output};
 
 use crate::any_table::check_any;
 use crate::cutting::cut_labelled;
+use crate::fault::ToolFault;
 use crate::file_answer::FileAnswer;
 use crate::file_command::FileCommand;
 use crate::with_label::{LabelledMixed, LabelledTable, mixed_with_label};
 use rtk_cut::{KeptSystems, Part, first_absent, keep_systems, kept_files_are_tables};
 use rtk_frame::Sink;
 use rtk_label::{Label, TimeLines};
-use rtk_rinex::{MixedTextTable, gps_files_stay};
-use rtk_streams::ToolFault;
+use rtk_rinex::{MixedTextTable, gps_files_stay, types_tell_shifts};
 use std::alloc::Global;
 
 /// The command `cut` of some systems of a file.
@@ -82,9 +82,11 @@ fn cut_present<W: Sink + Drop>(
     ensures no_failed_write { result.1 ≢ Err Output → W.failures result.0 ≡ W.failures out }
     ensures faults { IfErr result.1 (λ fault. (fault ≡ OutOfMemory) ⊎ (fault ≡ Output)) }
 {
-    // Laws: what is kept of a file is a file, also if it is one of GPS alone.
+    // Laws: what is kept of a file is a file, also if it is one of GPS alone, and its types tell whether it has Doppler
+    // shifts.
     kept_files_are_tables();
     gps_files_stay();
+    types_tell_shifts();
     let kept = match keep_systems(alloc, table, command.kept) {
         Ok(kept) => kept,
         Err(refused) => return (out, Err(refused.into())),

@@ -36,8 +36,7 @@ use Rattle.rtk_collect.specs.Accepted.{kept, cells_at, closed}
 use Rattle.rtk_collect.specs.Answer.{Class, LateClass, IsRightAnswer, class_by, class_of, class_of_cells, class_in_time, conflicts_of, conflicts_with}
 use Rattle.rtk_collect.specs.Arrival.{Arrival, At, message_of}
 use Rattle.rtk_collect.specs.Collector.{CollectorView, RepresentsArrivals}
-use Rattle.rtk_collect.specs.EpochSet.{AreLeftBeside, EpochSetView, left_beside, with_cell, cell_under, one_more, fresh, conflict, conflicts}
-use Rattle.rtk_collect.specs.Equal.{equal_cells}
+use Rattle.rtk_collect.specs.EpochSet.{AreLeftBeside, EpochSetView, left_beside, with_cell, cell_under, one_more, fresh, equal_values, conflict, conflicts}
 use Rattle.rtk_collect.specs.Gps.{gps}
 use Rattle.rtk_collect.specs.Key.{Above, KeysRise, key}
 use Rattle.rtk_collect.specs.Late.{epochs, greater, late}
@@ -68,9 +67,20 @@ lists-none (c ∷ listed) m h ne =
     let p = and_parts (letter c == 71) (list_all (λ c. letter c == 71) listed) h in
     not-first (letter c == m) (list_any (λ c. letter c == m) listed) (letter-no (letter c) m p.0 ne) (lists-none listed m p.1 ne)
 
+-- all codes are of GPS, and the file shows no Doppler shifts
+pub gps-alone : (s : SetupView) → IsTrue (is_of_gps s) → list_all (λ c. letter c == 71) s.head.listed ≡ true
+gps-alone s is = (and_parts (not s.head.doppler) (list_all (λ c. letter c == 71) s.head.listed) is).1
+
+not-shown : (b : Bool) → not b ≡ true → b ≡ false
+not-shown false h = refl
+not-shown true h = absurd cc
+
+pub shows-none : (s : SetupView) → IsTrue (is_of_gps s) → s.head.doppler ≡ false
+shows-none s is = not-shown s.head.doppler (and_parts (not s.head.doppler) (list_all (λ c. letter c == 71) s.head.listed) is).0
+
 -- no kind of another system is taken
 kinds-none : (s : SetupView) (system : System) → IsTrue (is_of_gps s) → letter_of system ≢ 71 → kinds_taken s system ≡ accepted.no_kind
-kinds-none s system is ne = rw (lists-none s.head.listed (letter_of system) is ne) refl
+kinds-none s system is ne = rw (lists-none s.head.listed (letter_of system) (gps-alone s is) ne) refl
 
 and-false : (b : Bool) → (b && false) ≡ false
 and-false true = refl
@@ -78,11 +88,13 @@ and-false false = refl
 
 -- 1012 is not taken
 none-of-1012 : (s : SetupView) → IsTrue (is_of_gps s) → obs1012_taken s ≡ false
-none-of-1012 s is = ap (λ (b : Bool). s.takes_1012 && b) (lists-none s.head.listed (letter_of Glonass) is (λ e. omega arith)) ∙ and-false s.takes_1012
+none-of-1012 s is = ap (λ (b : Bool). s.takes_1012 && b) (lists-none s.head.listed (letter_of Glonass) (gps-alone s is) (λ e. omega arith)) ∙ and-false s.takes_1012
 
 -- the cells are those without SBAS in a 1004
 pub gps-cells : (s : SetupView) → IsTrue (is_of_gps s) → cells_by s ≡ entries_of (channels_of s.head.glonass)
-gps-cells s is = ap (λ (b : Bool). entries_by b (channels_of s.head.glonass)) (lists-none s.head.listed (letter_of Sbas) is (λ e. omega arith))
+gps-cells s is =
+    ap (λ (b : Bool). entries_by b s.head.doppler (channels_of s.head.glonass)) (lists-none s.head.listed (letter_of Sbas) (gps-alone s is) (λ e. omega arith))
+    ∙ ap (λ (d : Bool). entries_by false d (channels_of s.head.glonass)) (shows-none s is)
 
 pub taken-of-gps : (s : SetupView) → IsTrue (is_of_gps s) → taken_by s ≡ accepted.of_gps (kinds_taken s Gps)
 taken-of-gps s is =
@@ -244,7 +256,7 @@ module _ (order : GpsKeepsItsOrder) where
 
   conflict-same : (c : CellEntry) (o : Option CellEntry) → HasSatellite c → conflict signals (signal_of c) (option_map signal_of o) ≡ map name_of_gps (conflict gps c o)
   conflict-same c None h = refl
-  conflict-same c (Some x) h = conflict-if (equal_cells x.cell c.cell) (signals.signal (signal_of c)) (signals.signal (signal_of c)) (gps.signal c) (name-same c h)
+  conflict-same c (Some x) h = conflict-if (equal_values gps x c) (signals.signal (signal_of c)) (signals.signal (signal_of c)) (gps.signal c) (name-same c h)
 
   conflicts-same : (cs xs : List CellEntry) → All HasSatellite cs → conflicts signals (map signal_of cs) (map signal_of xs) ≡ map name_of_gps (conflicts gps cs xs)
   conflicts-same [] xs h = refl

@@ -14,6 +14,7 @@ use Rattle.rtk_systems.specs.FoundSeconds.{seconds_found_if, table_seconds, AreS
 use Rattle.rtk_captures.specs.Linking.{links_found, AreLinksOf}
 use Rattle.rtk_plan.specs.Plan.{IsChosenStation, kinds_found, codes_chosen, AreSystemsTaken, AreCodesChosen, marker_chosen, converts_1012, near_chosen, near_in_reach, near_with_1012, codes_taken_from, AreLeapSecondsOf, IsNear1012, IsSetupFor}
 use Rattle.rtk_captures.specs.Dating.{captures_of, some_out_of_reach, IsBaseOf, IsReachOf, ArePlaced, IsNearOf, IsSpanOf, AreStrays}
+use Rattle.rtk_plan.specs.ClockReach.{clock_dating}
 use Rattle.rtk_plan.specs.Near1012.{ends_after, middle_up, middle_down, middle_second, dates_ends, can_date, near_of_ends, near_between}
 use Rattle.rtk_captures.specs.Reach.{least_told, placed_if_any, reach_after, second_of}
 use Rattle.rtk_systems.specs.SlotChannels.{IsGlonassFound}
@@ -112,16 +113,16 @@ one-1012 ss given station seconds first a b is also =
     let placed : is.0 ≡ also.0 = one-placed given cs is.0 also.0 is.1 also.1 in
     let span : is.2.0 ≡ also.2.0 = one-span given cs station is.2.0 also.2.0 is.2.1 also.2.1 in
     let leap : is.2.2.0 ≡ also.2.2.0 = one-seconds seconds first is.2.2.0 also.2.2.0 is.2.2.1 also.2.2.1 in
-    is.2.2.2 ∙ ap (λ (ps : List (Option Placed)). near_with_1012 ss station is.2.2.0 cs ps is.2.0.from is.2.0.until) placed
-    ∙ ap (λ (x : DatedSpan). near_with_1012 ss station is.2.2.0 cs also.0 x.from x.until) span
-    ∙ ap (λ (n : ℕ). near_with_1012 ss station n cs also.0 also.2.0.from also.2.0.until) leap ∙ sym also.2.2.2
+    is.2.2.2 ∙ ap (λ (ps : List (Option Placed)). near_with_1012 ss (clock_dating given station is.2.2.0 first) cs ps is.2.0.from is.2.0.until) placed
+    ∙ ap (λ (x : DatedSpan). near_with_1012 ss (clock_dating given station is.2.2.0 first) cs also.0 x.from x.until) span
+    ∙ ap (λ (n : ℕ). near_with_1012 ss (clock_dating given station n first) cs also.0 also.2.0.from also.2.0.until) leap ∙ sym also.2.2.2
 
-abbrev setup_with : ℕ → ℕ → List ℕ → List AnyCode → Option GlonassView → ℕ → ℕ → SystemKinds → Option ℕ → Bool → SetupView
-setup_with station near marker listed glonass made window kinds leap_seconds takes_1012 =
+abbrev setup_with : ℕ → ℕ → List ℕ → List AnyCode → Option GlonassView → ℕ → Bool → ℕ → SystemKinds → Option ℕ → Bool → SetupView
+setup_with station near marker listed glonass made doppler window kinds leap_seconds takes_1012 =
     record {
       station = station;
       near = near;
-      head = record { marker = marker; listed = listed; glonass = glonass; made = made };
+      head = record { marker = marker; listed = listed; glonass = glonass; made = made; doppler = doppler };
       window = window;
       kinds = kinds;
       leap_seconds = leap_seconds;
@@ -158,6 +159,7 @@ one-setup ss links w made s t is also =
     ∙ ap (λ (cs : List AnyCode). kinds_listed (kinds_found w.msm ss links t.station) cs) listed ∙ sym also.kinds in
     let marker : s.head.marker ≡ t.head.marker = is.marker ∙ ap (λ (n : ℕ). marker_chosen w.marker n) station ∙ sym also.marker in
     let made_at : s.head.made ≡ t.head.made = is.made_at ∙ sym also.made_at in
+    let doppler : s.head.doppler ≡ t.head.doppler = is.doppler ∙ sym also.doppler in
     let window : s.window ≡ t.window = is.window ∙ sym also.window in
     let takes : s.takes_1012 ≡ t.takes_1012 =
     is.with_1012 ∙ ap (λ (n : ℕ). converts_1012 ss n s.head.listed is.other) station
@@ -175,16 +177,17 @@ one-setup ss links w made s t is also =
     (subst (λ (n : ℕ). IsGlonassFound ss n (taken_pair (kinds_found w.msm ss links n) t.takes_1012) t.head.listed w.channels t.leap_seconds t.near t.head.glonass) (sym station) also.glonass)))) in
     let glonass : s.head.glonass ≡ t.head.glonass =
     one-glonass ss s.station (taken_pair found s.takes_1012) s.head.listed w.channels s.leap_seconds s.near s.head.glonass t.head.glonass is.glonass told in
-    ap (λ (n : ℕ). setup_with n s.near s.head.marker s.head.listed s.head.glonass s.head.made s.window s.kinds s.leap_seconds s.takes_1012) station
-    ∙ ap (λ (n : ℕ). setup_with t.station n s.head.marker s.head.listed s.head.glonass s.head.made s.window s.kinds s.leap_seconds s.takes_1012) near
-    ∙ ap (λ (name : List ℕ). setup_with t.station t.near name s.head.listed s.head.glonass s.head.made s.window s.kinds s.leap_seconds s.takes_1012) marker
-    ∙ ap (λ (codes : List AnyCode). setup_with t.station t.near t.head.marker codes s.head.glonass s.head.made s.window s.kinds s.leap_seconds s.takes_1012) listed
-    ∙ ap (λ (g : Option GlonassView). setup_with t.station t.near t.head.marker t.head.listed g s.head.made s.window s.kinds s.leap_seconds s.takes_1012) glonass
-    ∙ ap (λ (n : ℕ). setup_with t.station t.near t.head.marker t.head.listed t.head.glonass n s.window s.kinds s.leap_seconds s.takes_1012) made_at
-    ∙ ap (λ (n : ℕ). setup_with t.station t.near t.head.marker t.head.listed t.head.glonass t.head.made n s.kinds s.leap_seconds s.takes_1012) window
-    ∙ ap (λ (ks : SystemKinds). setup_with t.station t.near t.head.marker t.head.listed t.head.glonass t.head.made t.window ks s.leap_seconds s.takes_1012) kinds
-    ∙ ap (λ (leap : Option ℕ). setup_with t.station t.near t.head.marker t.head.listed t.head.glonass t.head.made t.window t.kinds leap s.takes_1012) leap_seconds
-    ∙ ap (λ (is_asked : Bool). setup_with t.station t.near t.head.marker t.head.listed t.head.glonass t.head.made t.window t.kinds t.leap_seconds is_asked) takes
+    ap (λ (n : ℕ). setup_with n s.near s.head.marker s.head.listed s.head.glonass s.head.made s.head.doppler s.window s.kinds s.leap_seconds s.takes_1012) station
+    ∙ ap (λ (n : ℕ). setup_with t.station n s.head.marker s.head.listed s.head.glonass s.head.made s.head.doppler s.window s.kinds s.leap_seconds s.takes_1012) near
+    ∙ ap (λ (name : List ℕ). setup_with t.station t.near name s.head.listed s.head.glonass s.head.made s.head.doppler s.window s.kinds s.leap_seconds s.takes_1012) marker
+    ∙ ap (λ (codes : List AnyCode). setup_with t.station t.near t.head.marker codes s.head.glonass s.head.made s.head.doppler s.window s.kinds s.leap_seconds s.takes_1012) listed
+    ∙ ap (λ (g : Option GlonassView). setup_with t.station t.near t.head.marker t.head.listed g s.head.made s.head.doppler s.window s.kinds s.leap_seconds s.takes_1012) glonass
+    ∙ ap (λ (n : ℕ). setup_with t.station t.near t.head.marker t.head.listed t.head.glonass n s.head.doppler s.window s.kinds s.leap_seconds s.takes_1012) made_at
+    ∙ ap (λ (b : Bool). setup_with t.station t.near t.head.marker t.head.listed t.head.glonass t.head.made b s.window s.kinds s.leap_seconds s.takes_1012) doppler
+    ∙ ap (λ (n : ℕ). setup_with t.station t.near t.head.marker t.head.listed t.head.glonass t.head.made t.head.doppler n s.kinds s.leap_seconds s.takes_1012) window
+    ∙ ap (λ (ks : SystemKinds). setup_with t.station t.near t.head.marker t.head.listed t.head.glonass t.head.made t.head.doppler t.window ks s.leap_seconds s.takes_1012) kinds
+    ∙ ap (λ (leap : Option ℕ). setup_with t.station t.near t.head.marker t.head.listed t.head.glonass t.head.made t.head.doppler t.window t.kinds leap s.takes_1012) leap_seconds
+    ∙ ap (λ (is_asked : Bool). setup_with t.station t.near t.head.marker t.head.listed t.head.glonass t.head.made t.head.doppler t.window t.kinds t.leap_seconds is_asked) takes
 
 pub one-plan : OnePlan
 one-plan ss w made as_given s t links others skipped left strays strayed is also =
@@ -235,7 +238,7 @@ other-whole : (ss : List CaptureSurvey) (given : Option ℕ) (station : ℕ) (se
     → IfSome other (λ n. n % 1000 ≡ 0)
 other-whole ss given station seconds first other is =
     let cs : List StationCapture = captures_of ss station in
-    let e : Ends = ends_after station is.2.2.0 (record { from = is.2.0.from; until = is.2.0.until }) ss is.0 in
+    let e : Ends = ends_after (clock_dating given station is.2.2.0 first) (record { from = is.2.0.from; until = is.2.0.until }) ss is.0 in
     subst (λ (o : Option ℕ). IfSome o (λ n. n % 1000 ≡ 0)) (sym is.2.2.2) (reach-whole cs is.0 (near_between e) (between-whole e))
 
 chosen-whole : (takes : Bool) (first : ℕ) (other : Option ℕ) → first % 1000 ≡ 0 → IfSome other (λ n. n % 1000 ≡ 0) → near_chosen takes first other % 1000 ≡ 0

@@ -1,6 +1,6 @@
 //! What the header of a file of any systems says of the lines of its satellites.
 
-ghost use Rattle.std.specs.Prelude.{◌≡◌, ◌≤◌, ◌==◌, if◌then◌else◌, length};
+ghost use Rattle.std.specs.Prelude.{◌≡◌, ◌≤◌, ◌==◌, if◌then◌else◌, length, IsTrue};
 ghost use Rattle.rtk_obs.specs.Carriers.{IsSlot};
 ghost use Rattle.rtk_rinex.specs.MixedHeader.{codes_of};
 ghost use Rattle.rtk_rinex.specs.MixedForm.{width_at, has_channel, has_phases, most_satellites, form_of_head};
@@ -12,7 +12,7 @@ use rtk_message::System;
 use rtk_obs::{SatelliteIndex, any_code_laws, satellite_laws};
 use std::marker::Model;
 
-/// How many codes a header lists of each system, and what it tells of GLONASS.
+/// How many codes a header lists of each system, what it tells of GLONASS, and whether the lines show Doppler shifts.
 #[derive(Clone, Copy)]
 pub(crate) struct RecordForm {
     gps: usize,
@@ -23,6 +23,7 @@ pub(crate) struct RecordForm {
     sbas: usize,
     navic: usize,
     told: Option<Glonass>,
+    doppler: bool,
 }
 
 impl Model for RecordForm {
@@ -39,6 +40,7 @@ impl Model for RecordForm {
       sbas = f.sbas;
       navic = f.navic;
       told = f.told;
+      doppler = f.doppler;
     } };
 
     ghost invariant = { λ f. IsFormView (record {
@@ -50,6 +52,7 @@ impl Model for RecordForm {
       sbas = f.sbas;
       navic = f.navic;
       told = f.told;
+      doppler = f.doppler;
     }) };
 
     ghost inverse = { λ v. record {
@@ -61,6 +64,7 @@ impl Model for RecordForm {
       sbas = v.sbas;
       navic = v.navic;
       told = v.told;
+      doppler = v.doppler;
     } };
 }
 
@@ -72,6 +76,17 @@ fn count_of(system: u8, head: &MixedHead) -> usize
     // A law: a place belongs to one code of a system, and is below 16.
     any_code_laws();
     codes_of(system, head.codes()).len()
+}
+
+// Returns whether two headers tell the same of GLONASS, or both nothing.
+fn is_same_told(told: Option<Glonass>, other: Option<Glonass>) -> bool
+    ensures { IsTrue result → told ≡ other }
+{
+    match (told, other) {
+        (Some(told), Some(other)) => told == other,
+        (None, None) => true,
+        _ => false,
+    }
 }
 
 // Returns how many satellites of a system can have a line.
@@ -106,6 +121,7 @@ impl RecordForm {
             sbas: count_of(b'S', head),
             navic: count_of(b'I', head),
             told: head.glonass(),
+            doppler: head.has_doppler(),
         }
     }
 
@@ -123,6 +139,28 @@ impl RecordForm {
             System::Sbas => self.sbas,
             System::Navic => self.navic,
         }
+    }
+
+    /// Returns whether another header says the same.
+    pub fn is_same(&self, other: &RecordForm) -> bool
+        ensures { IsTrue result → self.now ≡ other.now }
+    {
+        self.gps == other.gps
+            && self.glonass == other.glonass
+            && self.galileo == other.galileo
+            && self.beidou == other.beidou
+            && self.qzss == other.qzss
+            && self.sbas == other.sbas
+            && self.navic == other.navic
+            && self.doppler == other.doppler
+            && is_same_told(self.told, other.told)
+    }
+
+    /// Returns whether the lines show Doppler shifts.
+    pub fn has_doppler(&self) -> bool
+        ensures { result ≡ self.now.doppler }
+    {
+        self.doppler
     }
 
     /// Returns whether the line of a satellite may show phases.

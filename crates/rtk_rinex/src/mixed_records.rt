@@ -13,13 +13,14 @@ ghost use Rattle.rtk_rinex.specs.MixedRecords.{IsRecordOf};
 ghost use Rattle.rtk_rinex.specs.Steps.MixedReadRecords.{BeginsWithMixedRecord};
 
 use crate::columns::EPOCH_LINE;
+use crate::digits::is_same;
 use crate::epoch_line_check::{EpochStamp, stamp_in};
 use crate::epoch_table::Observed;
 use crate::mixed_form::RecordForm;
 use crate::mixed_satellite_line_check::satellite_of_mixed_form;
 use crate::records::skip_rows;
 use crate::records_check::next_line;
-use crate::satellite_line_read::read_cells;
+use crate::satellite_line_read::read_cells_in;
 use arrayvec::ArrayVec;
 use rtk_obs::{GpsMs, SatelliteIndex};
 use std::marker::Model;
@@ -64,8 +65,8 @@ impl<'a> Model for MixedRows<'a> {
 // Returns the moment and the count of the epoch line that begins a text, and the text after this line.
 fn read_stamp<'a>(text: &'a [u8], form: &RecordForm) -> (EpochStamp, &'a [u8])
     requires { ∥ BeginsWithMixedRecord form.now text.now ∥₁ }
-    ensures stamp { (e : EpochTableView) (rest : List ℕ) → IsMixedEpoch form.now e → text.now ≡ mixed_record_text e ++ rest
-        → (result.0.time ≡ e.time) × (result.0.count ≡ length e.rows) × (result.1.now ≡ flat_map mixed_satellite_line e.rows ++ rest) }
+    ensures stamp { (e : EpochTableView) (rest : List ℕ) → IsMixedEpoch form.now e → text.now ≡ mixed_record_text form.now.doppler e ++ rest
+        → (result.0.time ≡ e.time) × (result.0.count ≡ length e.rows) × (result.1.now ≡ flat_map (mixed_satellite_line form.now.doppler) e.rows ++ rest) }
     ensures few { result.0.count ≤ 221 }
     ensures len { length result.1.now ≤ length text.now }
 {
@@ -94,24 +95,30 @@ fn read_mixed_row(
     observed: &mut ArrayVec<Observed, 16>,
 ) -> SatelliteIndex
     requires line { IsLine line.now }
-    requires some { ∥ ((r : SatelliteRow) × IsMixedRow form.now r × (line.now ≡ mixed_satellite_line r)) ∥₁ }
+    requires some { ∥ ((r : SatelliteRow) × IsMixedRow form.now r × (line.now ≡ mixed_satellite_line form.now.doppler r)) ∥₁ }
     ensures row { IsMixedRow form.now (record { satellite = result; observed = observed.new }) }
-    ensures text { line.now ≡ mixed_satellite_line (record { satellite = result; observed = observed.new }) }
+    ensures text { line.now ≡ mixed_satellite_line form.now.doppler (record { satellite = result; observed = observed.new }) }
 {
     let Some(satellite) = satellite_of_mixed_form(line, form) else {
         unreachable!();
     };
-    read_cells(&line[3..line.len() - 1], form.width(satellite), observed);
+    read_cells_in(
+        form.has_doppler(),
+        &line[3..line.len() - 1],
+        form.width(satellite),
+        observed,
+    );
     satellite
 }
 
 // Returns the record that begins a text, and the text after it.
 fn first_record<'a>(text: &'a [u8], form: &RecordForm) -> (MixedRows<'a>, &'a [u8])
     requires { ∥ BeginsWithMixedRecord form.now text.now ∥₁ }
-    ensures parts { (e : EpochTableView) (rest : List ℕ) → IsMixedEpoch form.now e → text.now ≡ mixed_record_text e ++ rest
+    ensures parts { (e : EpochTableView) (rest : List ℕ) → IsMixedEpoch form.now e → text.now ≡ mixed_record_text form.now.doppler e ++ rest
         → IsRecordOf e result.0 × (result.1.now ≡ rest) }
     ensures whole { text.now ≡ result.0.text ++ result.1.now }
     ensures few { result.0.count ≤ 221 }
+    ensures form { result.0.form ≡ form.now }
 {
     let (stamp, lines) = read_stamp(text, form);
     let skipped = skip_rows(lines, stamp.count);
@@ -121,7 +128,7 @@ fn first_record<'a>(text: &'a [u8], form: &RecordForm) -> (MixedRows<'a>, &'a [u
 }
 
 impl<'a> MixedRows<'a> {
-    ghost use Rattle.std.specs.Prelude.{◌≡◌, ◌≤◌, List, [], IfSome, MatchOption};
+    ghost use Rattle.std.specs.Prelude.{◌≡◌, ◌≤◌, List, [], IsTrue, IfSome, MatchOption};
     ghost use Rattle.rtk_rinex.specs.declared.epoch_table.SatelliteRow.{SatelliteRow};
     ghost use Rattle.rtk_rinex.specs.MixedTable.{IsMixedRow};
     ghost use Rattle.rtk_rinex.specs.MixedRecords.{IsMixedRowsView, AreRowsLeft, IsNextRowOf, ReadsRow};
@@ -159,12 +166,29 @@ impl<'a> MixedRows<'a> {
         self.text
     }
 
+    /// Returns whether the lines of the record show Doppler shifts.
+    pub fn has_doppler(&self) -> bool
+        ensures { result ≡ self.now.form.doppler }
+    {
+        self.form.has_doppler()
+    }
+
     /// Returns how many rows are still to be read.
     pub fn count(&self) -> usize
         ensures value { result ≡ self.now.count }
         ensures few { result ≤ 221 }
     {
         self.count
+    }
+
+    /// Returns whether the lines that are still to be read are those of another record, in a file of the same form. So
+    /// they show the same rows. A caller may then read the rows of one record alone.
+    pub fn has_rows_of(&self, other: &MixedRows<'_>) -> bool
+        ensures { IsTrue result → (rows : List SatelliteRow) → AreRowsLeft other.now rows → AreRowsLeft self.now rows }
+    {
+        self.count == other.count
+            && is_same(self.lines, other.lines)
+            && self.form.is_same(&other.form)
     }
 
     /// Returns the record with the rows that are still to be read, so that they can be read twice.
@@ -229,6 +253,7 @@ impl<'a> MixedRecords<'a> {
             ((self.old.text ≡ []) × (self.new ≡ self.old))
             (λ rows. self.old.text ≡ rows.text ++ self.new.text) }
         ensures few { IfSome result (λ rows. rows.count ≤ 221) }
+        ensures same_form { IfSome result (λ rows. rows.form ≡ self.old.form) }
         ensures less { IfSome result (λ rows. length self.new.text < length self.old.text) }
         ensures form { self.new.form ≡ self.old.form }
     {
