@@ -7,7 +7,7 @@ from collections import Counter
 from typing import Iterable, NamedTuple, Optional
 
 import stages
-from clocks import DAY_MS, glonass_moment, leap_seconds_at, moment_of
+from clocks import DAY_MS, glonass_moment, leap_seconds_at
 from model import dated
 from msm import letter_of
 from systems import BEIDOU, BY_LETTER, GLONASS
@@ -28,7 +28,7 @@ WEEKS = {1042: (511, 13), 1045: (496, 12), 1046: (504, 12)}
 
 class Date(NamedTuple):
     """What clocks of GLONASS are dated by: a moment within half a week of them, and leap seconds if some are given. Where none are
-    given, they are those of the message's own moment, or if `own` is false of that moment alone."""
+    given, they are those of the day that the message tells, or if `own` is false of that moment alone."""
 
     near: int
     leap: Optional[int] = None
@@ -57,11 +57,16 @@ def _ahead(message: Message, base: int, date: Date | None) -> int | None:
     if date is None:
         return None
     moment = dated(date.near, base)
-    if date.leap is None and not date.own:
-        time = glonass_moment(clock, moment, leap_seconds_at(date.near))
-    else:
-        time = moment_of(GLONASS, clock, moment, date.leap)
-    return (time - moment) % WEEK_MS
+    leap = date.leap
+    if leap is None:
+        leap = leap_seconds_at(_noon_of(clock, moment, date.near) if date.own else date.near)
+    return (glonass_moment(clock, moment, leap) - moment) % WEEK_MS
+
+
+def _noon_of(clock: int, moment: int, near: int) -> int:
+    """Noon of the day of UTC that a clock of GLONASS tells, the one that lies nearest to a moment."""
+    day = glonass_moment(clock, moment, 0) % WEEK_MS // DAY_MS
+    return dated(near, DAY_MS * day + DAY_MS // 2)
 
 
 Offsets = dict[str, "Counter[int]"]  # by letters of systems; each is modulo a week

@@ -312,8 +312,9 @@ finds '--systems G with_sbas' "$noon until 2024-05-17T12:00:02 by 1013" "$one_co
 finds sbas_alone "$noon until $noon by 1013" "$(command $noon S1C) sbas_alone" '2 1 0 0 1 0 0 0 1' 0 ''
 finds '--systems S sbas_alone' "$noon until $noon by 1013" "$(command $noon S1C) sbas_alone" '2 1 0 0 1 0 0 0 1' 0 ''
 auto --systems G sbas_alone
-expect sbas_alone_of_gps 3 '' 'rtcm2rinex: the captures have no GPS observations that are read
- holds GPS 1004, 1 messages'
+expect sbas_alone_of_gps 3 '' 'rtcm2rinex: the captures have no observations that are read
+ holds GPS 1004, 1 messages
+ holds 1013, 1 messages'
 # summary of SBAS in a 1004: its satellites and its code, also in the command
 "$program" summary with_sbas | grep -E '^ (satellites|codes|unchecked|next)' >told
 printf ' %s\n' 'satellites G05 G07 S20 S38' 'codes 1C,2W,S1C' \

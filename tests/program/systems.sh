@@ -419,7 +419,7 @@ legacy with_1012_too_long 2020-01-25T02:16:00 '1C --window 4096' $G05_1004 $R12_
 # pins: long_line, unread_legacy_glonass
 echo ' untaken GLONASS 1012 1: more than a day' >want; grep 1012 said >told; same auto_with_1012_left_out told want
 # So is one that is cut short. Nothing is said where 1012 are converted.
-legacy with_1012_cut_short 2020-01-25T02:16:00 '1C --window 4096' $G05_1004 ${R12_1012:0:16}
+legacy with_1012_cut_short 2020-01-25T02:16:00 '1C --window 4096' $G05_1004 "$(echo $R12_1012 | cut -c 1-16)"
 # pins: glonass_line_of
 echo ' not in the file: GLONASS 1012, 1 messages' >want; grep 1012 said >told; same auto_with_1012_cut_short told want
 # A lone 1012 before the first epoch counts too: a second before it, and not nearly a day after it.

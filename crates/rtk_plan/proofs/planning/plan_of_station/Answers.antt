@@ -56,6 +56,11 @@ returns-in_err-limit_links-clause-refused c =
     (links-cause ss links w c.args.skip_empty c.args.as_given c.args.captured.now.station cs are)
     c.in_err-limit_links.ensures.refused
 
+-- the captures are those of the station
+pub setup_near-requires-clause-near : goal.setup_near-requires-clause-near
+setup_near-requires-clause-near c =
+    subst (λ (cs : List StationCapture). IsNearOf c.args.wanted.now.near cs c.in_ok-dating.dating.near) c.requires.captures c.in_ok-dating.ensures.near
+
 -- the moment near which all are dated is in reach
 pub returns-clause-in_reach : goal.returns-clause-in_reach
 returns-clause-in_reach c =
