@@ -23,13 +23,13 @@ _rtcm2rinex() {
             options='auto convert show check summary chart quality cut label compare help -h --help -V --version'
             ;;
         auto)
-            options='-o --output -f --force --label --marker --near --made --station --codes --msm --window --systems --channels --leap-seconds --skip-empty --links-as-given --report -h --help'
+            options='-o --output -f --force --label --marker --near --made --station --codes --msm --window --systems --channels --leap-seconds --skip-empty --links-as-given --report --doppler -h --help'
             values='--marker --near --made --station --codes --msm --window --systems --channels --leap-seconds'
             files='-o --output'
             arguments='files'
             ;;
         convert)
-            options='--station --near --made --marker --codes --window --msm --channels --leap-seconds --with-1012 -h --help'
+            options='--station --near --made --marker --codes --window --msm --channels --leap-seconds --with-1012 --doppler -h --help'
             values='--station --near --made --marker --codes --window --msm --channels --leap-seconds'
             arguments='files stdin'
             ;;

@@ -30,6 +30,7 @@ complete -c rtcm2rinex -n '__fish_seen_subcommand_from auto' -l leap-seconds -x 
 complete -c rtcm2rinex -n '__fish_seen_subcommand_from auto' -l skip-empty -d 'Leave out captures in which nothing of the station was found'
 complete -c rtcm2rinex -n '__fish_seen_subcommand_from auto' -l links-as-given -d 'Take each capture for a link, as convert does'
 complete -c rtcm2rinex -n '__fish_seen_subcommand_from auto' -l report -d 'Show the report of convert'
+complete -c rtcm2rinex -n '__fish_seen_subcommand_from auto' -l doppler -d 'Write the Doppler of MSM5 and MSM7, which each system must have'
 complete -c rtcm2rinex -n '__fish_seen_subcommand_from auto' -s h -l help -d 'Print help (see more with \'--help\')'
 complete -c rtcm2rinex -n '__fish_seen_subcommand_from auto' -F
 complete -c rtcm2rinex -n '__fish_seen_subcommand_from convert' -l station -x -d 'The reference station, 0 to 4095, as 2003'
@@ -42,6 +43,7 @@ complete -c rtcm2rinex -n '__fish_seen_subcommand_from convert' -l msm -x -d 'Wh
 complete -c rtcm2rinex -n '__fish_seen_subcommand_from convert' -l channels -x -d 'The channels of GLONASS slots, as 1:1,9:-6, or none'
 complete -c rtcm2rinex -n '__fish_seen_subcommand_from convert' -l leap-seconds -x -d 'The leap seconds that date GLONASS, 0 to 99; those of the table if not given'
 complete -c rtcm2rinex -n '__fish_seen_subcommand_from convert' -l with-1012 -d 'Converts 1012 too, and dates it within half a day of --near'
+complete -c rtcm2rinex -n '__fish_seen_subcommand_from convert' -l doppler -d 'Writes the Doppler of MSM5 and MSM7, which each system must have'
 complete -c rtcm2rinex -n '__fish_seen_subcommand_from convert' -s h -l help -d 'Print help (see more with \'--help\')'
 complete -c rtcm2rinex -n '__fish_seen_subcommand_from convert' -F -a stdin
 complete -c rtcm2rinex -n '__fish_seen_subcommand_from show' -l hex -d 'The capture is hex text'

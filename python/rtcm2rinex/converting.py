@@ -57,16 +57,17 @@ class AutoConversion(Conversion):
 
 
 def convert_words(station: int, near: Time, made: Optional[Time], marker: str, codes: Codes, window: int, msm: Kinds,
-                  channels: Optional[Channels], leap_seconds: Optional[int], with_1012: bool) -> List[str]:
+                  channels: Optional[Channels], leap_seconds: Optional[int], with_1012: bool, doppler: bool) -> List[str]:
     """The words of `convert` before its links."""
     return ["convert", *option_words({"station": station, "near": gps_word(near), "made": utc_word(made or present()), "marker": marker,
         "codes": code_word(codes), "window": window, "msm": kind_word(msm), "channels": channel_word(channels),
-        "leap_seconds": leap_seconds, "with_1012": with_1012})]
+        "leap_seconds": leap_seconds, "with_1012": with_1012, "doppler": doppler})]
 
 
 def convert(links: Union[Input, Sequence[Input]], *, station: int, near: Time, marker: str, codes: Codes, made: Optional[Time] = None,
             window: int = 64, msm: Kinds = 4, channels: Optional[Channels] = None, leap_seconds: Optional[int] = None,
-            with_1012: bool = False, output: Optional[Name] = None, force: bool = False, program: Optional[Location] = None) -> Conversion:
+            with_1012: bool = False, doppler: bool = False, output: Optional[Name] = None, force: bool = False,
+            program: Optional[Location] = None) -> Conversion:
     """Converts the captures of one station by the options that you give.
 
     `links` is one capture or several, each a name or an open binary file, and each a link. `station` is the ID of the reference
@@ -85,13 +86,15 @@ def convert(links: Union[Input, Sequence[Input]], *, station: int, near: Time, m
     which clocks of GLONASS are dated. Without it the program takes them from a table. `with_1012` converts 1012 too, which tell no day,
     so all messages must lie within half a day of `near`.
 
+    `doppler` writes the Doppler of MSM5 and MSM7, one of which each system with a listed code must have by `msm`.
+
     The file goes to `output`, which gets its name when it is whole, or else into `text` of the result. A file that is there is
     replaced only with `force`.
 
     Raises `WorkError` or `WordsError` if the program ends with a fault, and `FileExistsError` if `output` is there.
     """
     given = listed(links)
-    words = convert_words(station, near, made, marker, codes, window, msm, channels, leap_seconds, with_1012)
+    words = convert_words(station, near, made, marker, codes, window, msm, channels, leap_seconds, with_1012, doppler)
     with output_of(output, force, given) as file:
         ran = run(program, words, given, out=file)
         report = read_report(lines_of(ran.told))
@@ -102,13 +105,14 @@ def auto(captures: Union[Input, Sequence[Input]], *, output: Optional[Name] = No
          near: Optional[Time] = None, made: Optional[Time] = None, marker: Optional[str] = None, station: Optional[int] = None,
          codes: Optional[Codes] = None, systems: Optional[str] = None, msm: Optional[int] = None, channels: Optional[Channels] = None,
          leap_seconds: Optional[int] = None, window: Optional[int] = None, links_as_given: bool = False, skip_empty: bool = False,
-         report: bool = True, program: Optional[Location] = None) -> AutoConversion:
+         report: bool = True, doppler: bool = False, program: Optional[Location] = None) -> AutoConversion:
     """Converts the captures of one station, and finds the options of `convert` in them.
 
     `captures` is one capture or several, in any order, each a name or an open binary file. The program reads each capture twice, so an
     open file is first copied into a temporary file. The options are those of the command `auto`, and an option that is given is not
     looked for. `systems` has the letters of the systems that are converted, as `"GRE"`, and excludes `codes`. Without `report` the
-    lists of late, conflicting and refused messages stay empty. `label` needs `output`.
+    lists of late, conflicting and refused messages stay empty. `doppler` writes the Doppler of MSM5 and MSM7, and raises
+    `CapturesError` where a system has another MSM. `label` needs `output`.
 
     The file goes to `output`, which gets its name when it is whole, or else into `text` of the result. A file that is there is
     replaced only with `force`.
@@ -119,7 +123,8 @@ def auto(captures: Union[Input, Sequence[Input]], *, output: Optional[Name] = No
     options: Dict[str, Value] = {"output": None if output is None else file_word(output), "force": force, "label": label,
         "near": gps_word(near), "made": utc_word(made), "marker": marker, "station": station, "codes": code_word(codes),
         "systems": systems, "msm": msm, "channels": channel_word(channels), "leap_seconds": leap_seconds, "window": window,
-        "links_as_given": links_as_given, "skip_empty": skip_empty, "report": report}
+        "links_as_given": links_as_given, "skip_empty": skip_empty, "report": report,
+        "doppler": doppler}
     with tempfile.TemporaryDirectory(prefix="rtcm2rinex-") as folder:
         given = [named(it, Path(folder), number) for number, it in enumerate(listed(captures), 1)]
         ran = run(program, ["auto", *option_words(options)], given, accepted=(0, 3), third=CapturesError)

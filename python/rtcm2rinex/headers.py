@@ -29,7 +29,7 @@ class Header:
     GPS, and `E1X` a code of Galileo. `first` is the GPS time of the first record.
 
     A file with codes of GLONASS has `channels`, the frequency channels by slots, and `leap_seconds`. Without these codes `channels` is
-    empty and `leap_seconds` is None.
+    empty and `leap_seconds` is None. `doppler` says whether each code has Doppler between its phase and its strength.
 
     The other fields are those that `label` fills in. A field that the file leaves blank is an empty text. `interval`, in seconds, and
     `last`, a GPS time, are None if the file does not have their lines.
@@ -54,6 +54,7 @@ class Header:
     leap_seconds: Optional[int] = None
     interval: Optional[float] = None
     last: Optional[datetime] = None
+    doppler: bool = False
 
 
 class Lines:
@@ -157,7 +158,8 @@ def read_header(lines: Lines) -> Header:
     position = read_position(lines)
     delta = read_delta(lines)
     interval, last, columns = read_times(lines)
-    codes = read_codes(lines, letter, columns)
+    doppler = columns[15] == "D"  # the third type of the first system says it for all
+    codes = read_codes(lines, letter, columns, doppler)
     first = read_first(lines)
     for letter in codes:
         lines.fixed("SYS / PHASE SHIFT", letter)
@@ -167,7 +169,7 @@ def read_header(lines: Lines) -> Header:
         channels, leap_seconds = read_glonass(lines)
     lines.fixed("END OF HEADER", "")
     return Header(marker.rstrip(" "), made, position, delta, names_of(codes), first, run_by, marker_number, observer, agency,
-        receiver[0], receiver[1], receiver[2], antenna[0], antenna[1], channels, leap_seconds, interval, last)
+        receiver[0], receiver[1], receiver[2], antenna[0], antenna[1], channels, leap_seconds, interval, last, doppler)
 
 
 def read_program(lines: Lines) -> Tuple[str, datetime]:
@@ -220,7 +222,7 @@ def read_times(lines: Lines) -> Tuple[Optional[float], Optional[datetime], str]:
     return interval, last, columns
 
 
-def read_codes(lines: Lines, letter: str, columns: str) -> Dict[str, Tuple[str, ...]]:
+def read_codes(lines: Lines, letter: str, columns: str, doppler: bool) -> Dict[str, Tuple[str, ...]]:
     """The codes of the systems by their letters, and the line of the unit, which ends them. A file of several systems has at least two,
     in their order. The first of their lines has these columns."""
     due = list(SYSTEMS) if letter == SEVERAL else [letter]
@@ -230,26 +232,26 @@ def read_codes(lines: Lines, letter: str, columns: str) -> Dict[str, Tuple[str, 
         lines.want(columns[0] in due, "C1 HeaderLine")
         due = due[due.index(columns[0]) + 1 :]
         lines.want(due or codes or letter != SEVERAL, "C1 HeaderLine")  # the last system is not the first of several
-        codes[columns[0]] = read_types(lines, columns)
+        codes[columns[0]] = read_types(lines, columns, "CLDS" if doppler else "CLS")
         columns, label = lines.header(TYPES, UNIT)
     lines.want(len(codes) >= (2 if letter == SEVERAL else 1) and columns == f"{'DBHZ':60}", "C1 HeaderLine")
     return codes
 
 
-def read_types(lines: Lines, columns: str) -> Tuple[str, ...]:
-    """The codes of the system that these columns begin with, each of which has the types C, L and S in this order. A line has thirteen
+def read_types(lines: Lines, columns: str, kinds: str) -> Tuple[str, ...]:
+    """The codes of the system that these columns begin with, each of which has types of these kinds in this order. A line has thirteen
     types."""
     known = SYSTEMS[columns[0]].codes
-    count = digits_in(columns[3:6])
-    if columns[1:3] != "  " or count is None or count not in range(3, 3 * len(known) + 1, 3):
+    count, each = digits_in(columns[3:6]), len(kinds)
+    if columns[1:3] != "  " or count is None or count not in range(each, each * len(known) + 1, each):
         raise lines.fault("C1 HeaderLine")
     codes: List[str] = []
     for row in range(0, count, 13):
         if row:
             columns, _ = lines.header(TYPES)
         shown = range(row, min(row + 13, count))
-        codes += [columns[8 + 4 * (at - row) :][:2] for at in shown if at % 3 == 0]
-        due = (" " * 6 if row else columns[:6]) + "".join(f" {'CLS'[at % 3]}{codes[at // 3]}" for at in shown)
+        codes += [columns[8 + 4 * (at - row) :][:2] for at in shown if at % each == 0]
+        due = (" " * 6 if row else columns[:6]) + "".join(f" {kinds[at % each]}{codes[at // each]}" for at in shown)
         lines.want(columns == f"{due:60}" and len(set(codes) & set(known)) == len(codes), "C1 HeaderLine")
     return tuple(codes)
 

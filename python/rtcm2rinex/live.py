@@ -125,8 +125,9 @@ class Converter:
 
     def __init__(self, *, station: int, near: Time, marker: str, codes: Codes, made: Optional[Time] = None, window: int = 64,
                  msm: Kinds = 4, channels: Optional[Channels] = None, leap_seconds: Optional[int] = None, with_1012: bool = False,
-                 links: int = 1, output: Optional[IO[bytes]] = None, program: Optional[Location] = None) -> None:
-        self._words = convert_words(station, near, made, marker, codes, window, msm, channels, leap_seconds, with_1012)
+                 doppler: bool = False, links: int = 1, output: Optional[IO[bytes]] = None, program: Optional[Location] = None) -> None:
+        self._words = convert_words(station, near, made, marker, codes, window, msm, channels, leap_seconds, with_1012,
+            doppler)
         self._links = [Fed() for _ in range(links)]
         self._output, self._program = output, program
         self._process: Optional[subprocess.Popen[bytes]] = None

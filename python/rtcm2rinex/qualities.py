@@ -183,8 +183,9 @@ class Lists:
 
 @dataclass(frozen=True)
 class SystemQuality(Lists):
-    """The numbers of one system in a file with other systems than GPS, by the letter of the system (`system`). The others are as in
-    `Quality`, but of the satellites and codes of this system alone."""
+    """The numbers of one system in a file with other systems than GPS or with Doppler, by the letter of the system (`system`). The
+    others are as in `Quality`, but of the satellites and codes of this system alone. `doppler` is empty without Doppler; else it has the
+    codes, by the names that `convert` takes, each with how many values of Doppler it has."""
 
     system: str
     satellites: int
@@ -199,6 +200,7 @@ class SystemQuality(Lists):
     bursts: int
     half_runs: int
     missing_codes: int
+    doppler: Tuple[Tuple[str, int], ...] = ()
 
 
 @dataclass(frozen=True)
@@ -213,7 +215,7 @@ class Quality(Lists):
     `missing_codes` the times for which a code is missing. A file without records has only `marker` and `records`, and all else is None
     or empty.
 
-    `systems` is empty for a file of GPS alone. A file with other systems has `marker`, the numbers from `records` to `gaps`, and
+    `systems` is empty for a file of GPS alone without Doppler. A file with other systems or with Doppler has `marker`, the numbers from `records` to `gaps`, and
     `longest_gaps`. All else is None or empty, and `systems` has the numbers of each system of which the file has codes.
     """
 
@@ -270,7 +272,7 @@ def part_of(number: Optional[int], parts: int) -> Optional[float]:
 
 # What a file of GPS and a system have: lists, and numbers.
 LISTS = tuple(it.name for it in fields(Lists))
-TOTALS = tuple(it.name for it in fields(SystemQuality) if it.name not in (*LISTS, "system"))
+TOTALS = tuple(it.name for it in fields(SystemQuality) if it.name not in (*LISTS, "system", "doppler"))
 
 
 def none_of(names: Tuple[str, ...], it: Any) -> Dict[str, Any]:
@@ -303,7 +305,8 @@ def lists_of(rows: Dict[str, Any]) -> Dict[str, Any]:
 
 def system_of(rows: Dict[str, Any]) -> SystemQuality:
     """The numbers of a system."""
-    return SystemQuality(system=rows["totals"]["system"], **totals_of(rows["totals"]), **lists_of(rows))
+    doppler = tuple((row["code"], row["values"]) for row in rows.get("doppler", ()))
+    return SystemQuality(system=rows["totals"]["system"], **totals_of(rows["totals"]), **lists_of(rows), doppler=doppler)
 
 
 def never_of(row: Dict[str, Any]) -> Tuple[str, str]:

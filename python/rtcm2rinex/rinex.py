@@ -16,8 +16,10 @@ from .inputs import Name, text_of
 from .systems import GLONASS, PLACES, Columns, columns_of, count_of_satellites
 
 CELL = 48  # columns of range, phase and strength
+WIDE_CELL = 64  # with columns of Doppler before those of the strength
 VALUE = r"( {0,10}-?[0-9]{1,10}\.[0-9]{3})"
 VALUES = re.compile(rf"(?:{VALUE} ([1-9 ])| {{16}})(?:{VALUE}([ 123])([1-9 ])| {{16}})(?:{VALUE}  | {{16}})")
+SHIFT = re.compile(rf"{VALUE}  | {{16}}")
 EPOCH = re.compile(r"> ([0-9]{4}) ([0-9]{2}) ([0-9]{2}) ([0-9]{2}) ([0-9]{2})(.{11})  0(.{3})")
 
 
@@ -47,6 +49,8 @@ class Observation(NamedTuple):
     """Whether bit 0 of the loss-of-lock digit is set: the receiver lost count of the cycles since the phase before."""
     half_cycle: bool
     """Whether bit 1 of the loss-of-lock digit is set: the phase may be wrong by half a cycle."""
+    doppler: Optional[float] = None
+    """The Doppler shift in hertz (Hz), which is positive while the satellite comes nearer."""
 
 
 class Epoch(NamedTuple):
@@ -90,7 +94,7 @@ def observations(file: Union[Name, ReadableLines]) -> Iterator[Observation]:
     """Gives the observations of a RINEX file of this program as rows, in the order of the file.
 
     A row has one satellite and code at one epoch: `time` (GPS time), `satellite`, `code`, `range` (m), `phase` (cycles), `strength`
-    (dB-Hz), `loss_of_lock` and `half_cycle`. A code without any value has no row.
+    (dB-Hz), `loss_of_lock`, `half_cycle` and `doppler` (Hz). A code without any value has no row.
 
     `file` is a name or an open binary file. Raises `FormError` as `epochs` does.
     """
@@ -102,6 +106,7 @@ def read_epochs(lines: Lines, head: Header) -> Iterator[Epoch]:
     """The records behind a header. The first is at the time of first observation, and each other is later than the one before."""
     columns = columns_of(head.codes)
     most = count_of_satellites(columns)
+    width = WIDE_CELL if head.doppler else CELL
     last: Optional[datetime] = None
     while (line := lines.next_or_end()) is not None:
         time, count = epoch_line(lines, line, most)
@@ -109,10 +114,10 @@ def read_epochs(lines: Lines, head: Header) -> Iterator[Epoch]:
         last, place, rows = time, 0, []
         for _ in range(count):
             line = lines.next()
-            place = place_of(lines, line, place, columns)
-            cells = cells_of(lines, line, time, columns[line[0]])
+            place = place_of(lines, line, place, columns, width)
+            cells = cells_of(lines, line, time, columns[line[0]], width)
             if line[0] == GLONASS and int(line[1:3]) not in head.channels:
-                lines.want(all(it.phase is None for it in cells), "C3 Value")
+                lines.want(all(it.phase is None and it.doppler is None for it in cells), "C3 Value")
             rows += cells
         yield Epoch(time, tuple(rows))
 
@@ -127,22 +132,23 @@ def epoch_line(lines: Lines, line: str, most: int) -> Tuple[datetime, int]:
     return time, count
 
 
-def place_of(lines: Lines, line: str, before: int, columns: Columns) -> int:
+def place_of(lines: Lines, line: str, before: int, columns: Columns, width: int) -> int:
     """The place of the satellite of a line among all satellites, which is greater than the one before."""
     codes, place = columns.get(line[:1], ()), PLACES.get(line[:3], 0)
-    lines.want(codes and place and not line.endswith(" ") and len(line) <= 3 + CELL * len(codes), "C2 Columns")
+    lines.want(codes and place and not line.endswith(" ") and len(line) <= 3 + width * len(codes), "C2 Columns")
     lines.want(place > before, "C4 Order")
     return place
 
 
-def cells_of(lines: Lines, line: str, time: datetime, codes: Sequence[str]) -> List[Observation]:
-    """The observations of a satellite line, of which there is at least one."""
-    columns = line[3:].ljust(CELL * len(codes))
+def cells_of(lines: Lines, line: str, time: datetime, codes: Sequence[str], width: int) -> List[Observation]:
+    """The observations of a satellite line, of which there is at least one. A code has so many columns."""
+    columns = line[3:].ljust(width * len(codes))
     rows = []
     for at, code in enumerate(codes):
-        cell = columns[CELL * at : CELL * at + CELL]
+        cell = columns[width * at : width * (at + 1)]
         if cell.strip(" "):
-            rows.append(Observation(time, line[:3], code, *values_of(lines, cell)))
+            values = values_of(lines, cell[:32] + cell[-16:])
+            rows.append(Observation(time, line[:3], code, *values, shift_of(lines, cell[32:-16])))
     lines.want(rows, "C3 Value")
     return rows
 
@@ -157,6 +163,13 @@ def values_of(lines: Lines, cell: str) -> Tuple[Optional[float], Optional[float]
     lines.want(digit in (None, due) and phase_digit in (None, due), "C3 Value")
     mark = int(marks or 0) if marks != " " else 0
     return number_of(lines, value), number_of(lines, phase), number_of(lines, strength), bool(mark & 1), bool(mark & 2)
+
+
+def shift_of(lines: Lines, columns: str) -> Optional[float]:
+    """The Doppler shift of the columns of a code, which a file without Doppler does not have. It has no digits."""
+    match = SHIFT.fullmatch(columns) if columns else None
+    lines.want(match or not columns, "C3 Value")
+    return number_of(lines, match[1]) if match else None
 
 
 def strength_digit(lines: Lines, strength: Optional[str]) -> str:

@@ -17,12 +17,13 @@ def arrays(file: Union[Name, ReadableLines]) -> Dict[str, Any]:
     - `satellite` and `code` have texts such as `G05` and `1C`. The letter of the system is in `satellite` alone.
     - `range` is in metres (m), `phase` in cycles, and `strength` in dB-Hz. A value that the file lacks is NaN.
     - `loss_of_lock` and `half_cycle` are true where the file has these marks.
+    - `doppler` is in hertz (Hz). A file that was converted without Doppler has NaN throughout.
 
     Raises `ModuleNotFoundError` without numpy, and `FormError` if the text is not as the program writes it.
     """
     numpy = installed("numpy", "arrays")
     kinds = {"time": "datetime64[ms]", "satellite": "U3", "code": "U2", "range": "f8", "phase": "f8", "strength": "f8",
-        "loss_of_lock": "?", "half_cycle": "?"}
+        "loss_of_lock": "?", "half_cycle": "?", "doppler": "f8"}
     columns: List[List[object]] = [[] for _ in kinds]
     for row in observations(file):
         for column, value in zip(columns, row):

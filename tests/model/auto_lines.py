@@ -52,7 +52,7 @@ class Asked(NamedTuple):
             "--codes": None if it.names is None else ",".join(it.names), "--msm": it.msm,
             "--channels": None if it.channels is None else channels_text(it.channels), "--leap-seconds": it.leap,
         }  # fmt: skip
-        flags = ["--links-as-given"] * it.as_given + ["--skip-empty"] * it.skip_empty
+        flags = ["--links-as-given"] * it.as_given + ["--skip-empty"] * it.skip_empty + ["--doppler"] * it.doppler
         return [f"{name}={value}" for name, value in values.items() if value is not None] + flags
 
     def captures(self, texts: list[bytes]) -> list[finding.Capture]:
@@ -64,7 +64,7 @@ class Asked(NamedTuple):
         channels = None if chosen.slots is None else dict(sorted(chosen.slots.channels.items()))
         msm = None if chosen.msm == "4" else chosen.msm
         plain = Options(found.station, found.near, self.now, self.marker, tuple(chosen.names), self.window, msm, channels, chosen.leap)
-        return replace(plain, with_1012=chosen.with_1012)
+        return replace(plain, with_1012=chosen.with_1012, doppler=self.wanted.doppler)
 
 
 # ---------------------------------------------------------------- why there is no file
@@ -82,6 +82,7 @@ STOPPED = {
     "outside the dates": "the first epoch is not dated from 1980-01-13 to 2099-12-31; choose a date by --near",
     "too many links": "more than 16 captures are of the same time, and 16 links are taken",
     "positions differ": "the station stands at positions that differ; --links-as-given takes them for one",
+    "no rates": "--doppler needs MSM5 or MSM7 of SYSTEM",
     "no code": "neither a 1004 nor the MSM of --msm has an observation; choose another MSM",
 }
 
@@ -94,7 +95,8 @@ def refusal_pattern(stopped: Stopped, asked: Asked, texts: list[bytes]) -> str:
     if stopped.cause in ("two dates", "no date"):
         told = two_dates_text(asked.now, captures, station, *stopped.about) if stopped.about else to_come_text(asked.now, captures)
         listed = re.escape(told)
-    return f"rtcm2rinex: {STOPPED[stopped.cause]}\n".replace("STATION", str(station)) + listed
+    line = STOPPED[stopped.cause].replace("STATION", str(station)).replace("SYSTEM", "".join(map(str, stopped.about[:1])))
+    return f"rtcm2rinex: {line}\n{listed}"
 
 
 def stations_text(stations: tuple[object, ...], captures: list[finding.Capture]) -> str:
@@ -164,7 +166,7 @@ def auto_text(found: Found, asked: Asked, due: Conversion, texts: list[bytes]) -
     lines += slot_lines(found)
     lines += late_lines(found, asked, due)
     lines += capture_lines(found, texts)
-    lines += left_out_lines(found, texts)
+    lines += left_out_lines(found, texts, asked.wanted.doppler)
     lines += ["rtcm2rinex: no record came; the file is a header alone"] * (due.epochs == 0)
     return "".join(f"{line}\n" for line in lines)
 
@@ -191,7 +193,8 @@ def command_lines(found: Found, said: Options) -> list[str]:
     }  # fmt: skip
     words = (f"rtcm2rinex convert --station {said.station} --near {shown_time(said.near)} --made {shown_time(said.made)}"
              f" --marker {'-' * (len(said.marker) - len(marker))}{sh_quoted(marker)} "
-             + " ".join(f"{name} {value}" for name, value in chosen.items() if value is not None) + " --with-1012" * said.with_1012)
+             + " ".join(f"{name} {value}" for name, value in chosen.items() if value is not None) + " --with-1012" * said.with_1012
+             + " --doppler" * said.doppler)
     cats = ["cat " + " ".join(map(name_of, link)) for link in found.links]
     if len(cats) == 1 < len(found.links[0]):
         return [f"{cats[0]} | {words} stdin"]
@@ -296,7 +299,7 @@ def system_text(number: int) -> str:
 
 
 # pins: msm_line_of, doppler_line_of, obs_1004_line, is_gps_system, ended_count_line, long_line, unread_legacy_glonass
-def left_out_lines(found: Found, texts: list[bytes]) -> list[str]:
+def left_out_lines(found: Found, texts: list[bytes], has_doppler: bool) -> list[str]:
     """How many messages are not converted, or without a part: of GPS those of the station, of other systems those of all stations."""
     chosen = found.chosen
     read = [read_message(it.payload, MSMS) for text in texts for it in frames_of(text)]
@@ -311,7 +314,7 @@ def left_out_lines(found: Found, texts: list[bytes]) -> list[str]:
     lines = [f" not in the file: GPS {it}, {others[it]} messages" for it in of_gps]
     msm = number_of(GPS, chosen.kinds[GPS.letter]) if GPS.letter in chosen.kinds else None
     doppler = sum(it.header["number"] == msm for it in own)
-    lines += [f" not in the file: Doppler of {msm}, {doppler} messages"] * (msm in (1075, 1077) and doppler > 0)
+    lines += [f" not in the file: Doppler of {msm}, {doppler} messages"] * (msm in (1075, 1077) and doppler > 0 and not has_doppler)
     sbas = 0 if stages.CONVERTS_SBAS and SBAS.letter in chosen.kinds else sum(has_sbas(it) for it in own)
     lines += [f" not in the file: SBAS of 1004, {sbas} messages"] * (sbas > 0)
     is_long = stages.TAKES_1012 and found.is_long

@@ -51,6 +51,7 @@ def some_wanted(rng: Random, setup: Setup | Options) -> Wanted:
         "--msm": {"msm": rng.choice(KINDS)},
         "--channels": {"channels": {slot: rng.randint(-7, 6) for slot in rng.sample(range(1, 28), rng.choice((1, 5, 27)))}},
         "--leap-seconds": {"leap": rng.choice((17, 18, rng.randrange(100)))},
+        "--doppler": {"doppler": True},
     }
     for word in rng.sample(sorted(given), rng.choice((0, 0, 1, 2))):
         if word in stages.WORDS and not (word == "--codes" and wanted.systems or word == "--systems" and wanted.names):

@@ -23,7 +23,7 @@ NOT_TOLD = 255  # leap seconds of a 1013
 class Wanted(NamedTuple):
     """What the words of `auto` ask for, nothing where a word is not given: the station, the date, whether each capture is a link,
     whether captures without the station are left out, the letters of systems, the names of codes, the kind of MSM, channels of
-    GLONASS, and leap seconds."""
+    GLONASS, leap seconds, and whether Doppler is asked for."""
 
     station: Optional[int] = None
     near: Optional[int] = None
@@ -34,6 +34,7 @@ class Wanted(NamedTuple):
     msm: Optional[int] = None
     channels: Optional[dict[int, int]] = None
     leap: Optional[int] = None
+    doppler: bool = False
 
     @property
     def letters(self) -> str:

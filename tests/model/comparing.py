@@ -18,7 +18,7 @@ from typing import Dict, Iterator, List, NamedTuple, Optional, Tuple
 from mixed_files import MixedSetup, Shown, mixed_header, record
 from mixed_tables import MixedTable
 from model import moment
-from parts import END, TYPES, Record, records_of
+from parts import END, TYPES, Record, records_of, width_of
 from systems import BY_LETTER, GLONASS, SATELLITES
 
 SEED = 7171
@@ -39,9 +39,9 @@ class Cell(NamedTuple):
 NOTHING = Cell({}, False, False)
 
 
-def cell_of(line: str, rank: int) -> Cell:
-    text = line.ljust(3 + 48 * 17)[3 + 48 * rank :][:48]
-    columns = {"range": text[:14], "phase": text[16:30], "strength": text[32:46]}
+def cell_of(line: str, rank: int, width: int) -> Cell:
+    text = line.ljust(3 + width * 17)[3 + width * rank :][:width]
+    columns = {"range": text[:14], "phase": text[16:30], "strength": text[-16:-2], "doppler": text[32:-16]}
     values = {name: int(it.replace(".", "")) for name, it in columns.items() if it.strip()}
     return Cell(values, text[30] in "13", text[30] in "23")
 
@@ -54,7 +54,8 @@ class File:
 
     def __post_init__(self) -> None:
         self.header = self.text.partition(END)[0].splitlines()
-        self.records: Dict[str, Record] = {it.first[:31]: it for it in records_of(self.text.partition(END)[2])}
+        self.width = width_of(self.text)
+        self.records: Dict[str, Record] = {it.first[:31]: it for it in records_of(self.text.partition(END)[2], self.width)}
         self.codes = dict(self.codes_by_system())
 
     def field(self, name: str) -> str:
@@ -68,7 +69,7 @@ class File:
                 system = line[0].strip() or system
                 names.setdefault(system, []).extend(line[6:60].split())
         for system, types in names.items():
-            yield system, [it[1:] for it in types[::3]]
+            yield system, [it[1:] for it in types[:: self.width // 16]]
 
     def channels(self) -> Dict[int, str]:
         lines = [line[4:60] for line in self.header if line[60:].startswith("GLONASS SLOT")]
@@ -78,7 +79,7 @@ class File:
     def cell(self, key: str, satellite: str, code: str) -> Cell:
         if key not in self.records or code not in self.codes.get(satellite[0], []):
             return NOTHING
-        return cell_of(self.records[key].lines.get(satellite, ""), self.codes[satellite[0]].index(code))
+        return cell_of(self.records[key].lines.get(satellite, ""), self.codes[satellite[0]].index(code), self.width)
 
 
 def nearest(distance: int) -> int:
@@ -135,6 +136,8 @@ class Comparison:
                     self.tell("changed" if slot in new.channels() else "lost", f"channel {slot}")
             if old.field("LEAP SECONDS") != new.field("LEAP SECONDS"):
                 self.tell("changed", "leap-seconds")
+        if old.width > new.width:
+            self.tell("lost", "doppler")
 
     def compare_records(self, at: int, key: str) -> None:
         for satellite in self.old.records[key].lines:
@@ -173,6 +176,15 @@ class Comparison:
             self.tell("explained", f"roll {place}")
         if here is not None:
             self.compare_marks(place, history, is_finer)
+        self.compare_shifts(place, old, new)
+
+    def compare_shifts(self, place: str, old: Cell, new: Cell) -> None:
+        """A shift is lost if both files have Doppler; without it in the new file the header tells the loss."""
+        was, is_now = old.values.get("doppler"), new.values.get("doppler")
+        if was is not None and is_now is None and self.new.width == 64:
+            self.tell("lost", f"doppler {place}")
+        if was is not None and is_now is not None and was != is_now:
+            self.tell("changed", f"doppler {place}")
 
     def compare_marks(self, place: str, history: List[Tuple[Cell, Cell]], is_finer: bool) -> None:
         old, new = history[-1]
@@ -253,12 +265,13 @@ def some_cell(rng: Random) -> Shown:
     if rng.random() < 0.6:
         phase = 100_000_000_000
     digit = rng.choice("     13 2") if phase is not None else " "
-    return Shown(rng.choice((None, 20_000_000_000, 20_000_000_000)), phase, rng.choice((None, 45_000, 45_000)), digit)
+    shift = rng.choice((None, 1_576_458, 1_576_458))
+    return Shown(rng.choice((None, 20_000_000_000, 20_000_000_000)), phase, rng.choice((None, 45_000, 45_000)), digit, shift)
 
 
 def changed(rng: Random, cell: Shown) -> Optional[Shown]:
     """A cell that is the same, or has another value or mark, or is gone."""
-    value, phase, strength, digit = cell
+    value, phase, strength, digit, shift = cell
     if rng.random() < 0.4 and phase is not None:
         digit = rng.choice(" 123")
     if rng.random() < 0.3 and phase is not None:
@@ -275,7 +288,9 @@ def changed(rng: Random, cell: Shown) -> Optional[Shown]:
         strength = None
     if rng.random() < 0.06:
         phase, digit = None, " "
-    return Shown(value, phase, strength, digit)
+    if rng.random() < 0.1:
+        shift = rng.choice((None, 1, 1_576_457))
+    return Shown(value, phase, strength, digit, shift)
 
 
 def some_new(rng: Random, setup: MixedSetup, old: Table) -> Table:
@@ -314,7 +329,7 @@ def file_of(rng: Random, setup: MixedSetup, table: Table, place: Dict[str, int],
 def some_pair(rng: Random) -> Tuple[str, str]:
     codes = some_codes(rng)
     channels = {slot: rng.randint(-7, 6) for slot in rng.sample(range(1, 28), 20)}
-    setup = MixedSetup(NOON, NOON, "BASE", codes, channels)
+    setup = MixedSetup(NOON, NOON, "BASE", codes, channels, doppler=rng.random() < 0.3)
     old = some_old(rng, setup)
     new_codes = codes
     if rng.random() < 0.2:
@@ -323,7 +338,9 @@ def some_pair(rng: Random) -> Tuple[str, str]:
     if rng.random() < 0.1:
         slot = rng.choice(sorted(new_channels))
         new_channels[slot] = -new_channels[slot] if new_channels[slot] > -7 else 0
-    other = MixedSetup(NOON, NOON + 5000, rng.choice(("BASE", "BASE", "BASE", "BASE", "ROVER")), new_codes, new_channels)
+    marker = rng.choice(("BASE", "BASE", "BASE", "BASE", "ROVER"))
+    doppler = setup.doppler != (rng.random() < 0.1)
+    other = MixedSetup(NOON, NOON + 5000, marker, new_codes, new_channels, doppler=doppler)
     place = {axis: rng.choice((0, 1, 41_000_000)) for axis in ("x", "y", "z")}
     place["height"] = rng.choice((0, 15_000))
     moved = dict(place)

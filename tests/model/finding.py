@@ -24,7 +24,7 @@ from equipment import equipment_of
 from messages import Refusal, frames_of
 from model import civil, moment
 from msm import read_frame
-from systems import GLONASS
+from systems import GLONASS, LETTERS
 from valued import cells_in, has_value, letter_of_name, name_of_code, names_in
 from wire import WEEK_MS, BitReader, Fields, Message, table
 
@@ -419,6 +419,13 @@ def few_phases(messages: list[Message], chosen: Chosen) -> list[str]:
     return [name for name in chosen.names if 2 * count(name, name) < max((count(name, other) for other in others), default=0)]
 
 
+def stop_without_rates(kinds: dict[str, int], wanted: Wanted) -> None:
+    """Doppler is asked for, and a system that is converted has a kind of MSM without rates: the first one is told."""
+    without = [letter for letter in LETTERS if letter in kinds and kinds[letter] not in (5, 7)]
+    if wanted.doppler and without:
+        raise Stopped("no rates", without[0])
+
+
 def stop_if_apart(near: int, links: list[list[int]], points: list[tuple[int, ...]]) -> None:
     """Nothing is converted if the first epoch is out of range, if there are too many links, and if positions are far apart."""
     if not FIRST_NEAR <= near <= LAST_NEAR:
@@ -463,6 +470,8 @@ def find(texts: list[bytes], now: int, wanted: Wanted = Wanted()) -> Found:
     chosen = choose(sent, links, orbits, allowed, wanted)
     if not chosen.names:
         raise Stopped("no code")
+    if FIRST_NEAR <= near <= LAST_NEAR:
+        stop_without_rates(chosen.kinds, wanted)
     stop_if_apart(near, links, [] if wanted.as_given else [point for capture in captures for point in capture.points(number)])
     near = middle if chosen.with_1012 and middle is not None else near
     places = [at for at in range(len(texts)) if at not in skipped]

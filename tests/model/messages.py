@@ -139,6 +139,7 @@ class Cell(NamedTuple):
     half: bool
     source: int  # the message's number
     offset: int | None  # of a phase of a 1004 or a 1012: in 0.0005 m from the L1 range
+    doppler: int | None = None  # thousandths of a Hz, if it is asked for
 
 
 CellOf = tuple[int, str, Cell]  # with its satellite and code

@@ -81,6 +81,9 @@ class Making:
             leap=rng.choice((None, None, None, *some_leaps(rng, near))) if "R" in letters else None,
             with_1012=stages.CONVERTS_1012 and "R" in letters and rng.random() < 0.3,
         )
+        # Doppler is refused where a listed system has a kind without rates
+        has_rates = all(self.options.kinds[it] in (5, 7) for it in self.options.codes)
+        self.options = replace(self.options, doppler=has_rates and rng.random() < 0.5)
         voices = [self.voice(system) for system in SYSTEMS if self.is_sent(system.letter, letters)]
         rng.shuffle(voices)
         self.sender = MixedSender(rng, self.options, pick, is_calm, voices, true)

@@ -7,7 +7,8 @@ from __future__ import annotations
 
 from typing import Optional
 
-from worked_rows import FILE
+from messages import fixed
+from worked_rows import DOPPLER, FILE
 
 Case = tuple[dict[int, Optional[str]], Optional[tuple[int, str]]]  # what stands in place of a line may be several lines
 
@@ -190,6 +191,41 @@ RECORD_CASES: list[Case] = [
     ({31: "G05  21135365.609 6" + G05[19:]}, (31, C3)),
 ]
 
+# The same file with Doppler has its lines in the same places.
+SHIFTED = "G05  21135365.609 7  82939744.722 7      1177.225          44.500"
+FOUR_OF_GALILEO = types("E   16 C8X L8X D8X S8X C1C L1C D1C S1C C1B L1B D1B S1B C1X")
+WITHOUT_CHANNEL = "R27  20079294.057 6"
+DOPPLER_CASES: list[Case] = [
+    ({}, None),
+    # all systems have Doppler, or none
+    ({10: types("G    3 C5X L5X S5X")}, (11, C1)),
+    ({11: types("R    3 C2P L2P S2P")}, (11, C1)),
+    ({16: types("I    3 C5A L5A S5A")}, (16, C1)),
+    ({10: types("G    8 C5X L5X D5X S5X C1C L1C D1C S1C")}, None),
+    ({10: types("G    3 C5X L5X D5X")}, (10, C1)),
+    ({10: types("G    4 C5X L5X D5X")}, (10, C1)),
+    ({10: types("G    4 C5X L5X S5X D5X")}, (10, C1)),
+    ({10: types("G    4 C5X D5X L5X S5X")}, (10, C1)),
+    ({10: types("G    4 C5X L5X D1C S5X")}, (10, C1)),
+    ({10: types("G    6 C5X L5X D5X S5X C1C L1C")}, (10, C1)),
+    ({12: joined(FOUR_OF_GALILEO, types("       L1X D1X S1X"))}, None),
+    ({12: joined(FOUR_OF_GALILEO, types("       L1X S1X D1X"))}, (13, C1)),
+    ({12: FOUR_OF_GALILEO}, (13, C1)),
+    ({31: SHIFTED}, None),
+    ({31: SHIFTED.replace("  1177.225", "     0.001")}, None),
+    ({31: SHIFTED.replace("  1177.225", " -1177.225")}, None),
+    ({31: SHIFTED.replace("1177.225", "        ")}, None),
+    ({31: SHIFTED.replace("  1177.225", "     0.000")}, (31, C3)),
+    ({31: SHIFTED.replace("1177.225", "+177.225")}, (31, C3)),
+    # a shift has no digits
+    ({31: SHIFTED[:49] + "1" + SHIFTED[50:]}, (31, C3)),
+    ({31: SHIFTED[:50] + "7" + SHIFTED[51:]}, (31, C3)),
+    ({31: SHIFTED + " " * 15 + "1.000"}, (31, C2)),
+    ({32: f"{WITHOUT_CHANNEL}{'':40}37.500"}, None),
+    ({32: f"{WITHOUT_CHANNEL}{'':22}1244.632{'':10}37.500"}, (32, C3)),
+    ({37: f"I14{'':38}1177.225"}, None),
+]
+
 # Files of one system, by what is left of the lines of the file of the rows: its letter, and the line of a satellite without types.
 ONE_SYSTEM = {
     "G": (10, 19, 31, ()),
@@ -204,6 +240,25 @@ ONE_SYSTEM = {
 
 def changed(case: dict[int, Optional[str]]) -> bytes:
     lines: list[str | None] = [None, *FILE.splitlines(), None]
+    for at, text in case.items():
+        lines[at] = text
+    return "".join(f"{line}\n" for line in lines if line is not None).encode()
+
+
+def with_doppler(text: str) -> str:
+    """The file of the rows, or of one system, with a type and a value of Doppler behind those of the phases."""
+    lines = []
+    for line in text.splitlines():
+        if line[60:].startswith("SYS / # / OBS TYPES"):
+            line = types(f"{line[0]}    4 {line[7:14]} D{line[8:10]}{line[14:18]}")
+        elif line[:3] in DOPPLER:
+            line = f"{line[:35]}{fixed(DOPPLER[line[:3]], 3):>14}  {line[35:]}"
+        lines.append(f"{line}\n")
+    return "".join(lines)
+
+
+def changed_with_doppler(case: dict[int, Optional[str]]) -> bytes:
+    lines: list[str | None] = [None, *with_doppler(FILE).splitlines(), None]
     for at, text in case.items():
         lines[at] = text
     return "".join(f"{line}\n" for line in lines if line is not None).encode()

@@ -3,7 +3,7 @@
 from __future__ import annotations
 
 from fractions import Fraction
-from typing import Mapping
+from typing import Iterator, Mapping
 
 from messages import FINE_LOCK_TIMES, LIGHT, Cell, cells_of, legacy_cell, legacy_lock_time, msm_lock_time, set_bits
 from msm import LEGACY, LEGACY_GLONASS, type_of
@@ -59,23 +59,45 @@ def marked_slots(message: Message, channels: Channels) -> tuple[set[int], set[in
     return contradicted, missing
 
 
-def all_cells(message: Message, channels: Channels) -> list[MixedCell]:
+def all_cells(message: Message, channels: Channels, with_doppler: bool = False) -> list[MixedCell]:
     """The cells of known satellites and signals of an MSM, in the order of the message."""
-    system, kind = type_of(message)
+    _, kind = type_of(message)
+    cells = []
+    for name, code, satellite, row, frequency in known_rows(message, channels):
+        cell = _cell(kind, message.header["number"], satellite, row, frequency)
+        cells.append((name, code, cell._replace(doppler=doppler(satellite, row, frequency) if with_doppler else None)))
+    return cells
+
+
+def known_rows(message: Message, channels: Channels) -> Iterator[tuple[str, str, Fields, Fields, int | None]]:
+    """The same cells by their fields: those of the satellite and those of the cell, and the carrier in Hz."""
+    system, _ = type_of(message)
     bits = set_bits(message.header["satellite_mask"], 64)
     signals = set_bits(message.header["signal_mask"], 32)
     rows = dict(paired(bits, message.satellites))
     normal = normal_channels(message, channels) if system is GLONASS else {}
     pairs = [(bit, signal) for bit in bits for signal in signals]
     set_pairs = [pair for pair, is_set in paired(pairs, message.cell_mask) if is_set]
-    cells = []
     for (bit, signal), row in paired(set_pairs, message.cells):
         name, code = system.name(bit), system.code(signal)
         if name is not None and code is not None:
             told = normal.get(bit, NO_CHANNEL)
-            frequency = carrier(system, code, None if told >= CONTRADICTED else told - 7)
-            cells.append((name, code, _cell(kind, message.header["number"], rows[bit], row, frequency)))
-    return cells
+            yield name, code, rows[bit], row, carrier(system, code, None if told >= CONTRADICTED else told - 7)
+
+
+def exact_doppler(satellite: Fields, row: Fields, frequency: int | None) -> Fraction | None:
+    """The Doppler shift in Hz: the rate in 0.0001 m/s by the carrier, with the other sign. A message without rates tells none, nor does
+    the least value of a field."""
+    rough, fine = satellite.get("rough_rate", -(2**13)), row.get("fine_rate", -(2**14))
+    if frequency is None or rough == -(2**13) or fine == -(2**14):
+        return None
+    return -Fraction(10_000 * rough + fine, 10_000) * frequency / LIGHT
+
+
+def doppler(satellite: Fields, row: Fields, frequency: int | None) -> int | None:
+    """The same in thousandths of a Hz, the nearest to the exact fraction, where 0 is none."""
+    exact = exact_doppler(satellite, row, frequency)
+    return None if exact is None else nearest(1000 * exact) or None
 
 
 def _cell(kind: int, number: int, satellite: Fields, row: Fields, frequency: int | None) -> Cell:

@@ -12,6 +12,7 @@ from typing import NamedTuple
 
 from checker import COLUMNS, FOUR, HEADER_LINE, ORDER, TWO, VALUE, Lines, Wrong, is_shown, moment_of, number_in, want, whole_in
 from mixed_files import SLOTS_IN_A_LINE, TYPES_IN_A_LINE, header_line, slots_lines, types_lines
+from model import observation
 from systems import BY_LETTER, GLONASS, INDEX, LETTERS, SATELLITES
 
 OF_SEVERAL = "M"
@@ -24,6 +25,7 @@ class Heading(NamedTuple):
     channels: dict[int, int]
     first: int
     leap: int | None
+    doppler: bool
 
 
 def mixed_fault(text: bytes) -> tuple[int, str] | None:
@@ -56,7 +58,7 @@ def read_header(lines: Lines) -> Heading:
     letter = columns[40]
     want(letter in LETTERS + OF_SEVERAL, HEADER_LINE)
     read_station(lines)
-    codes = read_all_types(lines, letter)
+    codes, doppler = read_all_types(lines, letter)
     columns = lines.header("TIME OF FIRST OBS")
     date = [whole_in(columns[at : at + 6]) for at in range(0, 30, 6)]
     first = moment_of(date, number_in(columns[30:43], 7))
@@ -65,7 +67,7 @@ def read_header(lines: Lines) -> Heading:
         want_line(lines, "SYS / PHASE SHIFT", letter)
     channels, leap = read_glonass(lines) if GLONASS.letter in codes else ({}, None)
     want_line(lines, "END OF HEADER", "")
-    return Heading(codes, channels, first, leap)
+    return Heading(codes, channels, first, leap, doppler)
 
 
 def read_station(lines: Lines) -> None:
@@ -87,39 +89,42 @@ def read_station(lines: Lines) -> None:
     want(columns[14:] == f"{'0.0000':>14}{'0.0000':>14}{'':18}", HEADER_LINE)
 
 
-def read_all_types(lines: Lines, letter: str) -> dict[str, tuple[str, ...]]:
-    """The codes of each system. A letter says the only one; else there are two at least, in their order, and the line of the
-    unit of strengths ends them."""
+def read_all_types(lines: Lines, letter: str) -> tuple[dict[str, tuple[str, ...]], bool]:
+    """The codes of each system, and whether the file has Doppler, which the third type of the first system says. A letter says the
+    only system; else there are two at least, in their order, and the line of the unit of strengths ends them."""
     codes: dict[str, tuple[str, ...]] = {}
+    doppler = False
     due = LETTERS if letter == OF_SEVERAL else letter
     while True:
         line = lines.next()
         is_enough = len(codes) >= (2 if letter == OF_SEVERAL else 1)
         if is_enough and line == header_line("DBHZ", "SIGNAL STRENGTH UNIT"):
-            return codes
+            return codes, doppler
         want(len(line) == 80 and line[60:] == f"{'SYS / # / OBS TYPES':20}", HEADER_LINE)
         want(line[0] in due, HEADER_LINE)
         due = due[due.index(line[0]) + 1 :]
         want(due or codes or letter != OF_SEVERAL, HEADER_LINE)
-        codes[line[0]] = read_types(lines, line[:60])
+        doppler = doppler if codes else line[15] == "D"
+        codes[line[0]] = read_types(lines, line[:60], doppler)
 
 
-def read_types(lines: Lines, columns: str) -> tuple[str, ...]:
+def read_types(lines: Lines, columns: str, doppler: bool) -> tuple[str, ...]:
     """The codes of a system, of whose types this is the first line. The first type of a code tells which code it is."""
     known = BY_LETTER[columns[0]].codes
+    each = 4 if doppler else 3
     count = whole_in(columns[3:6])
     want(columns[1:3] == "  " and count is not None, HEADER_LINE)
-    want(count in range(3, 3 * len(known) + 1, 3), HEADER_LINE)
+    want(count in range(each, each * len(known) + 1, each), HEADER_LINE)
     codes: list[str] = []
     for begin in range(0, count, TYPES_IN_A_LINE):
         if begin > 0:
             columns = lines.header("SYS / # / OBS TYPES")
         shown = range(begin, min(begin + TYPES_IN_A_LINE, count))
-        codes += [columns[8 + 4 * (at - begin) :][:2] for at in shown if at % 3 == 0]
+        codes += [columns[8 + 4 * (at - begin) :][:2] for at in shown if at % each == 0]
         want(set(codes) <= set(known) and len(set(codes)) == len(codes), HEADER_LINE)
         # The line is what these codes make of it, and of the announced number.
-        unknown = ("??",) * (count // 3 - len(codes))
-        due = types_lines(columns[0], (*codes, *unknown))[begin // TYPES_IN_A_LINE]
+        unknown = ("??",) * (count // each - len(codes))
+        due = types_lines(columns[0], (*codes, *unknown), doppler)[begin // TYPES_IN_A_LINE]
         want(columns == f"{due:60}", HEADER_LINE)
     return tuple(codes)
 
@@ -184,15 +189,19 @@ def read_epoch_line(line: str, most: int) -> tuple[int, int]:
 
 def read_satellite_line(line: str, heading: Heading, last: int) -> int:
     """The satellite's place among all, which is greater than the last one of its record. The line has one observation at least,
-    and no phase of GLONASS without a channel."""
+    and neither a phase nor Doppler of GLONASS without a channel."""
     name = line[:3]
     codes = heading.codes.get(name[:1], ())
     want(codes and name in INDEX, COLUMNS)
-    want(not line.endswith(" ") and len(line) <= 3 + 48 * len(codes), COLUMNS)
+    width = 64 if heading.doppler else 48
+    want(not line.endswith(" ") and len(line) <= 3 + width * len(codes), COLUMNS)
     want(INDEX[name] > last, ORDER)
-    columns = line[3:].ljust(48 * len(codes))
-    parts = [columns[at : at + 48] for at in range(0, len(columns), 48)]
-    want(all(is_shown(part) for part in parts) and columns.strip(" "), VALUE)
+    columns = line[3:].ljust(width * len(codes))
+    parts = [columns[at : at + width] for at in range(0, len(columns), width)]
+    shifts = [part[32:48] if heading.doppler else "" for part in parts]
+    plain = [part[:32] + part[-16:] for part in parts]
+    want(all(is_shown(part) for part in plain) and columns.strip(" "), VALUE)
+    want(all(it in ("", observation(number_in(it[:14], 3), "  ")) for it in shifts), VALUE)
     if name[0] == GLONASS.letter and int(name[1:]) not in heading.channels:
-        want(not any(part[16:30].strip() for part in parts), VALUE)
+        want(not any(part[16:30].strip() or it.strip() for part, it in zip(plain, shifts)), VALUE)
     return INDEX[name]

@@ -70,8 +70,11 @@ def checks(count: int) -> Iterator[Due]:
         yield checked(mixed_damages.damaged_mixed(rng, some_table(rng).text))
     for case, _ in mixed_cases.HEADER_CASES + mixed_cases.RECORD_CASES:
         yield checked(mixed_cases.changed(case))
+    for case, _ in mixed_cases.DOPPLER_CASES:
+        yield checked(mixed_cases.changed_with_doppler(case))
     for letter in LETTERS:
         yield checked(mixed_cases.file_of_one(letter))
+        yield checked(mixed_cases.with_doppler(mixed_cases.file_of_one(letter).decode()).encode())
 
 
 def labels(count: int) -> Iterator[Due]:

@@ -7,7 +7,9 @@ from __future__ import annotations
 
 import sys
 from collections import Counter
+from dataclasses import replace
 
+import mixed_cases
 import worked_rows as rows
 from captures import capture_of
 from clocks import UNKNOWN_DAY, clock_of, glonass_clock
@@ -50,6 +52,27 @@ def a_whole_file_and_its_report() -> None:
         got = convert_mixed(options_of(rows.CODES, "7", {10: -5}), links)
         same("the file", got.file, rows.FILE)
         same("the report", got.report, report(["other-channel -", "no-channel -"], frames=7, taken=7, epochs=1))
+
+
+@test
+def a_whole_file_with_doppler() -> None:
+    frames = [frame_of(bytes.fromhex(row.payload)) for row in rows.ROWS if row.kind == 7]
+    options = replace(options_of(rows.CODES, "7", {10: -5}), doppler=True)
+    same("words", options.words()[-1], "--doppler")
+    got = convert_mixed(options, [b"".join(frames)])
+    same("the file", got.file, mixed_cases.with_doppler(rows.FILE))
+    same("the report", got.report, report(["other-channel -", "no-channel -"], frames=7, taken=7, epochs=1))
+
+
+@test
+def rates_count_with_doppler_alone() -> None:
+    """Two messages whose rates differ are copies without the option; with it they conflict, if their shifts differ."""
+    row = row_named("R10")
+    for doppler, end, told in ((False, "B8", {"repeat": 1}), (True, "94", {"repeat": 1}), (True, "B8", {"conflict": 1})):
+        links = [frame_of(bytes.fromhex(row.payload)) + frame_of(bytes.fromhex(row.payload[:-2] + end))]
+        options = replace(options_of("R2P", "7", {10: -5}), doppler=doppler)
+        lines = [f"link 1 conflict 1087 {TOLD} R10 2P"] * ("conflict" in told) + ["other-channel -", "no-channel -"]
+        same(f"{doppler}", convert_mixed(options, links).report, report(lines, frames=2, taken=1, epochs=1, **told))
 
 
 @test

@@ -8,7 +8,7 @@ from typing import Iterable, Mapping, NamedTuple
 from clocks import leap_seconds_at, moment_of
 from messages import Cell, Refusal, fixed
 from mixed_cells import Channels, all_cells
-from model import Step, civil, columns_of, epoch_line, step
+from model import Step, civil, columns_of, epoch_line, observation, step
 from msm import read_any, type_of
 from systems import BY_LETTER, INDEX, LETTERS, TYPES
 from wire import Fields
@@ -28,6 +28,7 @@ class MixedSetup:
     channels: Channels = field(default_factory=dict)
     leap: int | None = None
     station: int = 1
+    doppler: bool = False
 
     @property
     def letters(self) -> str:
@@ -40,9 +41,9 @@ def header_line(text: str, label: str) -> str:
     return f"{text:60}{label:20}"
 
 
-def types_lines(letter: str, codes: Iterable[str]) -> list[str]:
-    """The types of a system: range, phase and strength of each code, thirteen on a line."""
-    types = [kind + code for code in codes for kind in "CLS"]
+def types_lines(letter: str, codes: Iterable[str], doppler: bool = False) -> list[str]:
+    """The types of a system: range, phase, perhaps Doppler, and strength of each code, thirteen on a line."""
+    types = [kind + code for code in codes for kind in ("CLDS" if doppler else "CLS")]
     begins = [f"{letter}  {len(types):3}"] + [" " * 6] * len(types)
     rows = [types[at : at + TYPES_IN_A_LINE] for at in range(0, len(types), TYPES_IN_A_LINE)]
     return [begin + "".join(f" {it}" for it in row) for begin, row in zip(begins, rows)]
@@ -76,7 +77,7 @@ def mixed_header(setup: MixedSetup, first: int, leap: int, stations: Mapping[int
         ("".join(f"{fixed(height, 4):>14}" for height in heights), "ANTENNA: DELTA H/E/N"),
     ]
     for letter in letters:
-        lines += [(line, "SYS / # / OBS TYPES") for line in types_lines(letter, setup.codes[letter])]
+        lines += [(line, "SYS / # / OBS TYPES") for line in types_lines(letter, setup.codes[letter], setup.doppler)]
     lines += [("DBHZ", "SIGNAL STRENGTH UNIT"), (time_columns(first), "TIME OF FIRST OBS")]
     lines += [(letter, "SYS / PHASE SHIFT") for letter in letters]
     if "R" in letters:
@@ -86,18 +87,24 @@ def mixed_header(setup: MixedSetup, first: int, leap: int, stations: Mapping[int
 
 
 class Shown(NamedTuple):
-    """What a line shows of a code: thousandths, and the loss-of-lock digit."""
+    """What a line shows of a code: thousandths, and the loss-of-lock digit; a file without Doppler shows none."""
 
     range: int | None
     phase: int | None
     strength: int | None
     digit: str = " "
+    doppler: int | None = None
+
+    def columns(self, with_doppler: bool) -> str:
+        """C, L, perhaps D, and S."""
+        plain = columns_of(self.range, self.phase, self.strength, self.digit)
+        return plain[:32] + observation(self.doppler, "  ") * with_doppler + plain[32:]
 
 
-def satellite_line(name: str, codes: Iterable[str], shown: Mapping[str, Shown]) -> str | None:
+def satellite_line(name: str, codes: Iterable[str], shown: Mapping[str, Shown], doppler: bool = False) -> str | None:
     """The line of a satellite, as wide as the types of its system; nothing if no code has a value."""
     nothing = Shown(None, None, None)
-    line = "".join(columns_of(*shown.get(code, nothing)) for code in codes)
+    line = "".join(shown.get(code, nothing).columns(doppler) for code in codes)
     return f"{name}{line}".rstrip() if line.strip() else None
 
 
@@ -107,7 +114,7 @@ Epoch = Mapping[str, Mapping[str, Shown]]  # by satellites and their codes
 def record(setup: MixedSetup, time: int, epoch: Epoch) -> list[str]:
     """The lines of an epoch, none if no satellite has a value."""
     names = sorted((name for name in epoch if setup.codes.get(name[0])), key=INDEX.__getitem__)
-    made = [satellite_line(name, setup.codes[name[0]], epoch[name]) for name in names]
+    made = [satellite_line(name, setup.codes[name[0]], epoch[name], setup.doppler) for name in names]
     lines = [line for line in made if line is not None]
     return [epoch_line(time, len(lines)), *lines] if lines else []
 
@@ -121,11 +128,11 @@ class Digits:
     def shown(self, time: int, name: str, code: str, cell: Cell) -> Shown:
         """What a line shows of the cell, which follows those of the epochs before."""
         if cell.phase is None:
-            return Shown(cell.range, None, cell.strength)
+            return Shown(cell.range, None, cell.strength, doppler=cell.doppler)
         slip, rolls = step(self.last.get((name, code)), time, cell, code)
         self.last[name, code] = Step(time, cell, rolls)
         digit = str(slip + 2 * cell.half) if slip or cell.half else " "
-        return Shown(cell.range, cell.phase + 1_500_000 * rolls, cell.strength, digit)
+        return Shown(cell.range, cell.phase + 1_500_000 * rolls, cell.strength, digit, cell.doppler)
 
 
 def taken_cells(setup: MixedSetup, payloads: Iterable[bytes]) -> dict[int, dict[str, dict[str, Cell]]]:
@@ -139,7 +146,7 @@ def taken_cells(setup: MixedSetup, payloads: Iterable[bytes]) -> dict[int, dict[
         system, _ = type_of(message)
         time = moment_of(system, message.header["tow"], setup.near, setup.leap)
         epoch = epochs.setdefault(time, {})
-        for name, code, cell in all_cells(message, setup.channels):
+        for name, code, cell in all_cells(message, setup.channels, setup.doppler):
             if code in setup.codes[system.letter]:
                 epoch.setdefault(name, {}).setdefault(code, cell)
     return epochs

@@ -48,6 +48,7 @@ class Options:
     channels: Optional[Channels] = None
     leap: Optional[int] = None
     with_1012: bool = False
+    doppler: bool = False
 
     @property
     def codes(self) -> dict[str, tuple[str, ...]]:
@@ -70,7 +71,7 @@ class Options:
         }
         plain = Setup(self.station, self.near, self.made, self.marker, self.names, self.window)
         given = [f"{name}={value}" for name, value in more.items() if value is not None]
-        return plain.words() + given + ["--with-1012"] * self.with_1012
+        return plain.words() + given + ["--with-1012"] * self.with_1012 + ["--doppler"] * self.doppler
 
 
 class Taking:
@@ -80,7 +81,9 @@ class Taking:
         self.station = options.station
         self.window = options.window
         channels = {} if options.channels is None else options.channels
-        self.file = MixedSetup(options.near, options.made, options.marker, options.codes, channels, options.leap, options.station)
+        self.file = MixedSetup(
+            options.near, options.made, options.marker, options.codes, channels, options.leap, options.station, options.doppler
+        )
         self.letters = self.file.letters
         self.with_1012 = options.with_1012
         self.with_sbas = stages.CONVERTS_SBAS and SBAS.letter in self.letters
@@ -121,7 +124,7 @@ class Taking:
             return cells_of_1004(message, self.with_sbas)
         if message.header["number"] == LEGACY_GLONASS:
             return cells_of_1012(message, self.file.channels)
-        return all_cells(message, self.file.channels)
+        return all_cells(message, self.file.channels, self.file.doppler)
 
     def name_of(self, satellite: str) -> str:
         return satellite

@@ -5,7 +5,7 @@ from __future__ import annotations
 
 import pictures
 from mixed_qualities import SYSTEMS, codes_of, is_of_gps
-from parts import END, MS, START, records_of
+from parts import END, MS, START, records_of, width_of
 from pictures import SIGNS, Drawn, Epoch, heading_lines, never_lines, row_of, rows_below, shown_in
 
 SEED = 20241130
@@ -22,6 +22,7 @@ class DrawnSystems(Drawn):
         header, records = file.split(END)
         self.marker = header.splitlines()[2][:60].rstrip()
         self.systems = codes_of(header)
+        self.width = width_of(header)
         self.epochs = [
             Epoch((it.time - START) // MS, {name: self.row(name, line) for name, line in it.lines.items() if chosen is None or name in chosen})
             for it in records_of(records)
@@ -33,8 +34,8 @@ class DrawnSystems(Drawn):
 
     def row(self, name: str, line: str) -> list[pictures.Shown]:
         """What the codes of a satellite show in its line."""
-        width = 48 * len(self.systems[name[0]])
-        return [shown_in(line[3:].ljust(width)[at : at + 48]) for at in range(0, width, 48)]
+        width = self.width * len(self.systems[name[0]])
+        return [shown_in(line[3:].ljust(width)[at : at + self.width]) for at in range(0, width, self.width)]
 
     def names_of(self, letter: str) -> list[str]:
         """The satellites of a system."""

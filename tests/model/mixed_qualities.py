@@ -6,7 +6,7 @@ from __future__ import annotations
 from typing import NamedTuple
 
 import qualities
-from parts import END
+from parts import END, width_of
 from qualities import Field, File, Part, counted, text
 
 SEED = 20241203
@@ -24,13 +24,15 @@ def codes_of(header: str) -> dict[str, list[str]]:
         if "SYS / # / OBS TYPES" in line:
             letter = line[0].strip() or letter
             types[letter] = types.get(letter, "") + line[6:60]
-    return {letter: [it[1:] for it in types[letter].split()[::3]] for letter in SYSTEMS if letter in types}
+    each = width_of(header) // 16
+    return {letter: [it[1:] for it in types[letter].split()[::each]] for letter in SYSTEMS if letter in types}
 
 
 class Row(NamedTuple):
     """The lines of a record that are of one system."""
 
     lines: dict[str, str]
+    width: int
 
 
 def parts_of(file: str) -> tuple[File, dict[str, Part]]:
@@ -38,7 +40,7 @@ def parts_of(file: str) -> tuple[File, dict[str, Part]]:
     whole_file = qualities.file_of(header, body)
     parts = {}
     for letter, codes in codes_of(header).items() if whole_file.records else ():
-        records = [Row({name: line for name, line in it.lines.items() if name[0] == letter}) for it in whole_file.records]
+        records = [Row({name: line for name, line in it.lines.items() if name[0] == letter}, it.width) for it in whole_file.records]
         parts[letter] = qualities.part_of(records, whole_file.times, whole_file.interval, codes, letter if letter != "G" else "")
     return whole_file, parts
 
@@ -48,8 +50,14 @@ def heading_of(file: File) -> list[Field]:
 
 
 def is_of_gps(file: str) -> bool:
-    """Whether the file is one of GPS alone, by column 41 of its first line."""
-    return file[40] == "G"
+    """Whether the file is one of GPS alone, by column 41 of its first line, and without Doppler."""
+    return file[40] == "G" and width_of(file) == 48
+
+
+def shifts_of(file: str, letter: str, part: Part) -> list[tuple[str, int]]:
+    """In a file with Doppler how many values each code has, with the letter of its system, which a code of GPS has not."""
+    own = "" if letter == "G" else letter
+    return [(own + code, count) for code, count in part.shifts] if width_of(file) == 64 else []
 
 
 def lines(file: str) -> str:
@@ -61,6 +69,7 @@ def lines(file: str) -> str:
     rows = [it.in_line() for it in heading_of(whole_file)] + in_lines(gaps)
     for letter, part in parts.items():
         rows += [f"system {letter}", *(it.in_line() for it in part.totals), *in_lines(part.signals + part.times)]
+        rows += [f"doppler {code} values {count}" for code, count in shifts_of(file, letter, part)]
     return "\n".join(rows) + "\n"
 
 
@@ -75,7 +84,11 @@ def in_json(file: str) -> str:
     whole_file, parts = parts_of(file)
     gaps = ",".join("\n" + qualities.compact(fields) for _, fields in whole_file.longest_gaps())
     systems = [
-        ",\n".join(['\n{"totals":' + qualities.compact([text("", "system", letter), *part.totals]), *qualities.arrays_of(part.signals + part.times, "gap")]) + "}"
+        ",\n".join([
+            '\n{"totals":' + qualities.compact([text("", "system", letter), *part.totals]),
+            *qualities.arrays_of(part.signals + part.times, "gap"),
+            *array_of_shifts(shifts_of(file, letter, part)),
+        ]) + "}"
         for letter, part in parts.items()
     ]
     return "".join([
@@ -84,6 +97,12 @@ def in_json(file: str) -> str:
         ',\n"systems":[' + ",".join(systems) + ("\n]" if systems else "]"),
         "}\n",
     ])
+
+
+def array_of_shifts(shifts: list[tuple[str, int]]) -> list[str]:
+    """The array of a file with Doppler."""
+    rows = ",".join(f'\n{{"code":"{code}","values":{count}}}' for code, count in shifts)
+    return [f'"doppler":[{rows}\n]'] if shifts else []
 
 
 def with_bands(letter: str, line: str) -> str:
@@ -103,6 +122,8 @@ def table(file: str) -> str:
     for letter, part in parts.items():
         shown = [shown_entry(letter, *it) for it in part.signals + part.times]
         rows += ["", f"system {letter}", *qualities.lined_up(part.totals), *(with_bands(letter, it) for it in qualities.rows_of(part.totals, shown))]
+        shifts = shifts_of(file, letter, part)
+        rows += ["", "signal doppler", *(f"all {code[-2:]}{count:8}" for code, count in shifts)] if shifts else []
     return "\n".join(rows) + "\n"
 
 

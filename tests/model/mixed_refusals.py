@@ -31,6 +31,7 @@ GOOD: dict[str, Value] = {
     "--channels": "1:1,9:-6",
     "--leap-seconds": None,
     "--with-1012": None,
+    "--doppler": None,
     "links": ["empty"],
 }
 
@@ -48,7 +49,7 @@ def fault(lines: Optional[str], **words: Value) -> Fault:
 
 CODES, CHANNELS, NEED = "bad --codes\n", "bad --channels\n", "R codes need --channels\n"
 NEEDS_R = "--with-1012 needs R codes\n"
-FLAGS = ("--with-1012",)
+FLAGS = ("--with-1012", "--doppler")
 OF_GPS = "GPS codes have two characters: 1C\n"
 
 # The codes of each system, in the order of the tables.
@@ -141,6 +142,36 @@ def needs_of_1012() -> list[Fault]:
     ]
 
 
+def needs_of_doppler() -> list[Fault]:
+    """Each listed system has a kind with rates; the first one without counts. It is looked for behind what 1012 need, and before
+    the links."""
+    of_all = {it.letter: (it.codes[0] if it.letter == "G" else it.letter + it.codes[0]) for it in SYSTEMS}
+    channels = {it: "1:1" if it == "R" else None for it in of_all}
+    alone = [
+        fault(f"--doppler needs MSM5 or MSM7 of {it}\n", doppler="", codes=code, channels=channels[it], msm=msm)
+        for it, code in of_all.items()
+        for msm in (None, "6", f"7,{it}4", f"5,{it}6")
+    ]
+    later = [
+        fault(f"--doppler needs MSM5 or MSM7 of {it}\n", doppler="", codes=f"{of_all[it]},{of_all[before]}", channels="1:1" if "R" in it + before else None, msm=f"7,{it}4")
+        for before, it in zip(of_all, list(of_all)[1:])
+    ]
+    both = {"doppler": "", "codes": "I5A,1C", "channels": None}
+    return [
+        *alone,
+        *later,
+        fault("--doppler needs MSM5 or MSM7 of G\n", **both),
+        fault("--doppler needs MSM5 or MSM7 of G\n", **both, links=["empty"] * 17),
+        fault("--doppler needs MSM5 or MSM7 of G\n", **both, near="1980-01-06T00:00:00"),
+        fault("--doppler needs MSM5 or MSM7 of I\n", **both, msm="7,I4,E6"),
+        fault(NEEDS_R, **both, with_1012=""),
+        fault(CHANNELS, **{**both, "channels": "1:1"}),
+        fault(NEED, doppler="", channels=None),
+        fault("bad --marker\n", **both, marker=" X"),
+        fault(CODES, **{**both, "codes": "1C,1C"}),
+    ]
+
+
 def combined() -> list[Fault]:
     """Two causes at once: the one that is looked for first is told."""
     pairs = [(one, other) for one, other in combinations(ORDER, 2) if not set(one.words) & set(other.words)]
@@ -159,6 +190,9 @@ ACCEPTED = (
     {"--leap-seconds": "0"},
     {"--leap-seconds": "99"},
     *({"--with-1012": ""} for _ in range(stages.CONVERTS_1012)),
+    {"--doppler": "", "--msm": "7"},
+    {"--doppler": "", "--msm": "4,G5,R7"},
+    {"--doppler": "", "--msm": "5,E4", "--codes": "1C"},
     {"--codes": ",".join(code if it.letter == "G" else it.letter + code for it in SYSTEMS[::-1] for code in it.codes[::-1])},
 )
 
@@ -185,7 +219,7 @@ def difference(ended: Ended, it: Fault) -> str:
 def faults_of(program: Program) -> list[str]:
     """How each row fails, or nothing."""
     program.write("empty", b"")
-    refused = [*ORDER, *codes_refused(), *repeated_codes(), *channels_refused(), *refused_by_clap(), *needs(), *needs_of_1012(), *combined()]
+    refused = [*ORDER, *codes_refused(), *repeated_codes(), *channels_refused(), *refused_by_clap(), *needs(), *needs_of_1012(), *needs_of_doppler(), *combined()]
     faults = []
     for it in refused:
         wrong = difference(program.run(words_of(it.words)), it)

@@ -46,7 +46,8 @@ def some_time(rng: Random) -> int:
 def some_setup(rng: Random, letters: str) -> MixedSetup:
     marker = rng.choice(PRINTABLE[1:]) + "".join(rng.choices(PRINTABLE, k=rng.choice((0, 3, 59))))
     made = some_time(rng) // 1000 * 1000
-    return MixedSetup(moment("2024-05-17T12:00:00"), made, marker, some_codes(rng, letters), some_channels(rng))
+    codes, channels = some_codes(rng, letters), some_channels(rng)
+    return MixedSetup(moment("2024-05-17T12:00:00"), made, marker, codes, channels, doppler=rng.random() < 0.3)
 
 
 def some_header(rng: Random, setup: MixedSetup, first: int) -> list[str]:
@@ -59,7 +60,9 @@ def some_shown(rng: Random, may_have_phase: bool) -> Shown:
     value = rng.choice((rng.randint(1, 10**11), -999_999_999_999, 9_999_999_999_999, rng.randint(-(10**6), -1)))
     phase = rng.choice((None, rng.randint(1, 10**12), 9_999_999_999_999)) if may_have_phase else None
     strength = rng.choice((None, 250 * rng.randint(1, 255), 6000, 5750, 54_000))
-    return Shown(rng.choice((None, value, value)), phase, strength, rng.choice("  123") if phase is not None else " ")
+    digit = rng.choice("  123") if phase is not None else " "
+    shift = rng.choice((None, -1, 1, 9_999_999_999_999, rng.randint(-(10**8), 10**8))) if may_have_phase else None
+    return Shown(rng.choice((None, value, value)), phase, strength, digit, shift)
 
 
 def some_epoch(rng: Random, setup: MixedSetup) -> dict[str, dict[str, Shown]]:

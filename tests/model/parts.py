@@ -45,21 +45,28 @@ class Record(NamedTuple):
     time: datetime
     first: str
     lines: dict[str, str]
+    width: int = 48  # the columns of a code
 
     def digit(self, satellite: str, code: int) -> str | None:
         """The loss-of-lock digit of a phase, or nothing if there is none."""
-        field = self.lines.get(satellite, "").ljust(3 + 48 * 16)[3 + 48 * code + 16 :][:16]
+        field = self.lines.get(satellite, "").ljust(3 + self.width * 16)[3 + self.width * code + 16 :][:16]
         return field[14] if field[:14].strip() else None
 
 
-def records_of(text: str) -> list[Record]:
+def width_of(header: str) -> int:
+    """The columns of a code: 64 in a file with Doppler, as its third type says, and else 48."""
+    types = next(line for line in header.splitlines() if line[60:].startswith(TYPES))
+    return 64 if types[15] == "D" else 48
+
+
+def records_of(text: str, width: int = 48) -> list[Record]:
     """The records of a text without a header."""
     records = []
     for part in text.split("> ")[1:]:
         first, *lines = part.splitlines()
         *date, seconds = first[:27].split()
         time = datetime(*map(int, date)) + timedelta(milliseconds=round(float(seconds) * 1000))
-        records.append(Record(time, f"> {first}\n", {line[:3]: line for line in lines}))
+        records.append(Record(time, f"> {first}\n", {line[:3]: line for line in lines}, width))
     return records
 
 
@@ -82,12 +89,13 @@ def has_slipped(records: list[Record], at: int, satellite: str, code: int, part:
 
 def line_of(records: list[Record], at: int, satellite: str, codes: int, part: Part, near: int) -> str:
     """The line of a satellite with its digits."""
-    line = records[at].lines[satellite].ljust(3 + 48 * codes)
+    width = records[at].width
+    line = records[at].lines[satellite].ljust(3 + width * codes)
     for code in range(codes):
         digit = records[at].digit(satellite, code)
         if digit is not None:
             bits = (digit in "23") * 2 + has_slipped(records, at, satellite, code, part, near)
-            column = 3 + 48 * code + 30
+            column = 3 + width * code + 30
             line = line[:column] + (str(bits) if bits else " ") + line[column + 1 :]
     return line.rstrip(" ") + "\n"
 
@@ -95,14 +103,14 @@ def line_of(records: list[Record], at: int, satellite: str, codes: int, part: Pa
 def widths_of(header: str) -> dict[str, int]:
     """How many codes the header lists of each system, by its letter."""
     lines = [line for line in header.splitlines() if line[60:].startswith(TYPES) and line[0] != " "]
-    return {line[0]: int(line[3:6]) // 3 for line in lines}
+    return {line[0]: int(line[3:6]) // (width_of(header) // 16) for line in lines}
 
 
 def part_of(text: str, part: Part) -> str:
     """The file of a part of a file."""
     header, end, body = text.partition(END)
     widths = widths_of(header)
-    records = records_of(body)
+    records = records_of(body, width_of(header))
     near = nearness(records)
     kept = [at for at, it in enumerate(records) if part.has_step(it.time, near) and part.spans(it.time, near)]
     first = records[kept[0]].time if kept else part.since

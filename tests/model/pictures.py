@@ -47,9 +47,9 @@ class Epoch(NamedTuple):
 
 
 def shown_in(field: str) -> Shown:
-    """What the 48 columns of a code show."""
+    """What the 48 columns of a code show, or the 64 columns with Doppler, which is not drawn."""
     phase = field[16:32]
-    strength = field[32:46].strip()
+    strength = field[-16:-2].strip()
     level = min(max(int(float(strength) / 6), 1), 9) if strength else None
     return Shown(bool(phase[:14].strip()), int(phase[14].strip() or 0), level, 1000 * Fraction(strength) if strength else None)
 

@@ -8,7 +8,7 @@ from collections import Counter
 from fractions import Fraction
 from typing import NamedTuple
 
-from parts import END, MS, START, records_of
+from parts import END, MS, START, records_of, width_of
 
 HOUR = 3_600_000
 
@@ -20,12 +20,15 @@ class Shown(NamedTuple):
     phase: bool
     digit: int
     strength: int | None
+    doppler: bool
 
 
 def shown_in(field: str) -> Shown:
-    strength = field[32:46].strip()
+    """Of 48 columns, or of 64 with Doppler."""
+    strength = field[-16:].strip()
     digit = int(field[30].strip() or 0)
-    return Shown(bool(field[:14].strip()), bool(field[16:30].strip()), digit, round(float(strength) * 1000) if strength else None)
+    doppler = bool(field[32:-16].strip())
+    return Shown(bool(field[:14].strip()), bool(field[16:30].strip()), digit, round(float(strength) * 1000) if strength else None, doppler)
 
 
 def interval_of(times: list[int]) -> int | None:
@@ -129,8 +132,9 @@ class Satellite:
 
     def __init__(self, name: str, records: list, times: list[int], codes: int, interval: int | None) -> None:
         self.name = name
-        line = {at: it.lines[name][3:].ljust(48 * codes) for at, it in enumerate(records) if name in it.lines}
-        self.shown = {at: [shown_in(row[48 * c : 48 * c + 48]) for c in range(codes)] for at, row in line.items()}
+        width = records[0].width
+        line = {at: it.lines[name][3:].ljust(width * codes) for at, it in enumerate(records) if name in it.lines}
+        self.shown = {at: [shown_in(row[width * c : width * (c + 1)]) for c in range(codes)] for at, row in line.items()}
         self.spans = passes_of([(at, times[at]) for at, row in self.shown.items() if any(it.phase for it in row)], interval)
         self.possible = sum(row[-1][-1][0] - row[0][0][0] + 1 for row in self.spans)
 
@@ -138,7 +142,7 @@ class Satellite:
         return [row[code] for row in self.shown.values()]
 
     def has(self, code: int) -> bool:
-        return any(it.range or it.phase or it.strength is not None for it in self.rows(code))
+        return any(it.range or it.phase or it.doppler or it.strength is not None for it in self.rows(code))
 
     def knows(self, code: int) -> list[str]:
         """What a bit 0 of the code is, for each record with the satellite: a slip if the code had a phase earlier in the pass and since
@@ -333,11 +337,12 @@ class Station:
 
 class Part(NamedTuple):
     """The numbers of satellites and codes: their totals, the lines of codes, of satellites and of passes, and those of times, without the
-    gaps."""
+    gaps, and how many Doppler values each code has."""
 
     totals: list[Field]
     signals: list[tuple[str, list[Field]]]
     times: list[tuple[str, list[Field]]]
+    shifts: list[tuple[str, int]]
 
 
 def part_of(records: list, times: list[int], interval: int | None, codes: list[str], letter: str = "") -> Part:
@@ -378,7 +383,8 @@ def part_of(records: list, times: list[int], interval: int | None, codes: list[s
             span = [text("from", "from", moment(row[0][0][1])), text("until", "until", moment(row[-1][-1][1]))]
             out.append(("pass", [text("", "satellite", it.name), *span, *it.sums([row], interval)]))
     when = station.hours() + station.falls() + station.longest_outages(interval) + station.largest_slips_together()
-    return Part(totals, out, when + station.events() + station.longest_missing_codes(interval))
+    shifts = [(code, sum(row.doppler for it in satellites for row in it.rows(c))) for c, code in enumerate(codes)]
+    return Part(totals, out, when + station.events() + station.longest_missing_codes(interval), shifts)
 
 
 class File(NamedTuple):
@@ -411,7 +417,7 @@ class File(NamedTuple):
 
 
 def file_of(header: str, body: str) -> File:
-    records = records_of(body)
+    records = records_of(body, width_of(header))
     times = [(it.time - START) // MS for it in records]
     return File(text("marker", "marker", header.splitlines()[2][:60].rstrip()), records, times, interval_of(times))
 

@@ -32,4 +32,4 @@ LISTED_SLOTS = False
 # 1042, 1045 and 1046 date where nothing else does, and end the choice between the weeks of a 1019.
 DATES_BY_SYSTEMS = True
 # The words of `auto` beside those that it has for GPS.
-WORDS = ("--msm", "--codes", "--systems", "--channels", "--leap-seconds")
+WORDS = ("--msm", "--codes", "--systems", "--channels", "--leap-seconds", "--doppler")

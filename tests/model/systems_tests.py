@@ -6,6 +6,7 @@ Prints a line for each test, and last 'N passed, M failed'.
 from __future__ import annotations
 
 import sys
+from dataclasses import replace
 from pathlib import Path
 from random import Random
 
@@ -22,7 +23,7 @@ from mixed_files import MixedSetup, listed, mixed_file, mixed_header, slots_line
 from mixed_tables import some_table
 from model import civil, moment, rolls_between
 from msm import HEADER_1012, SATELLITE_1012, message_of, payload_of_msm, read_1012, read_any
-from systems import GLONASS, INDEX, KINDS, LETTERS, SATELLITES, SYSTEMS, TYPES, carrier, number_of
+from systems import GLONASS, GPS, INDEX, KINDS, LETTERS, SATELLITES, SYSTEMS, TYPES, carrier, number_of
 from tested import NOON, message_of_row, ms, row_named, run_tests, same, test
 from wire import LEGACY_SATELLITE, BitWriter, Fields, Message
 
@@ -50,6 +51,37 @@ def rows_have_their_cells() -> None:
         [(name, code, cell)] = all_cells(read, channels)
         got = (name, code, (cell.range, cell.phase, cell.strength), cell.lock_time, cell.half)
         same(row.name, got, (row.name, row.code, row.due, row.lock[1], False))
+
+
+@test
+def rows_have_their_doppler() -> None:
+    for row in rows.ROWS:
+        read = read_any(bytes.fromhex(row.payload), ALL)
+        assert isinstance(read, Message)
+        channels = {} if row.channel is None else {int(row.name[1:]): row.channel}
+        [(_, _, plain)] = all_cells(read, channels)
+        [(_, _, cell)] = all_cells(read, channels, True)
+        same(row.name, (plain.doppler, cell.doppler), (None, rows.DOPPLER.get(row.name) if row.kind == 7 else None))
+        same(f"{row.name}, otherwise", cell._replace(doppler=None), plain)
+
+
+@test
+def doppler_of_both_fields() -> None:
+    for rough, fine, due in rows.RATES:
+        message = message_of_row(row_named("G05"))
+        message.satellites[0]["rough_rate"], message.cells[0]["fine_rate"] = rough, fine
+        for kind in (5, 7):
+            header = {**message.header, "number": number_of(GPS, kind)}
+            made = message_of(header, {5: message.satellites[0]}, {(5, 2): message.cells[0]})
+            [(_, _, cell)] = all_cells(made, {}, True)
+            same(f"{rough} {fine}", cell.doppler, due)
+
+
+@test
+def doppler_of_glonass_by_its_channel() -> None:
+    for given, sent, due in ((-5, 2, 1_244_632), (-7, 0, 1_243_757), (-7, 15, 1_243_757), (-5, 14, None), (None, 2, None)):
+        [(_, _, cell)] = all_cells(message_of_row(row_named("R10"), sent), {} if given is None else {10: given}, True)
+        same(f"{given} {sent}", cell.doppler, due)
 
 
 @test
@@ -238,6 +270,15 @@ def a_whole_file() -> None:
 
 
 @test
+def a_whole_file_with_doppler() -> None:
+    setup = replace(setup_of(rows.CODES, {10: -5}), doppler=True)
+    payloads = [bytes.fromhex(row.payload) for row in rows.ROWS if row.kind == 7]
+    due = mixed_cases.with_doppler(rows.FILE)
+    same("the file", mixed_file(setup, payloads), due)
+    same("its check", mixed_fault(due.encode()), None)
+
+
+@test
 def header_lines() -> None:
     same("types", types_lines("C", rows.TYPES_OF_BEIDOU.split()), rows.TYPES_LINES)
     same("slots", slots_lines(rows.SLOTS), rows.SLOTS_LINES)
@@ -245,7 +286,10 @@ def header_lines() -> None:
     every = ",".join(("" if it.letter == "G" else it.letter) + code for it in SYSTEMS for code in it.codes)
     lines = mixed_header(setup_of(every, {slot: -7 for slot in range(1, 28)}), NOON, 99)
     same("the longest header", (len(lines), sum(len(line) + 1 for line in lines)), (43, 3483))
-    same("its check", header_fault("".join(f"{line}\n" for line in lines).encode())[3:], (99,))
+    same("its check", header_fault("".join(f"{line}\n" for line in lines).encode())[3:], (99, False))
+    lines = mixed_header(replace(setup_of(every, {slot: -7 for slot in range(1, 28)}), doppler=True), NOON, 99)
+    same("the longest header with Doppler", (len(lines), sum(len(line) + 1 for line in lines)), (49, 3969))
+    same("its check", header_fault("".join(f"{line}\n" for line in lines).encode())[3:], (99, True))
     for system in SYSTEMS:
         name = ("" if system.letter == "G" else system.letter) + system.codes[0]
         lines = mixed_header(setup_of(name, {}), NOON, 18)
@@ -257,6 +301,8 @@ def header_lines() -> None:
 def changed_files() -> None:
     for case, due in mixed_cases.HEADER_CASES + mixed_cases.RECORD_CASES:
         same(case, mixed_fault(mixed_cases.changed(case)), due)
+    for case, due in mixed_cases.DOPPLER_CASES:
+        same(case, mixed_fault(mixed_cases.changed_with_doppler(case)), due)
     text = rows.FILE.encode()
     same("nothing", mixed_fault(b""), (1, mixed_cases.C5))
     same("no last LF", mixed_fault(text[:-1]), (37, mixed_cases.C5))
@@ -272,7 +318,7 @@ def files_that_chance_makes() -> None:
         text = some_table(rng, "G" if of_gps else LETTERS).text
         same(f"{number}", mixed_fault(text), None)
         text = damaged_mixed(rng, text)
-        if of_gps and text[40:41] not in b"RECJSIM":
+        if of_gps and text[40:41] not in b"RECJSIM" and text[744:745] != b"D":
             same(f"{number}, changed", mixed_fault(text), fault(text))
 
 
@@ -295,6 +341,7 @@ def files_of_one_system() -> None:
     for letter in LETTERS:
         text = mixed_cases.file_of_one(letter)
         same(letter, mixed_fault(text), None)
+        same(f"{letter} with Doppler", mixed_fault(mixed_cases.with_doppler(text.decode()).encode()), None)
         # A line of another system is not due, and its satellites have no types.
         other = "E" if letter != "E" else "G"
         records = text.count(b"\n")

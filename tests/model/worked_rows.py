@@ -60,6 +60,18 @@ ROWS = (
 )  # fmt: skip
 
 
+# The Doppler shift of each row of an MSM7, in thousandths of a Hz, with the channel of the row.
+DOPPLER = {
+    "G05": 1_177_225, "R10": 1_244_632, "E11": 1_192_580, "C41": 1_576_458, "J01": 1_576_458, "S58": 1_177_225, "I14": 1_177_225,
+}  # fmt: skip
+# Rates of G05 1C: DF399 in m/s, DF404 in 0.0001 m/s, and the shift. The least values are invalid, and a shift of 0 is none.
+RATES = (
+    (-300, 100, 1_576_458), (300, -100, -1_576_458), (0, 1, -1), (0, -1, 1), (1, 0, -5255), (0, 16_383, -8609),
+    (8191, 16_383, -43_052_605), (-8191, -16_383, 43_052_605), (0, 0, None), (-8192, 0, None), (-8192, 16_383, None),
+    (0, -16_384, None), (8191, -16_384, None), (-8192, -16_384, None),
+)  # fmt: skip
+
+
 class RealCell(NamedTuple):
     """A cell of a real stream: the stream and the number of its message, and what a row has."""
 

@@ -16,6 +16,7 @@ PROGRAM = os.environ["RTCM2RINEX"]
 sys.path.insert(0, str(ROOT / "tests/model"))
 
 from finding import EPHEMERIS  # noqa: E402
+from mixed_cases import DOPPLER_CASES, changed_with_doppler, with_doppler  # noqa: E402
 from station import capture, date, frame_of_row, legacy_of, msm_of, point  # noqa: E402
 from wire import frame_of  # noqa: E402
 

@@ -11,9 +11,9 @@ from datetime import timedelta
 import rtcm2rinex
 from rtcm2rinex import Conflict, Converter, Counts, Observation
 from rtcm2rinex.converting import convert_words
-from support import MADE, NOON, ROOT, Case, frame_of
+from support import DOPPLER_CASES, MADE, NOON, ROOT, Case, changed_with_doppler, frame_of, with_doppler
 from test_reading import damaged, fault_of
-from worked_rows import CODES, FILE, ROWS
+from worked_rows import CODES, DOPPLER, FILE, ROWS
 
 SETUP = {"station": 1, "near": NOON, "made": MADE, "marker": "BASE"}
 SEVEN = {**SETUP, "codes": CODES, "msm": 7, "channels": {10: -5}}
@@ -48,9 +48,10 @@ class Words(Case):
             ({"leap_seconds": 18}, ["--msm=4", "--leap-seconds=18"]),
             ({"leap_seconds": 0}, ["--msm=4", "--leap-seconds=0"]),
             ({"with_1012": True}, ["--msm=4", "--with-1012"]),
+            ({"msm": 7, "doppler": True}, ["--msm=7", "--doppler"]),
         ]
         for options, due in rows:
-            given = {"msm": 4, "channels": None, "leap_seconds": None, "with_1012": False, **options}
+            given = {"msm": 4, "channels": None, "leap_seconds": None, "with_1012": False, "doppler": False, **options}
             words = convert_words(2003, NOON, MADE, "BASE", ("1C", "E1X"), 64, **given)
             self.assertEqual(words, ["convert", "--station=2003", "--near=2024-05-17T12:00:00", f"--made={MADE}", "--marker=BASE",
                 "--codes=1C,E1X", "--window=64", *due], options)
@@ -69,6 +70,7 @@ class Words(Case):
             ({"codes": "1C,E1X"}, "bad --channels", ()),
             ({"codes": "1C,E1X", "channels": {}}, "bad --channels", ()),
             ({"codes": "1C,E1X", "channels": None, "with_1012": True}, "--with-1012 needs R codes", ()),
+            ({"codes": "1C,E1X", "channels": None, "msm": "7,E4", "doppler": True}, "--doppler needs MSM5 or MSM7 of E", ()),
             ({"msm": 8}, clap.format("8", "--msm", "8 is not in 4..=7"), ()),
             ({"msm": {"E": 8}}, clap.format("4,E8", "--msm", "invalid digit found in string"), ()),
             ({"msm": {"X": 4}}, clap.format("4,X4", "--msm", "invalid digit found in string"), ()),
@@ -97,6 +99,23 @@ class Conversions(Case):
         self.assertEqual((head.channels, head.leap_seconds, head.first), ({10: -5}, 18, NOON))
         again = rtcm2rinex.convert(io.BytesIO(WHOLE), **{**SEVEN, "codes": head.codes, "channels": head.channels})
         self.assertEqual(again.text.decode(), FILE)
+
+    def test_doppler(self) -> None:
+        """The file has the shifts that were worked out, and else what it has without them."""
+        done = rtcm2rinex.convert(io.BytesIO(WHOLE), **SEVEN, doppler=True)
+        self.assertEqual(done.text.decode(), with_doppler(FILE))
+        self.assertEqual((done.header().doppler, done.header().codes), (True, ("5X", "R2P", "E8X", "C1P", "J1X", "S5I", "I5A")))
+        rows = list(done.observations())
+        self.assertEqual({it.satellite: it.doppler for it in rows}, {name: shift / 1000 for name, shift in DOPPLER.items()})
+        plain = rtcm2rinex.convert(io.BytesIO(WHOLE), **SEVEN)
+        self.assertEqual([it._replace(doppler=None) for it in rows], list(plain.observations()))
+        self.assertFalse(plain.header().doppler)
+
+    def test_doppler_in_the_numbers(self) -> None:
+        counted = rtcm2rinex.quality(io.BytesIO(with_doppler(FILE).encode()))
+        self.assertEqual([it.doppler for it in counted.systems],
+            [(("5X", 1),), (("R2P", 1),), (("E8X", 1),), (("C1P", 1),), (("J1X", 1),), (("S5I", 1),), (("I5A", 1),)])
+        self.assertEqual({it.doppler for it in rtcm2rinex.quality(io.BytesIO(FILE.encode())).systems}, {()})
 
     def test_kinds_by_systems(self) -> None:
         """1077 beside 1094: a kind that is not chosen is left out, and then the system has no message."""
@@ -210,17 +229,22 @@ class Reading(Case):
         """`check` is proved, so its answers are values from outside. It refuses fields of a label, which `cut` takes, as the reader."""
         chance, refused = random.Random(7), 0
         alone = rtcm2rinex.convert(io.BytesIO(FRAMES["R10"]), **OF_GLONASS, channels={it: -7 for it in range(3, 20)}).text
-        texts = [MIXED, FILE.encode(), alone]
+        texts = [MIXED, FILE.encode(), alone, with_doppler(FILE).encode()]
         for text in texts:
             self.assertTrue(rtcm2rinex.check(io.BytesIO(text)))
             self.assertEqual(fault_of(text), (None, None))
         for number in range(DAMAGED):
-            text = damaged(texts[number % 3], chance)
+            text = damaged(texts[number % 4], chance)
             told = rtcm2rinex.check(io.BytesIO(text))
             if fault_of(text) != (told.line, told.fault):
                 self.assertEqual(fault_of_cut(text), fault_of(text), text)
             refused += not told
         self.assertGreater(refused, DAMAGED // 2)
+
+    def test_files_with_doppler(self) -> None:
+        """The cases of the slow model, which were worked by hand."""
+        for case, due in DOPPLER_CASES:
+            self.assertEqual(fault_of(changed_with_doppler(case)), due or (None, None), case)
 
     def test_each_kind_of_fault(self) -> None:
         """An edit of FILE, and what `check` says of it; without a line the file is good."""

@@ -25,7 +25,8 @@ class Tables(Case):
         columns = rtcm2rinex.arrays(EXAMPLES / "session.rnx")
         self.assertEqual({name: (it.dtype.str[1:], it.shape) for name, it in columns.items()}, {"time": ("M8[ms]", (184,)),
             "satellite": ("U3", (184,)), "code": ("U2", (184,)), "range": ("f8", (184,)), "phase": ("f8", (184,)),
-            "strength": ("f8", (184,)), "loss_of_lock": ("b1", (184,)), "half_cycle": ("b1", (184,))})
+            "strength": ("f8", (184,)), "loss_of_lock": ("b1", (184,)), "half_cycle": ("b1", (184,)),
+            "doppler": ("f8", (184,))})
         self.assertEqual((columns["loss_of_lock"].sum(), columns["half_cycle"].sum()), (2, 3))
         self.assertEqual((str(columns["time"][0]), columns["range"][0]), ("2024-05-17T12:00:00.000", 21085472.062))
 

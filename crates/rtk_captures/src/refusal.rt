@@ -53,6 +53,12 @@ pub enum Refusal {
     /// The station has observations, but none in a 1004 or in the MSM that words choose.
     #[error("neither a 1004 nor the MSM of --msm has an observation; choose another MSM")]
     NoCode,
+    /// A listed system has an MSM without Doppler, and words ask for Doppler.
+    #[error("--doppler needs MSM5 or MSM7 of {letter}")]
+    NoRates {
+        /// The letter of the system.
+        letter: char,
+    },
     /// More than 16 captures are of the same time.
     #[error("more than 16 captures are of the same time, and 16 links are taken")]
     TooManyLinks,

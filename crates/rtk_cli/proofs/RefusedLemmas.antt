@@ -4,7 +4,7 @@ use Rattle.std.proofs.lemmas.Result.{err_from_is_err_and}
 use Rattle.rtk_obs.specs.declared.any_code.AnyCode.{AnyCode}
 use Rattle.rtk_cli.specs.declared.convert_words.ConvertOptions.{ConvertOptions}
 use Rattle.rtk_cli.specs.declared.words.BadWords.{BadWords}
-use Rattle.rtk_cli.specs.declared.words.BadWords.TheVariants.{Codes, CodeOfSystem, CodeOfGps, Channels, NoChannels, NoGlonass}
+use Rattle.rtk_cli.specs.declared.words.BadWords.TheVariants.{Codes, CodeOfSystem, CodeOfGps, Channels, NoChannels, NoGlonass, NoRates}
 use Rattle.rtk_cli.specs.declared.words.WordsFault.{WordsFault}
 use Rattle.rtk_cli.specs.declared.words.WordsFault.TheVariants.{Clap, Bad, OutOfMemory}
 use Rattle.rtk_cli.specs.FaultLines.{TellsCause, IsRefusal}
@@ -49,4 +49,5 @@ head-cause o names own good lists Codes is = inr (good, (own, lists, is))
 head-cause o names own good lists Channels is = (good, (own, lists, is))
 head-cause o names own good lists NoChannels is = (good, (own, lists, is))
 head-cause o names own good lists NoGlonass is = (good, (own, lists, is))
+head-cause o names own good lists (NoRates s) is = (good, (own, lists, is))
 head-cause o names own good lists _ is = absurd (is.1)

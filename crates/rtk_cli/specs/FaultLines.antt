@@ -3,10 +3,11 @@ use Rattle.std.specs.Prelude.{◌≡◌, ℕ, List, codes, Option, None, Some}
 use Rattle.std.specs.Option.{option_map}
 use Rattle.rtk_label.specs.declared.label_fault.LabelFault.TheVariants.{RunBy, MarkerNumber, Observer, Agency, ReceiverNumber, ReceiverType, ReceiverVersion, AntennaNumber, AntennaType, DeltaHeight, DeltaEast, DeltaNorth}
 use Rattle.rtk_cli.specs.declared.words.BadWords.{BadWords}
-use Rattle.rtk_cli.specs.declared.words.BadWords.TheVariants.{Near, Made, Codes, CodeOfSystem, CodeOfGps, Marker, Channels, NoChannels, NoGlonass, Links, Systems, Satellites, From, Until, Field, Files}
+use Rattle.rtk_cli.specs.declared.words.BadWords.TheVariants.{Near, Made, Codes, CodeOfSystem, CodeOfGps, Marker, Channels, NoChannels, NoGlonass, NoRates, Links, Systems, Satellites, From, Until, Field, Files}
 use Rattle.rtk_cli.specs.declared.words.WordsFault.{WordsFault}
 use Rattle.rtk_cli.specs.declared.words.WordsFault.TheVariants.{Bad, OutOfMemory}
 use Rattle.rtk_cli.specs.CodeLines.{codes_line, short_code_line}
+use Rattle.rtk_cli.specs.RatesLine.{rates_line}
 
 -- table
 -- the fault line of a cause (this project's rule)
@@ -20,6 +21,7 @@ fault_line Marker = codes "bad --marker"
 fault_line Channels = codes "bad --channels"
 fault_line NoChannels = codes "R codes need --channels"
 fault_line NoGlonass = codes "--with-1012 needs R codes"
+fault_line (NoRates s) = rates_line s
 fault_line Links = codes "bad links"
 fault_line Systems = codes "bad --systems"
 fault_line Satellites = codes "bad --satellites"

@@ -5,6 +5,7 @@ pub mod CodeLines
 pub mod FaultLines
 pub mod JoinedLinks
 pub mod LabelPassing
+pub mod RatesLine
 pub mod Said
 pub mod SurveysText
 pub mod Watched

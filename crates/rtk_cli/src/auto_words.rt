@@ -47,6 +47,8 @@ pub(crate) struct AutoOptions<'a> {
     pub(crate) window: Option<Window>,
     /// Which MSM is converted beside 1004.
     pub(crate) msm: Option<MsmKind>,
+    /// The file shows Doppler shifts.
+    pub(crate) doppler: bool,
     pub(crate) ways: Ways<'a>,
 }
 
@@ -74,6 +76,7 @@ pub(crate) fn auto_options<'a>(words: &ArgMatches<'a>) -> Option<AutoOptions<'a>
         leap_seconds: value_if_any(words.get_one::<u32>("leap-seconds").map(leap_seconds_of))?,
         window: value_if_any(words.get_one::<u32>("window").map(window_of))?,
         msm: value_if_any(words.get_one::<u32>("msm").map(msm_of))?,
+        doppler: words.get_flag("doppler"),
         ways: ways_of(words),
     })
 }
@@ -160,7 +163,8 @@ pub(crate) fn auto_words<'a>(
     ensures systems { IfOk result (λ words. SaysFlags options.now.systems words.wanted.systems) }
     ensures channels { IfOk result (λ words. SaysChannelsOrNone options.now.channels words.wanted.channels) }
     ensures leap_seconds { IfOk result (λ words. words.wanted.leap_seconds ≡ options.now.leap_seconds) }
-    ensures values { IfOk result (λ words. (words.wanted.station ≡ options.now.station) × (words.wanted.msm ≡ options.now.msm)) }
+    ensures values { IfOk result (λ words. (words.wanted.station ≡ options.now.station) × (words.wanted.msm ≡ options.now.msm)
+        × (words.wanted.doppler ≡ options.now.doppler)) }
     ensures near { IfOk result (λ words. SaysMomentOrNone options.now.near words.wanted.near) }
     ensures marker { IfOk result (λ words. SaysMarkerOrNone options.now.marker words.wanted.marker) }
     ensures made { IfOk result (λ words. SaysMomentOrNone options.now.made words.made) }
@@ -187,6 +191,7 @@ pub(crate) fn auto_words<'a>(
         near: reference,
         marker,
         window: options.window.unwrap_or(greatest_window()),
+        doppler: options.doppler,
     };
     Ok(AutoWords {
         wanted,

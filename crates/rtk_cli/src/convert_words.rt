@@ -1,9 +1,10 @@
 //! The words of `convert`: its options, as clap's answer fills them, and what they and the links say.
 
-ghost use Rattle.std.specs.Prelude.{map, ◌≡◌, ◌≤◌, IfOk, IfErr, Decides};
+ghost use Rattle.std.specs.Prelude.{map, ◌≡◌, ◌≤◌, None, IfOk, IfErr, Decides};
 ghost use Rattle.rtk_rinex.specs.MixedHead.{has_glonass, IsGlonassView, TellsGlonass};
+ghost use Rattle.rtk_setup.specs.Rates.{without_rates};
 ghost use Rattle.rtk_cli.specs.FaultLines.{IsRefusal};
-ghost use Rattle.rtk_cli.specs.Steps.ConvertWords.{SaysConversion, RefusesConversion, IsLeapSecondsOf, SaysGlonass, IsHeadOf, IsGlonassCause, IsHeadCause, with_given, with_1012_if};
+ghost use Rattle.rtk_cli.specs.Steps.ConvertWords.{SaysConversion, RefusesConversion, IsLeapSecondsOf, SaysGlonass, IsHeadOf, IsGlonassCause, IsShiftsCause, IsHeadCause, with_given, with_1012_if};
 ghost use Rattle.rtk_cli.specs.Words.{AreLinkNames, IsWithinLimits};
 
 use crate::channel_list::channels_said;
@@ -16,7 +17,7 @@ use rtk_convert::LinkCount;
 use rtk_message::System;
 use rtk_obs::{AnyCode, Channels, GpsMs, leap_seconds_at};
 use rtk_rinex::{CreationTime, Glonass, Marker, MixedHead, is_mixed_list};
-use rtk_setup::{LeapSeconds, Setup, Station, SystemKinds, Window};
+use rtk_setup::{LeapSeconds, Setup, Station, SystemKinds, Window, without_rates};
 use rtk_streams::STDIN;
 use std::alloc::Global;
 
@@ -42,6 +43,8 @@ pub(crate) struct ConvertOptions<'a> {
     pub(crate) leap_seconds: Option<LeapSeconds>,
     /// The 1012 are converted too.
     pub(crate) with_1012: bool,
+    /// The file shows Doppler shifts.
+    pub(crate) doppler: bool,
 }
 
 /// The options of `convert`.
@@ -57,6 +60,7 @@ pub(crate) fn convert_options<'a>(words: &ArgMatches<'a>) -> Option<ConvertOptio
         channels: words.get_str("channels"),
         leap_seconds: value_if_any(words.get_one::<u32>("leap-seconds").map(leap_seconds_of))?,
         with_1012: words.get_flag("with-1012"),
+        doppler: words.get_flag("doppler"),
     })
 }
 
@@ -128,7 +132,23 @@ fn glonass_said(
     Ok(Some(glonass_of(channels, options.leap_seconds, near)))
 }
 
-// The head of a file with these codes, and what the options tell of GLONASS.
+// The head of a file with Doppler shifts, if they are asked for. The MSM of each listed system has range rates then.
+fn head_with_shifts(
+    head: MixedHead,
+    is_asked: bool,
+    kinds: SystemKinds,
+) -> Result<MixedHead, BadWords>
+    ensures head { IfOk result (λ h. h ≡ record head { doppler = is_asked }) }
+    ensures rates { IfOk result (λ h. without_rates is_asked kinds head.listed ≡ None) }
+    ensures cause { IfErr result (IsShiftsCause is_asked kinds head.listed) }
+{
+    match without_rates(is_asked, kinds, head.codes()) {
+        Some(system) => Err(BadWords::NoRates(system)),
+        None => Ok(head.with_doppler_if(is_asked)),
+    }
+}
+
+// The head of a file with these codes, and what the options tell of GLONASS and of Doppler shifts.
 fn head_said(
     alloc: Global,
     options: &ConvertOptions,
@@ -149,7 +169,8 @@ fn head_said(
     let Ok(head) = MixedHead::new(marker, listed.as_slice(), glonass, made) else {
         unreachable!();
     };
-    Ok(head)
+    let shown = head_with_shifts(head, options.doppler, options.kinds)?;
+    Ok(shown)
 }
 
 // The setup with these kinds.

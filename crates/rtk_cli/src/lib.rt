@@ -46,6 +46,7 @@ mod option_numbers;
 mod option_texts;
 mod parts;
 mod quality_words;
+mod rates_line;
 mod refusing;
 mod running;
 mod show_words;

@@ -1,6 +1,7 @@
 //! What the words of a command line ask for, and why a command is not done.
 
 use crate::code_lines::{codes_line, short_code_line};
+use crate::rates_line::rates_line;
 use rtk_commands::{Chart, Compare, KeptPart, Labelling};
 use rtk_convert::Setup;
 use rtk_cut::Part;
@@ -118,6 +119,8 @@ pub(crate) enum BadWords {
     NoChannels,
     /// The 1012 are to be converted, and there is no code of GLONASS.
     NoGlonass,
+    /// The file is to show Doppler shifts, and the MSM of this system, of which a code is listed, has no range rates.
+    NoRates(System),
     /// The links are not 1 to 16, or standard input stands twice.
     Links,
     /// A letter is that of no system, or there is none.
@@ -152,6 +155,7 @@ impl BadWords {
             BadWords::Channels => "bad --channels",
             BadWords::NoChannels => "R codes need --channels",
             BadWords::NoGlonass => "--with-1012 needs R codes",
+            BadWords::NoRates(system) => rates_line(system),
             BadWords::Links => "bad links",
             BadWords::Systems => "bad --systems",
             BadWords::Satellites => "bad --satellites",

@@ -10,10 +10,9 @@ use Rattle.rtk_obs.specs.Cell.{IsSatellite, IsInRange}
 use Rattle.rtk_obs.specs.declared.cell.CellEntry.{CellEntry}
 use Rattle.std.specs.Prelude.{◌*◌, not}
 use Rattle.rtk_obs.specs.Code.{place_of}
-use Rattle.rtk_collect.specs.Equal.{equal_cells}
 use Rattle.rtk_collect.specs.Key.{key, key_at, rank_of, Above, KeysRise}
 use Rattle.rtk_collect.proofs.EqualityLemmas.{place-less, rank-less}
-use Rattle.rtk_collect.specs.EpochSet.{AreCellsOfEpoch, with_cell, with_cells, cell_under, one_more, fresh, conflict, conflicts}
+use Rattle.rtk_collect.specs.EpochSet.{AreCellsOfEpoch, with_cell, with_cells, cell_under, one_more, fresh, equal_values, conflict, conflicts}
 use Rattle.rtk_collect.specs.Steps.OrderedPlaces.{lower}
 use Rattle.rtk_collect.specs.Gps.{gps}
 use Rattle.rtk_collect.specs.Entries.{Entries}
@@ -382,6 +381,6 @@ flipped true xs = refl
 flipped false xs = refl
 
 -- a cell conflicts if another one is kept under its key
-pub conflict-is : {E S : Type 0} (es : Entries E S) (c x : E) (o : Option E) (r : Bool) → o ≡ Some x → r ≡ not (equal_cells (es.cell x) (es.cell c))
+pub conflict-is : {E S : Type 0} (es : Entries E S) (c x : E) (o : Option E) (r : Bool) → o ≡ Some x → r ≡ not (equal_values es x c)
     → conflict es c o ≡ (if r then es.signal c ∷ [] else [])
-conflict-is es c x o r h e = ap (conflict es c) h ∙ flipped (equal_cells (es.cell x) (es.cell c)) _ ∙ ap (λ t. if t then es.signal c ∷ [] else []) (sym e)
+conflict-is es c x o r h e = ap (conflict es c) h ∙ flipped (equal_values es x c) _ ∙ ap (λ t. if t then es.signal c ∷ [] else []) (sym e)

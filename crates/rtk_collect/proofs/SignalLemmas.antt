@@ -6,6 +6,7 @@ use Rattle.std.proofs.lemmas.Bool.{cases_order}
 use Rattle.std.proofs.lemmas.List.Elements.{recursion_from_All}
 use Rattle.rtk_message.specs.declared.any_message.AnyMessage.{AnyMessage as Message}
 use Rattle.rtk_message.specs.declared.any_message.AnyMessage.TheVariants as any
+use Rattle.rtk_message.specs.declared.message.Message.{Message as FourMessage}
 use Rattle.rtk_message.specs.declared.message.Message.TheVariants.{Obs1004}
 use Rattle.rtk_message.specs.declared.msm.Msm.{Msm}
 use Rattle.rtk_message.specs.declared.obs1004.Satellite.{Satellite}
@@ -19,13 +20,13 @@ use Rattle.rtk_obs.specs.SatelliteIndex.{system_at}
 use Rattle.rtk_obs.specs.SignalCells.{signal_of, entries_of, IsSignalInRange, AreDifferentEntries, EntriesAreOfOneKind}
 use Rattle.rtk_obs.specs.declared.cell.CellEntry.{CellEntry}
 use Rattle.rtk_obs.specs.declared.signal_cells.SignalEntry.{SignalEntry}
-use Rattle.rtk_obs.proofs.PublicLaws.{cells_of-satellites, place_below, number_below, same_number, number-of-gps, entries_of-own, entries_of-in_range, entries_of-differ, entries_of-kind, sbas-own, sbas-range, sbas-differ, sbas-kind}
+use Rattle.rtk_obs.proofs.PublicLaws.{cells_of-satellites, place_below, number_below, same_number, number-of-gps, entries_of-own, entries_of-in_range, entries_of-differ, entries_of-kind, sbas-own, sbas-range, sbas-differ, sbas-kind, doppler-own, doppler-range, doppler-differ, doppler-kind}
 use Rattle.rtk_collect.specs.declared.conflicts.AnySatelliteCode.{AnySatelliteCode}
 use Rattle.rtk_collect.specs.Arrival.{Arrival, message_of}
 use Rattle.rtk_collect.specs.Entries.{Entries}
 use Rattle.rtk_collect.specs.Key.{key, key_at, rank_of, KeysRise}
 use Rattle.rtk_collect.specs.Laws.{KeptAreFew, OpeningConflictsNot, ClosingConflictsNot}
-use Rattle.rtk_collect.specs.Signals.{signals, entries_by, SignalKeysAreDistinct, GpsKeepsItsOrder, EpochsAreOfSatellites}
+use Rattle.rtk_collect.specs.Signals.{signals, plain_entries_by, entries_by, SignalKeysAreDistinct, GpsKeepsItsOrder, EpochsAreOfSatellites}
 use Rattle.rtk_collect.proofs.CellsLemmas.{From, keys-fit}
 use Rattle.rtk_collect.proofs.EqualityLemmas.{place-less, rank-less, rank-one}
 use Rattle.rtk_collect.proofs.FewLemmas.{AreOfArrivals, of-arrivals, kept-few}
@@ -70,6 +71,7 @@ dense = record {
   place = λ c. signal_place c.satellite c.code;
   signal = λ c. record { satellite = c.satellite; code = c.code };
   cell = λ c. c.cell;
+  doppler = λ c. c.doppler_millihertz;
 }
 
 abbrev IsUpTo : ℕ → SignalEntry → Type 0
@@ -121,59 +123,82 @@ in-range-few xs r h = omega (arith, signals-few 221 xs r (range-up-to xs (recurs
 abbrev IsOfOwnSystem : SignalEntry → Type 0
 IsOfOwnSystem e = IsSignal e.satellite e.code
 
-entries_by-own : (sbas : Bool) (channels : List (Option ℤ)) (m : Message) → All IsOfOwnSystem (entries_by sbas channels m)
-entries_by-own true channels m = sbas-own channels m
-entries_by-own false channels m = entries_of-own channels m
+plain-own : (sbas : Bool) (channels : List (Option ℤ)) (m : Message) → All IsOfOwnSystem (plain_entries_by sbas channels m)
+plain-own true channels m = sbas-own channels m
+plain-own false channels m = entries_of-own channels m
 
-pub entries_by-range : (sbas : Bool) (channels : List (Option ℤ)) (m : Message) → IsValid m → All IsSignalInRange (entries_by sbas channels m)
-entries_by-range true channels m valid = sbas-range channels m valid
-entries_by-range false channels m valid = entries_of-in_range channels m valid
+plain-range : (sbas : Bool) (channels : List (Option ℤ)) (m : Message) → IsValid m → All IsSignalInRange (plain_entries_by sbas channels m)
+plain-range true channels m valid = sbas-range channels m valid
+plain-range false channels m valid = entries_of-in_range channels m valid
 
-entries_by-differ : (sbas : Bool) (channels : List (Option ℤ)) (m : Message) → IsValid m → AllPairs AreDifferentEntries (entries_by sbas channels m)
-entries_by-differ true channels m valid = sbas-differ channels m valid
-entries_by-differ false channels m valid = entries_of-differ channels m valid
+plain-differ : (sbas : Bool) (channels : List (Option ℤ)) (m : Message) → IsValid m → AllPairs AreDifferentEntries (plain_entries_by sbas channels m)
+plain-differ true channels m valid = sbas-differ channels m valid
+plain-differ false channels m valid = entries_of-differ channels m valid
 
-pub entries_by-kind : (sbas : Bool) (channels : List (Option ℤ)) (m : Message) → EntriesAreOfOneKind (entries_by sbas channels m)
-entries_by-kind true channels m = sbas-kind channels m
-entries_by-kind false channels m = entries_of-kind channels m
+plain-kind : (sbas : Bool) (channels : List (Option ℤ)) (m : Message) → EntriesAreOfOneKind (plain_entries_by sbas channels m)
+plain-kind true channels m = sbas-kind channels m
+plain-kind false channels m = entries_of-kind channels m
+
+entries_by-own : (sbas doppler : Bool) (channels : List (Option ℤ)) (m : Message) → All IsOfOwnSystem (entries_by sbas doppler channels m)
+entries_by-own sbas true channels m = doppler-own (plain_entries_by sbas channels) channels m (plain-own sbas channels m)
+entries_by-own sbas false channels m = plain-own sbas channels m
+
+pub entries_by-range : (sbas doppler : Bool) (channels : List (Option ℤ)) (m : Message) → IsValid m → All IsSignalInRange (entries_by sbas doppler channels m)
+entries_by-range sbas true channels m valid = doppler-range (plain_entries_by sbas channels) channels m valid (plain-range sbas channels m valid)
+entries_by-range sbas false channels m valid = plain-range sbas channels m valid
+
+entries_by-differ : (sbas doppler : Bool) (channels : List (Option ℤ)) (m : Message) → IsValid m → AllPairs AreDifferentEntries (entries_by sbas doppler channels m)
+entries_by-differ sbas true channels m valid = doppler-differ (plain_entries_by sbas channels) channels m valid (plain-differ sbas channels m valid)
+entries_by-differ sbas false channels m valid = plain-differ sbas channels m valid
+
+pub entries_by-kind : (sbas doppler : Bool) (channels : List (Option ℤ)) (m : Message) → EntriesAreOfOneKind (entries_by sbas doppler channels m)
+entries_by-kind sbas true channels m = doppler-kind (plain_entries_by sbas channels) channels m (plain-kind sbas channels m)
+entries_by-kind sbas false channels m = plain-kind sbas channels m
 
 -- an MSM that is no 1074, and a 1012, have no satellite of SBAS beside their own
-pub entries_by-msm : (sbas : Bool) (channels : List (Option ℤ)) (m : Msm) → entries_by sbas channels (any.Msm m) ≡ entries_of channels (any.Msm m)
+pub entries_by-msm : (sbas : Bool) (channels : List (Option ℤ)) (m : Msm) → entries_by sbas false channels (any.Msm m) ≡ entries_of channels (any.Msm m)
 entries_by-msm true channels m = refl
 entries_by-msm false channels m = refl
 
-pub entries_by-1012 : (sbas : Bool) (channels : List (Option ℤ)) (m : Obs1012) → entries_by sbas channels (any.Obs1012 m) ≡ entries_of channels (any.Obs1012 m)
-entries_by-1012 true channels m = refl
-entries_by-1012 false channels m = refl
+pub entries_by-1012 : (sbas doppler : Bool) (channels : List (Option ℤ)) (m : Obs1012) → entries_by sbas doppler channels (any.Obs1012 m) ≡ entries_of channels (any.Obs1012 m)
+entries_by-1012 true true channels m = refl
+entries_by-1012 true false channels m = refl
+entries_by-1012 false true channels m = refl
+entries_by-1012 false false channels m = refl
+
+-- the four types have no Doppler shifts
+pub entries_by-four : (sbas doppler : Bool) (channels : List (Option ℤ)) (m : FourMessage) → entries_by sbas doppler channels (any.Message m) ≡ plain_entries_by sbas channels (any.Message m)
+entries_by-four sbas true channels m = refl
+entries_by-four sbas false channels m = refl
 
 -- ---- how many cells an epoch has
 
-up-to-all : (sbas : Bool) (channels : List (Option ℤ)) (m : Message) → All (IsUpTo 221) (entries_by sbas channels m)
-up-to-all sbas channels m = λ k d inside. (entries_by-own sbas channels m k d inside, (entries_by-own sbas channels m k d inside).0.1)
+up-to-all : (sbas doppler : Bool) (channels : List (Option ℤ)) (m : Message) → All (IsUpTo 221) (entries_by sbas doppler channels m)
+up-to-all sbas doppler channels m = λ k d inside. (entries_by-own sbas doppler channels m k d inside, (entries_by-own sbas doppler channels m k d inside).0.1)
 
-pub signals-are-few : (sbas : Bool) (channels : List (Option ℤ)) → KeptAreFew 7072 signals (entries_by sbas channels)
-signals-are-few sbas channels n arrivals =
-    kept-few signals (IsUpTo 221) (entries_by sbas channels) 7072 (λ cells r h. omega (arith, signals-few 221 cells r h)) n arrivals
-    (of-arrivals (entries_by sbas channels) (IsUpTo 221) (up-to-all sbas channels) arrivals)
+pub signals-are-few : (sbas doppler : Bool) (channels : List (Option ℤ)) → KeptAreFew 7072 signals (entries_by sbas doppler channels)
+signals-are-few sbas doppler channels n arrivals =
+    kept-few signals (IsUpTo 221) (entries_by sbas doppler channels) 7072 (λ cells r h. omega (arith, signals-few 221 cells r h)) n arrivals
+    (of-arrivals (entries_by sbas doppler channels) (IsUpTo 221) (up-to-all sbas doppler channels) arrivals)
 
 both : (g : ℕ) (xs : List SignalEntry) → AllByRecursion (λ (c : SignalEntry). IsSignal c.satellite c.code) xs → AllByRecursion (λ (c : SignalEntry). c.satellite ≤ g) xs → AllByRecursion (IsUpTo g) xs
 both g [] a b = tt
 both g (x ∷ xs) a b = ((a.0, b.0), both g xs a.1 b.1)
 
-up-to-arrivals : (sbas : Bool) (channels : List (Option ℤ)) (g : ℕ) (arrivals : List Arrival)
-    → AllByRecursion (λ (a : Arrival). All (λ (c : SignalEntry). c.satellite ≤ g) (entries_by sbas channels (message_of a))) arrivals → AreOfArrivals (entries_by sbas channels) (IsUpTo g) arrivals
-up-to-arrivals sbas channels g [] h = tt
-up-to-arrivals sbas channels g (a ∷ before) h = (
-  both g (entries_by sbas channels (message_of a))
-      (recursion_from_All (λ (c : SignalEntry). IsSignal c.satellite c.code) (entries_by sbas channels (message_of a)) (entries_by-own sbas channels (message_of a)))
-      (recursion_from_All (λ (c : SignalEntry). c.satellite ≤ g) (entries_by sbas channels (message_of a)) h.0),
-  up-to-arrivals sbas channels g before h.1,
+up-to-arrivals : (sbas doppler : Bool) (channels : List (Option ℤ)) (g : ℕ) (arrivals : List Arrival)
+    → AllByRecursion (λ (a : Arrival). All (λ (c : SignalEntry). c.satellite ≤ g) (entries_by sbas doppler channels (message_of a))) arrivals → AreOfArrivals (entries_by sbas doppler channels) (IsUpTo g) arrivals
+up-to-arrivals sbas doppler channels g [] h = tt
+up-to-arrivals sbas doppler channels g (a ∷ before) h = (
+  both g (entries_by sbas doppler channels (message_of a))
+      (recursion_from_All (λ (c : SignalEntry). IsSignal c.satellite c.code) (entries_by sbas doppler channels (message_of a)) (entries_by-own sbas doppler channels (message_of a)))
+      (recursion_from_All (λ (c : SignalEntry). c.satellite ≤ g) (entries_by sbas doppler channels (message_of a)) h.0),
+  up-to-arrivals sbas doppler channels g before h.1,
 )
 
 pub epochs-are-of-satellites : EpochsAreOfSatellites
-epochs-are-of-satellites sbas channels g n arrivals h =
-    kept-few signals (IsUpTo g) (entries_by sbas channels) (32 * g) (signals-few g) n arrivals
-    (up-to-arrivals sbas channels g arrivals (recursion_from_All (λ (a : Arrival). All (λ (c : SignalEntry). c.satellite ≤ g) (entries_by sbas channels (message_of a))) arrivals h))
+epochs-are-of-satellites sbas doppler channels g n arrivals h =
+    kept-few signals (IsUpTo g) (entries_by sbas doppler channels) (32 * g) (signals-few g) n arrivals
+    (up-to-arrivals sbas doppler channels g arrivals (recursion_from_All (λ (a : Arrival). All (λ (c : SignalEntry). c.satellite ≤ g) (entries_by sbas doppler channels (message_of a))) arrivals h))
 
 -- ---- conflicts
 
@@ -187,11 +212,11 @@ pairs-differ (x ∷ xs) h = (
   pairs-differ xs (λ i j d before inside. h (suc i) (suc j) d (omega arith) (omega arith)),
 )
 
-pub signals-open : (sbas : Bool) (channels : List (Option ℤ)) → OpeningConflictsNot signals (entries_by sbas channels)
-signals-open sbas channels m valid = differ-none signals (entries_by sbas channels m) (pairs-differ (entries_by sbas channels m) (entries_by-differ sbas channels m valid))
+pub signals-open : (sbas doppler : Bool) (channels : List (Option ℤ)) → OpeningConflictsNot signals (entries_by sbas doppler channels)
+signals-open sbas doppler channels m valid = differ-none signals (entries_by sbas doppler channels m) (pairs-differ (entries_by sbas doppler channels m) (entries_by-differ sbas doppler channels m valid))
 
-pub signals-close : (sbas : Bool) (channels : List (Option ℤ)) → ClosingConflictsNot signals (entries_by sbas channels)
-signals-close sbas channels = closing-none signals (entries_by sbas channels) (signals-open sbas channels)
+pub signals-close : (sbas doppler : Bool) (channels : List (Option ℤ)) → ClosingConflictsNot signals (entries_by sbas doppler channels)
+signals-close sbas doppler channels = closing-none signals (entries_by sbas doppler channels) (signals-open sbas doppler channels)
 
 -- ---- the satellites of a first 1004
 

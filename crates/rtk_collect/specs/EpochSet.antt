@@ -1,6 +1,7 @@
 -- The cells of an epoch: one for each satellite, code and kind of message, the first that came.
-use Rattle.std.specs.Prelude.{◌≡◌, ℕ, suc, ◌<◌, ◌≤◌, Bool, List, [], ◌∷◌, ◌++◌, ◌==◌, ◌⊎◌, length, nat_lt, Option, None, Some, All, not, filter, if◌then◌else◌}
+use Rattle.std.specs.Prelude.{◌≡◌, ℕ, suc, ◌<◌, ◌≤◌, Bool, List, [], ◌∷◌, ◌++◌, ◌==◌, ◌⊎◌, length, nat_lt, ◌&&◌, Option, None, Some, All, not, filter, if◌then◌else◌}
 use Rattle.std.specs.List.{list_any}
+use Rattle.std.specs.Ordering.{int_eq}
 use Rattle.rtk_obs.specs.Cell.{IsInRange}
 use Rattle.rtk_obs.specs.Slip.{is_same_source}
 use Rattle.rtk_obs.specs.declared.cell.CellSource.{CellSource}
@@ -82,10 +83,14 @@ abbrev pub fresh : {E S : Type 0} → Entries E S → List E → List E → ℕ
 fresh es [] kept = 0
 fresh es (c ∷ more) kept = one_more (cell_under es (key es c) kept) (fresh es more kept)
 
+-- the values of two cells are equal, and their Doppler shifts
+abbrev pub equal_values : {E S : Type 0} → Entries E S → E → E → Bool
+equal_values es a b = equal_cells (es.cell a) (es.cell b) && int_eq (es.doppler a) (es.doppler b)
+
 -- satellite and code of a cell, if another one is kept under its key
 abbrev pub conflict : {E S : Type 0} → Entries E S → E → Option E → List S
 conflict es c None = []
-conflict es c (Some x) = if equal_cells (es.cell x) (es.cell c) then [] else es.signal c ∷ []
+conflict es c (Some x) = if equal_values es x c then [] else es.signal c ∷ []
 
 -- formula
 -- satellites and codes of the cells that conflict, in the order of the message

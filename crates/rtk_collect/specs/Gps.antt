@@ -1,5 +1,5 @@
 -- The cells of GPS as cells of a window.
-use Rattle.std.specs.Prelude.{ℕ, ◌+◌, ◌*◌}
+use Rattle.std.specs.Prelude.{ℕ, ◌+◌, ◌*◌, pos}
 use Rattle.rtk_obs.specs.Code.{place_of}
 use Rattle.rtk_obs.specs.declared.cell.CellEntry.{CellEntry}
 use Rattle.rtk_obs.specs.declared.code.Code.{Code}
@@ -17,4 +17,5 @@ gps = record {
   place = λ c. gps_place c.satellite c.code;
   signal = λ c. record { satellite = c.satellite; code = c.code };
   cell = λ c. c.cell;
+  doppler = λ c. pos 0;
 }

@@ -5,6 +5,7 @@ use Rattle.rtk_message.specs.declared.any_message.AnyMessage.TheVariants as any
 use Rattle.rtk_message.specs.declared.obs1004.Satellite.{Satellite}
 use Rattle.rtk_message.specs.declared.system.System.TheVariants.{Gps}
 use Rattle.rtk_obs.specs.AnyCode.{number_of}
+use Rattle.rtk_obs.specs.Doppler.{entries_with_doppler}
 use Rattle.rtk_obs.specs.LegacyCells.{cells_of_1004}
 use Rattle.rtk_obs.specs.MessageCells.{cells_of}
 use Rattle.rtk_obs.specs.SbasCells.{entries_with_sbas}
@@ -31,6 +32,7 @@ signals = record {
   place = λ c. signal_number c.satellite c.code;
   signal = λ c. record { satellite = c.satellite; code = c.code };
   cell = λ c. c.cell;
+  doppler = λ c. c.doppler_millihertz;
 }
 
 -- formula
@@ -40,8 +42,13 @@ legacy_entries ss = map signal_of (cells_of_1004 ss)
 
 -- formula
 -- the entries of a message, with those of SBAS in a 1004 or without them (this project's rule)
-abbrev pub entries_by : Bool → List (Option ℤ) → Message → List SignalEntry
-entries_by sbas channels = if sbas then entries_with_sbas channels else entries_of channels
+abbrev pub plain_entries_by : Bool → List (Option ℤ) → Message → List SignalEntry
+plain_entries_by sbas channels = if sbas then entries_with_sbas channels else entries_of channels
+
+-- formula
+-- these entries, with the Doppler shifts of an MSM or without them (this project's rule)
+abbrev pub entries_by : Bool → Bool → List (Option ℤ) → Message → List SignalEntry
+entries_by sbas doppler channels = if doppler then entries_with_doppler (plain_entries_by sbas channels) channels else plain_entries_by sbas channels
 
 -- two cells of any systems have one key exactly if satellite, code and kind of message are the same
 abbrev pub SignalKeysAreDistinct : Type 0
@@ -52,13 +59,13 @@ abbrev pub GpsKeepsItsOrder : Type 0
 GpsKeepsItsOrder = (c d : CellEntry) → (key gps c < key gps d) ↔ (key signals (signal_of c) < key signals (signal_of d))
 
 -- the satellites of the cells of all these arrivals are at most this one
-abbrev pub AreUpTo : Bool → List (Option ℤ) → ℕ → List Arrival → Type 0
-AreUpTo sbas channels greatest arrivals = All (λ a. All (λ c. c.satellite ≤ greatest) (entries_by sbas channels (message_of a))) arrivals
+abbrev pub AreUpTo : Bool → Bool → List (Option ℤ) → ℕ → List Arrival → Type 0
+AreUpTo sbas doppler channels greatest arrivals = All (λ a. All (λ c. c.satellite ≤ greatest) (entries_by sbas doppler channels (message_of a))) arrivals
 
 -- an epoch has at most 32 cells for each satellite up to the greatest one: for 16 codes and 2 kinds of message
 abbrev pub EpochsAreOfSatellites : Type 0
-EpochsAreOfSatellites = (sbas : Bool) (channels : List (Option ℤ)) (greatest n : ℕ) (arrivals : List Arrival) → AreUpTo sbas channels greatest arrivals
-    → All (λ x. length x.cells ≤ 32 * greatest) (kept signals (entries_by sbas channels) n arrivals)
+EpochsAreOfSatellites = (sbas doppler : Bool) (channels : List (Option ℤ)) (greatest n : ℕ) (arrivals : List Arrival) → AreUpTo sbas doppler channels greatest arrivals
+    → All (λ x. length x.cells ≤ 32 * greatest) (kept signals (entries_by sbas doppler channels) n arrivals)
 
 -- a message of GPS, or of a station
 abbrev pub IsGpsMessage : Message → Type 0

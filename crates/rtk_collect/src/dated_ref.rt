@@ -1,9 +1,10 @@
 //! A message with its epoch.
 
-ghost use Rattle.std.specs.Prelude.{◌≡◌, ◌≤◌, ℤ, List, Option, length, All, IfSome, IfNone, IsTrue};
+ghost use Rattle.std.specs.Prelude.{◌≡◌, ◌≤◌, ℤ, Bool, List, Option, length, All, IfSome, IfNone, IsTrue};
 ghost use Rattle.std.specs.Option.{is_some};
 ghost use Rattle.rtk_message.specs.AnyDecoded as any;
 ghost use Rattle.rtk_message.specs.Decoded.{IsValid, tow_of};
+ghost use Rattle.rtk_message.specs.MsmForm as msm_form;
 ghost use Rattle.rtk_obs.specs.Cell.{IsInRange, AreRising};
 ghost use Rattle.rtk_obs.specs.MessageCells.{cells_of};
 ghost use Rattle.rtk_obs.specs.SignalCells.{IsSignalInRange};
@@ -14,8 +15,8 @@ ghost use Rattle.rtk_collect.specs.Steps.Borrowed.{borrowed};
 use arrayvec::ArrayVec;
 use rtk_message::{AnyMessage, Message, Msm, Obs1012};
 use rtk_obs::{
-    CellEntry, Channels, GpsMs, SignalEntry, put_cells_msm, put_cells_of, put_entries_1012,
-    put_entries_of, put_entries_with_sbas, put_signal_entries,
+    CellEntry, Channels, GpsMs, SignalEntry, put_cells_msm, put_cells_of, put_doppler_entries,
+    put_entries_1012, put_entries_of, put_entries_with_sbas, put_signal_entries,
 };
 use std::marker::Model;
 
@@ -39,15 +40,32 @@ pub(crate) enum Borrowed<'a> {
 }
 
 // Puts the cells of a message of the four types into a list, in place of what it has: with those of SBAS in a
-// 1004, or without them.
+// 1004, or without them. None has a Doppler shift.
 fn put_four(message: &Message, sbas: bool, found: &mut ArrayVec<SignalEntry, 64>)
     requires { IsValid message.now }
-    ensures { (channels : List (Option ℤ)) → found.new.items ≡ entries_by sbas channels (AnyMessage.Message message.now) }
+    ensures { (doppler : Bool) (channels : List (Option ℤ)) → found.new.items ≡ entries_by sbas doppler channels (AnyMessage.Message message.now) }
 {
     if sbas {
         put_entries_with_sbas(message, found)
     } else {
         put_entries_of(message, found)
+    }
+}
+
+// Puts the cells of an MSM into a list, in place of what it has: with their Doppler shifts, or without them.
+fn put_msm(
+    message: &Msm,
+    channels: &Channels,
+    doppler: bool,
+    found: &mut ArrayVec<SignalEntry, 64>,
+)
+    requires { msm_form.IsValid message.now }
+    ensures { (sbas : Bool) → found.new.items ≡ entries_by sbas doppler channels.now (AnyMessage.Msm message.now) }
+{
+    if doppler {
+        put_doppler_entries(message, channels, found)
+    } else {
+        put_signal_entries(message, channels, found)
     }
 }
 
@@ -72,20 +90,21 @@ impl<'a> Borrowed<'a> {
     }
 
     /// Puts the cells of the message into a list, in place of what it has, each as one of any system: with those
-    /// of SBAS in a 1004, or without them.
+    /// of SBAS in a 1004, or without them, and with the Doppler shifts of an MSM, or without them.
     pub(crate) fn put_entries(
         self,
         channels: &Channels,
         sbas: bool,
+        doppler: bool,
         found: &mut ArrayVec<SignalEntry, 64>,
     )
         requires { any.IsValid (borrowed self) }
-        ensures cells { found.new.items ≡ entries_by sbas channels.now (borrowed self.entry) }
+        ensures cells { found.new.items ≡ entries_by sbas doppler channels.now (borrowed self.entry) }
         ensures ranges { All IsSignalInRange found.new.items }
     {
         match self {
             Borrowed::Message(message) => put_four(message, sbas, found),
-            Borrowed::Msm(message) => put_signal_entries(message, channels, found),
+            Borrowed::Msm(message) => put_msm(message, channels, doppler, found),
             Borrowed::Obs1012(message) => put_entries_1012(message, channels, found),
         }
     }

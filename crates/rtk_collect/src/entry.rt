@@ -39,6 +39,10 @@ pub trait Entry: Copy + Default {
     fn cell(&self) -> &Cell
         ensures { result.now ≡ entries.cell self.now };
 
+    /// Returns the Doppler shift in thousandths of a Hz, or 0 if there is none.
+    fn doppler(&self) -> i32
+        ensures { result ≡ entries.doppler self.now };
+
     /// Returns the satellite and code.
     fn signal(&self) -> Self::Signal
         ensures { result ≡ entries.signal self.now };
@@ -83,6 +87,10 @@ impl Entry for CellEntry {
 
     fn cell(&self) -> &Cell {
         &self.cell
+    }
+
+    fn doppler(&self) -> i32 {
+        0
     }
 
     fn signal(&self) -> SatelliteCode {
@@ -142,6 +150,10 @@ impl Entry for SignalEntry {
 
     fn cell(&self) -> &Cell {
         &self.cell
+    }
+
+    fn doppler(&self) -> i32 {
+        self.doppler_millihertz
     }
 
     fn signal(&self) -> AnySatelliteCode {

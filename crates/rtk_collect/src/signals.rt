@@ -38,24 +38,26 @@ fn keys_rise<E: Entry>(cells: &[E]) -> bool
 
 impl Gatherer<SignalEntry> {
     /// Takes what is new in a message of any system, as `offer` does for GPS. Phases of GLONASS are made
-    /// by these channels. Satellites of SBAS in a 1004 have cells if `sbas` says so. All messages of a gatherer are
-    /// offered with the same channels and the same `sbas`.
+    /// by these channels. Satellites of SBAS in a 1004 have cells if `sbas` says so, and cells of an MSM have
+    /// Doppler shifts if `doppler` says so. All messages of a gatherer are offered with the same channels, `sbas` and
+    /// `doppler`.
     pub fn offer_signals(
         &mut self,
         dated: DatedRef<'_>,
         channels: &Channels,
         sbas: bool,
+        doppler: bool,
         conflicts: &mut Conflicts<AnySatelliteCode>,
     ) -> Result<Outcome<SignalEntry>, AllocError>
         ensures places { self.new.places ≡ self.old.places }
         ensures bound { length self.new.sets ≤ self.new.places }
         // Fails only if memory is refused: tests/system/calls, rows signals, offer.
-        ensures answer { IfOk result (λ offer. AnswersArrival signals (entries_by sbas channels.now) self.old dated.entry offer conflicts.new self.new) }
+        ensures answer { IfOk result (λ offer. AnswersArrival signals (entries_by sbas doppler channels.now) self.old dated.entry offer conflicts.new self.new) }
         ensures closed { IfOk result (λ offer. ClosesBelow offer self.new.sets) }
         ensures least_closes { IfOk result (λ offer. ClosesLeast self.old.places self.old.sets offer) }
         ensures least { LeastNeverFalls self.old self.new }
         ensures err { OnErr result (self.new ≡ self.old) }
-        ensures refused { OnErr result (WouldBeTaken signals (entries_by sbas channels.now) self.old dated.entry) }
+        ensures refused { OnErr result (WouldBeTaken signals (entries_by sbas doppler channels.now) self.old dated.entry) }
         ensures none { OnErr result (conflicts.new ≡ []) }
     {
         conflicts.clear();
@@ -67,7 +69,9 @@ impl Gatherer<SignalEntry> {
             return Ok(self.stations.offer(message, full));
         };
         let at = place_of_epoch(&self.sets, epoch);
-        dated.message.put_entries(channels, sbas, &mut self.cells);
+        dated
+            .message
+            .put_entries(channels, sbas, doppler, &mut self.cells);
         let cells = self.cells.as_slice();
         let rises = keys_rise(cells);
         let (sets, spare) = (&mut self.sets, &mut self.spare);

@@ -1,5 +1,5 @@
--- The first line of a file says whether it is one of GPS; what is said of a text by its files.
-use Rattle.std.proofs.Common.{◌≡◌, ◌≢◌, inl, inr, ℕ, List, [], ◌∷◌, ◌++◌, length, codes, ap, sym, refl, ◌∙◌, append_assoc, drop, subst}
+-- What is said of a text by its files; the letter in the first line of each, and which texts are read as those of GPS.
+use Rattle.std.proofs.Common.{◌≡◌, ◌==◌, ◌&&◌, not, inl, inr, Bool, true, false, true≢false, ℕ, List, [], ◌∷◌, ◌++◌, length, codes, ap, sym, refl, ◌∙◌, append_assoc, drop, subst}
 use Rattle.std.specs.Prelude.{flat_map, All, Option, None, IfSome}
 use Rattle.std.proofs.lemmas.List.{append-nil}
 use Rattle.std.proofs.lemmas.List.Elements.{All-head, All-tail, All-weaker}
@@ -11,7 +11,7 @@ use Rattle.rtk_rinex.specs.Record.{EpochTableView, record_text}
 use Rattle.rtk_rinex.specs.MixedRecord.{mixed_record_text}
 use Rattle.rtk_rinex.specs.MixedForm.{form_of_head}
 use Rattle.rtk_rinex.specs.Table.{WellFormedTable, IsWellFormedTable, IsTableEpoch, table_text}
-use Rattle.rtk_rinex.specs.MixedTable.{MixedTable, IsMixedTable, IsMixedEpoch, mixed_table_text}
+use Rattle.rtk_rinex.specs.MixedTable.{MixedTable, IsMixedTable, IsMixedEpoch, mixed_table_text, has_shift_type, GpsShowsNoShifts}
 use Rattle.rtk_rinex.specs.CheckText.{satellite_lines}
 use Rattle.rtk_rinex.specs.CheckTable.{TableView, HoldsTable, IsWithoutTable, OneTable, OneFault}
 use Rattle.rtk_rinex.specs.MixedCheckTable.{HoldsMixedTable, IsWithoutMixedTable, MixedOneTable, MixedOneFault}
@@ -26,7 +26,7 @@ use Rattle.rtk_label.specs.LabelLaws.{BlankIsFile, FrontIsChanged, MixedLabelLaw
 use Rattle.rtk_label.specs.LabelWriting.{IsParted}
 use Rattle.rtk_label.specs.declared.time_lines.TimeLines.{TimeLines}
 use Rattle.rtk_commands.specs.CutInput.{part_of_file}
-use Rattle.rtk_commands.specs.FileTable.{FileTable, OfGps, OfSystems, IsFileTable, file_text, file_site, file_front, file_epochs, file_lines, file_with_lines, labelled_file, letter_in, IsTextOfSomeFile, HoldsFile, IsTextOfNoFile, IsFaultOfFile, text_of, HasItsLetter}
+use Rattle.rtk_commands.specs.FileTable.{FileTable, OfGps, OfSystems, IsFileTable, file_text, file_site, file_front, file_epochs, file_lines, file_with_lines, labelled_file, letter_in, is_gps_text, GpsTablesAreFiles, IsTextOfSomeFile, HoldsFile, IsTextOfNoFile, IsFaultOfFile, text_of, HasItsLetter}
 use Rattle.rtk_commands.specs.WithLabel.{IsPartedTable}
 use Rattle.rtk_commands.specs.declared.any_table.AnyTable.{AnyTable}
 use Rattle.rtk_commands.specs.declared.any_table.AnyTable.TheVariants.{Gps, Mixed}
@@ -41,10 +41,6 @@ glue-gps : (v m k a b c d p t l r : List ℕ) → (((((((((v ++ m) ++ k) ++ a) +
     ≡ v ++ (m ++ (k ++ (a ++ (b ++ (c ++ (d ++ (p ++ (t ++ (l ++ r)))))))))
 glue-gps v m k a b c d p t l r = simp append_assoc
 
-glue-mixed : (v m k u p t s f h g e r : List ℕ) → ((((((((((v ++ m) ++ k) ++ u) ++ p) ++ t) ++ s) ++ f) ++ h) ++ g) ++ e) ++ r
-    ≡ v ++ (m ++ (k ++ (u ++ (p ++ (t ++ (s ++ (f ++ (h ++ (g ++ (e ++ r))))))))))
-glue-mixed v m k u p t s f h g e r = simp append_assoc
-
 gps-letter : (t : WellFormedTable) → letter_in (table_text t) ≡ 71
 unfolding header_text
 gps-letter t =
@@ -53,24 +49,35 @@ gps-letter t =
     (header_line [] (codes "REC # / TYPE / VERS")) (header_line [] (codes "ANT # / TYPE")) (position_lines t.site) (types_lines t.head.listed) (last_lines (reading_of t.first)) (flat_map record_text t.epochs))
     ∙ letter-of_line 71 _
 
+-- the text of a table of GPS has this letter, and no type of a Doppler shift
+pub gps-tables : GpsShowsNoShifts → GpsTablesAreFiles
+gps-tables none t good = (
+  good,
+  ap (λ (x : ℕ). (x == 71) && not (has_shift_type (table_text t))) (gps-letter t) ∙ ap (λ (b : Bool). not b) (none t good),
+)
+
+glue-mixed : (v m k u p t s f h g e r : List ℕ) → ((((((((((v ++ m) ++ k) ++ u) ++ p) ++ t) ++ s) ++ f) ++ h) ++ g) ++ e) ++ r
+    ≡ v ++ (m ++ (k ++ (u ++ (p ++ (t ++ (s ++ (f ++ (h ++ (g ++ (e ++ r))))))))))
+glue-mixed v m k u p t s f h g e r = simp append_assoc
+
 pub mixed-letter : (t : MixedTable) → letter_in (mixed_table_text t) ≡ version_letter t.head.listed
 unfolding mixed_header_text
 mixed-letter t =
     let made = reading_of t.head.made in
-    ap letter_in (glue-mixed (mixed_version_line (version_letter t.head.listed)) (made_line made) (marker_line t.head.marker) unknown_lines (position_lines t.site) (by_system system_types_lines t.head.listed)
-    unit_line (first_line (reading_of t.first)) (by_system phase_shift_line t.head.listed) (glonass_lines t.head.glonass) (header_line [] (codes "END OF HEADER")) (flat_map mixed_record_text t.epochs))
+    ap letter_in (glue-mixed (mixed_version_line (version_letter t.head.listed)) (made_line made) (marker_line t.head.marker) unknown_lines (position_lines t.site) (by_system (system_types_lines t.head.doppler) t.head.listed)
+    unit_line (first_line (reading_of t.first)) (by_system phase_shift_line t.head.listed) (glonass_lines t.head.glonass) (header_line [] (codes "END OF HEADER")) (flat_map (mixed_record_text t.head.doppler) t.epochs))
     ∙ letter-of_line (version_letter t.head.listed) _
 
 -- ---- which files a text can be
 
-pub gps-only : (P : FileTable → Type 0) (text : List ℕ) → letter_in text ≡ 71 → ((t : WellFormedTable) → IsWellFormedTable t → text ≡ table_text t → P (OfGps t))
+pub gps-only : (P : FileTable → Type 0) (text : List ℕ) → is_gps_text text ≡ true → ((t : WellFormedTable) → IsWellFormedTable t → text ≡ table_text t → P (OfGps t))
     → (f : FileTable) → IsFileTable f → text ≡ file_text f → P f
-gps-only P text gps each (OfGps t) good e = each t good e
-gps-only P text gps each (OfSystems t) good e = absurd (good.1 (sym (mixed-letter t) ∙ sym (ap letter_in e) ∙ gps))
+gps-only P text gps each (OfGps t) good e = each t good.0 e
+gps-only P text gps each (OfSystems t) good e = absurd (true≢false (sym gps ∙ ap is_gps_text e ∙ good.1))
 
-pub mixed-only : (P : FileTable → Type 0) (text : List ℕ) → letter_in text ≢ 71 → ((t : MixedTable) → IsMixedTable t → text ≡ mixed_table_text t → P (OfSystems t))
+pub mixed-only : (P : FileTable → Type 0) (text : List ℕ) → is_gps_text text ≡ false → ((t : MixedTable) → IsMixedTable t → text ≡ mixed_table_text t → P (OfSystems t))
     → (f : FileTable) → IsFileTable f → text ≡ file_text f → P f
-mixed-only P text other each (OfGps t) good e = absurd (other (ap letter_in e ∙ gps-letter t))
+mixed-only P text other each (OfGps t) good e = absurd (true≢false (sym good.1 ∙ sym (ap is_gps_text e) ∙ other))
 mixed-only P text other each (OfSystems t) good e = each t good.0 e
 
 -- the same of a table in its text
@@ -85,35 +92,36 @@ of-mixed P table v is letter each f good e =
     mixed-only P v.text (subst (λ (x : AnyTable). HasItsLetter x) is letter) each f good (subst (λ (x : AnyTable). text_of x ≡ file_text f) is e)
 
 -- what holds of each file of a text holds of its table
-pub each-gps : (P : FileTable → Type 0) (table : AnyTable) (v : TableView) → table ≡ Gps v → ((f : FileTable) → IsFileTable f → text_of table ≡ file_text f → P f)
+pub each-gps : (P : FileTable → Type 0) (table : AnyTable) (v : TableView) → table ≡ Gps v → HasItsLetter table → ((f : FileTable) → IsFileTable f → text_of table ≡ file_text f → P f)
     → (t : WellFormedTable) → IsWellFormedTable t → v.text ≡ table_text t → P (OfGps t)
-each-gps P table v is each t good e = each (OfGps t) good (subst (λ (x : AnyTable). text_of x ≡ table_text t) (sym is) e)
+each-gps P table v is letter each t good e =
+    let own : is_gps_text v.text ≡ true = subst (λ (x : AnyTable). HasItsLetter x) is letter in
+    each (OfGps t) (good, sym (ap is_gps_text e) ∙ own) (subst (λ (x : AnyTable). text_of x ≡ table_text t) (sym is) e)
 
 pub each-mixed : (P : FileTable → Type 0) (table : AnyTable) (v : TableView) → table ≡ Mixed v → HasItsLetter table → ((f : FileTable) → IsFileTable f → text_of table ≡ file_text f → P f)
     → (t : MixedTable) → IsMixedTable t → v.text ≡ mixed_table_text t → P (OfSystems t)
 each-mixed P table v is letter each t good e =
-    let other : letter_in v.text ≢ 71 = subst (λ (x : AnyTable). HasItsLetter x) is letter in
-    each (OfSystems t) (good, λ gps. other (ap letter_in e ∙ mixed-letter t ∙ gps)) (subst (λ (x : AnyTable). text_of x ≡ mixed_table_text t) (sym is) e)
+    let other : is_gps_text v.text ≡ false = subst (λ (x : AnyTable). HasItsLetter x) is letter in
+    each (OfSystems t) (good, sym (ap is_gps_text e) ∙ other) (subst (λ (x : AnyTable). text_of x ≡ mixed_table_text t) (sym is) e)
 
-pub gps-some : (text : List ℕ) (n s : ℕ) → HoldsTable text n s → IsTextOfSomeFile text
-gps-some text n s holds = (OfGps holds.table, holds.is_table, holds.text)
+pub gps-some : (text : List ℕ) (n s : ℕ) → is_gps_text text ≡ true → HoldsTable text n s → IsTextOfSomeFile text
+gps-some text n s gps holds = (OfGps holds.table, (holds.is_table, sym (ap is_gps_text holds.text) ∙ gps), holds.text)
 
-pub mixed-some : (text : List ℕ) (n s : ℕ) → letter_in text ≢ 71 → HoldsMixedTable text n s → IsTextOfSomeFile text
-mixed-some text n s other holds =
-    (OfSystems holds.table, (holds.is_table, λ gps. other (ap letter_in holds.text ∙ mixed-letter holds.table ∙ gps)), holds.text)
+pub mixed-some : (text : List ℕ) (n s : ℕ) → is_gps_text text ≡ false → HoldsMixedTable text n s → IsTextOfSomeFile text
+mixed-some text n s other holds = (OfSystems holds.table, (holds.is_table, sym (ap is_gps_text holds.text) ∙ other), holds.text)
 
-pub gps-holds : (text : List ℕ) (n s : ℕ) → HoldsTable text n s → HoldsFile text n s
-gps-holds text n s holds = (OfGps holds.table, holds.is_table, holds.text, holds.epochs, holds.satellites)
+pub gps-holds : (text : List ℕ) (n s : ℕ) → is_gps_text text ≡ true → HoldsTable text n s → HoldsFile text n s
+gps-holds text n s gps holds = (OfGps holds.table, (holds.is_table, sym (ap is_gps_text holds.text) ∙ gps), holds.text, holds.epochs, holds.satellites)
 
-pub mixed-holds : (text : List ℕ) (n s : ℕ) → letter_in text ≢ 71 → HoldsMixedTable text n s → HoldsFile text n s
+pub mixed-holds : (text : List ℕ) (n s : ℕ) → is_gps_text text ≡ false → HoldsMixedTable text n s → HoldsFile text n s
 mixed-holds text n s other holds =
-    (OfSystems holds.table, (holds.is_table, λ gps. other (ap letter_in holds.text ∙ mixed-letter holds.table ∙ gps)), holds.text, holds.epochs, holds.satellites)
+    (OfSystems holds.table, (holds.is_table, sym (ap is_gps_text holds.text) ∙ other), holds.text, holds.epochs, holds.satellites)
 
 -- a text is that of one file at most
 pub one-file : OneTable → MixedOneTable → (f g : FileTable) → IsFileTable f → IsFileTable g → file_text f ≡ file_text g → f ≡ g
-one-file one mixed (OfGps t) (OfGps u) good also e = ap OfGps (one t u good also e)
-one-file one mixed (OfGps t) (OfSystems u) good also e = absurd (also.1 (sym (mixed-letter u) ∙ sym (ap letter_in e) ∙ gps-letter t))
-one-file one mixed (OfSystems t) (OfGps u) good also e = absurd (good.1 (sym (mixed-letter t) ∙ ap letter_in e ∙ gps-letter u))
+one-file one mixed (OfGps t) (OfGps u) good also e = ap OfGps (one t u good.0 also.0 e)
+one-file one mixed (OfGps t) (OfSystems u) good also e = absurd (true≢false (sym good.1 ∙ ap is_gps_text e ∙ also.1))
+one-file one mixed (OfSystems t) (OfGps u) good also e = absurd (true≢false (sym also.1 ∙ sym (ap is_gps_text e) ∙ good.1))
 one-file one mixed (OfSystems t) (OfSystems u) good also e = ap OfSystems (mixed t u good.0 also.0 e)
 
 -- and has one number of records and of satellite lines
@@ -130,18 +138,18 @@ pub one-fault-of-file : OneFault → MixedOneFault → (text : List ℕ) (f g : 
 one-fault-of-file one mixed text f g is was = elim is [
   | inl gps ↦ elim was [
     | inl also ↦ one text f g gps.1 also.1
-    | inr other ↦ absurd (other.0 gps.0)
+    | inr other ↦ absurd (true≢false (sym gps.0 ∙ other.0))
   ]
   | inr systems ↦ elim was [
-    | inl gps ↦ absurd (systems.0 gps.0)
+    | inl gps ↦ absurd (true≢false (sym gps.0 ∙ systems.0))
     | inr also ↦ mixed text f g systems.1 also.1
   ]
 ]
 
-pub gps-none : (text : List ℕ) → letter_in text ≡ 71 → IsWithoutTable text → IsTextOfNoFile text
+pub gps-none : (text : List ℕ) → is_gps_text text ≡ true → IsWithoutTable text → IsTextOfNoFile text
 gps-none text gps none f good e = gps-only (λ _. ⊥) text gps none f good e
 
-pub mixed-none : (text : List ℕ) → letter_in text ≢ 71 → IsWithoutMixedTable text → IsTextOfNoFile text
+pub mixed-none : (text : List ℕ) → is_gps_text text ≡ false → IsWithoutMixedTable text → IsTextOfNoFile text
 mixed-none text other none f good e = mixed-only (λ _. ⊥) text other none f good e
 
 -- ---- the label and the time lines of a file
@@ -149,7 +157,7 @@ mixed-none text other none f good e = mixed-only (λ _. ⊥) text other none f g
 pub labelled-file : (text plain : List ℕ) (m : LabelView) (w : TimeLines) → IsPartedTable text plain m w → (f : FileTable) → IsFileTable f → plain ≡ file_text f
     → (text ≡ labelled_file w m f) × IsFor m (file_site f)
 labelled-file text plain m w p (OfGps t) good e =
-    let is = p.parted.labelled t good e in (is.0 ∙ ap (λ (x : List ℕ). labelled_with x m t) (p.due (OfGps t) good e), is.1)
+    let is = p.parted.labelled t good.0 e in (is.0 ∙ ap (λ (x : List ℕ). labelled_with x m t) (p.due (OfGps t) good e), is.1)
 labelled-file text plain m w p (OfSystems t) good e =
     let is = p.parted.labelled_mixed t good.0 e in (is.0 ∙ ap (λ (x : List ℕ). labelled_mixed_with x m t) (p.due (OfSystems t) good e), is.1)
 
@@ -170,7 +178,7 @@ mixed-moment t good =
 pub every-file : (text plain : List ℕ) (m : LabelView) (w : TimeLines) (lines : List ℕ) → IsParted text plain m w lines → (f : FileTable) (v : TimeLines) (l : LabelView) → IsFileTable f → IsLabel l
     → IsFor l (file_site f) → text ≡ labelled_file v l f → (plain ≡ file_text f) × (m ≡ l) × (lines ≡ file_lines v f) × (file_lines w f ≡ lines)
 every-file text plain m w lines parted (OfGps t) v l good is for e =
-    parted.every t l v (extent_of t.epochs).interval_ms (extent_of t.epochs).last good is for (gps-moment t good) e
+    parted.every t l v (extent_of t.epochs).interval_ms (extent_of t.epochs).last good.0 is for (gps-moment t good.0) e
 every-file text plain m w lines parted (OfSystems t) v l good is for e =
     parted.every_mixed t l v (extent_of t.epochs).interval_ms (extent_of t.epochs).last good.0 is for (mixed-moment t good.0) e
 
@@ -186,7 +194,7 @@ front-of_file lines l (OfSystems t) = refl
 
 -- the part that is asked for without a step and without a span is the file
 pub whole-part : OwnStepGivesFile → (f : FileTable) → IsFileTable f → part_of_file (part_of None None None) f ≡ f
-whole-part law (OfGps t) good = ap OfGps (law.gps None t good (λ k d lt. refl))
+whole-part law (OfGps t) good = ap OfGps (law.gps None t good.0 (λ k d lt. refl))
 whole-part law (OfSystems t) good = ap OfSystems (law.mixed None t good.0 (λ k d lt. refl))
 
 pub whole-table : OwnStepGivesFile → (t : MixedTable) → IsMixedTable t → mixed_cut_of (part_of None None None) t ≡ t
@@ -196,7 +204,7 @@ whole-table law t good = law.mixed None t good (λ k d lt. refl)
 pub nothing-gives_file : BlankIsFile → FrontIsChanged → MixedLabelLaws → (f : FileTable) → IsFileTable f → file_with_lines [] blank_label f ≡ file_text f
 nothing-gives_file blank front mixed (OfGps t) good =
     ap (λ (x : List ℕ). x ++ drop 729 (file_text (OfGps t))) (append-nil (front_lines blank_label t.head t.site))
-    ∙ sym (front blank_label t t good refl refl) ∙ blank t
+    ∙ sym (front blank_label t t good.0 refl refl) ∙ blank t
 nothing-gives_file blank front mixed (OfSystems t) good =
     ap (λ (x : List ℕ). x ++ drop 729 (file_text (OfSystems t))) (append-nil (mixed_front_lines blank_label t.head t.site))
     ∙ sym (mixed.front blank_label t t good.0 refl refl) ∙ mixed.blank t

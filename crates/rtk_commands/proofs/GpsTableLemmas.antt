@@ -1,8 +1,8 @@
 -- A file of GPS alone that is written as one of any systems is a file of GPS.
-use Rattle.std.proofs.Common.{◌≡◌, ◌≢◌, ◌<◌, ◌≤◌, ◌==◌, ◌&&◌, ◌||◌, ℕ, Bool, true, false, true≢false, if◌then◌else◌, cond, Option, None, Some, List, [], ◌∷◌, ◌++◌, map, length, get_or, inl, inr, leb, IsTrue, refl, sym, ap, subst, ◌∙◌, arith}
+use Rattle.std.proofs.Common.{◌≡◌, ◌≢◌, ◌<◌, ◌≤◌, ◌==◌, ◌&&◌, ◌||◌, ℕ, Bool, true, false, true≢false, not, if◌then◌else◌, cond, Option, None, Some, List, [], ◌∷◌, ◌++◌, map, length, get_or, leb, IsTrue, refl, sym, ap, subst, ◌∙◌, arith}
 use Rattle.std.specs.Prelude.{All, AllPairs, flat_map}
 use Rattle.std.specs.List.{filter, list_any, list_all}
-use Rattle.std.proofs.lemmas.Bool.{cases_eq, eqb-true, leb-true}
+use Rattle.std.proofs.lemmas.Bool.{eqb-true, leb-true}
 use Rattle.std.proofs.lemmas.Bool.Decides.{Decides-eqb}
 use Rattle.std.proofs.lemmas.List.{length-map, get_or-map}
 use Rattle.std.proofs.lemmas.List.Elements.{All-cons, All-head, All-nil, All-tail, All-weaker}
@@ -26,10 +26,11 @@ use Rattle.rtk_rinex.specs.MixedForm.{FormView, codes_in, width_at, form_of_head
 use Rattle.rtk_rinex.specs.MixedHead.{MixedHeadView, IsMixedHead, IsMixedList, TellsGlonass, GlonassView, has_glonass, letter}
 use Rattle.rtk_rinex.specs.MixedHeader.{version_letter, codes_of, IsOfGps, GpsFilesStay, mixed_header_text}
 use Rattle.rtk_rinex.specs.MixedRecord.{GpsRecordsStay, mixed_record_text}
-use Rattle.rtk_rinex.specs.MixedTable.{MixedTable, IsMixedTable, IsMixedRow, IsMixedEpoch, mixed_table_text}
-use Rattle.rtk_rinex.specs.Record.{EpochTableView, IsEpochTableView, IsSatelliteRow, IsStrengthOrNone, has_observation, has_line, record_text}
-use Rattle.rtk_rinex.specs.Table.{WellFormedTable, IsWellFormedTable, IsTableRow, IsTableEpoch, IsObserved, table_text}
-use Rattle.rtk_commands.specs.FileTable.{FileTable, OfGps, OfSystems, IsFileTable, file_text, IsTextOfSomeFile}
+use Rattle.rtk_rinex.specs.MixedTable.{MixedTable, IsMixedTable, IsMixedRow, IsMixedEpoch, mixed_table_text, has_shift_type, TypesTellShifts}
+use Rattle.rtk_rinex.specs.Record.{EpochTableView, IsEpochTableView, IsSatelliteRow, IsStrengthOrNone, is_shown, has_line_in, record_text}
+use Rattle.rtk_rinex.specs.Table.{WellFormedTable, IsWellFormedTable, IsTableRow, IsTableEpoch, IsObserved, IsObservedIn, table_text}
+use Rattle.rtk_commands.specs.FileTable.{FileTable, OfGps, OfSystems, IsFileTable, file_text, letter_in, is_gps_text, IsTextOfSomeFile}
+use Rattle.rtk_commands.proofs.FileTableLemmas.{mixed-letter}
 
 -- ---- the codes
 
@@ -270,22 +271,28 @@ width-if h i false all =
     other-width (form_of_head h) (leb i 59) (leb i 95) (leb i 158) (leb i 168) (leb i 207) (ap length (none-of 82 h.listed refl all)) (ap length (none-of 69 h.listed refl all)) (ap length (none-of 67 h.listed refl all))
     (ap length (none-of 74 h.listed refl all)) (ap length (none-of 83 h.listed refl all)) (ap length (none-of 73 h.listed refl all))
 
-no-line : (items : List Observed) → length items ≡ 0 → list_any has_observation items ≡ false
-no-line [] none = refl
-no-line (o ∷ items) none = absurd (omega (arith, none))
+no-line : (doppler : Bool) (items : List Observed) → length items ≡ 0 → list_any (is_shown doppler) items ≡ false
+no-line doppler [] none = refl
+no-line doppler (o ∷ items) none = absurd (omega (arith, none))
 
-row-if : (h : MixedHeadView) (r : SatelliteRow) (b : Bool) → leb r.satellite 32 ≡ b → IsMixedRow (form_of_head h) r → length r.observed.items ≡ (if b then length h.listed else 0) → IsTableRow (length h.listed) r
-row-if h r true low row wide = record { satellite = (row.satellite.0, leb-true r.satellite 32 low); width = wide; observed = row.observed; line = row.line }
-row-if h r false low row wide = absurd (true≢false (sym row.line ∙ no-line r.observed.items wide))
+row-if : (h : MixedHeadView) (r : SatelliteRow) (b : Bool) → leb r.satellite 32 ≡ b → h.doppler ≡ false → IsMixedRow (form_of_head h) r → length r.observed.items ≡ (if b then length h.listed else 0) → IsTableRow (length h.listed) r
+row-if h r true low plain row wide =
+    record {
+      satellite = (row.satellite.0, leb-true r.satellite 32 low);
+      width = wide;
+      observed = subst (λ (d : Bool). All (IsObservedIn d) r.observed.items) plain row.observed;
+      line = subst (λ (d : Bool). IsTrue (has_line_in d r)) plain row.line;
+    }
+row-if h r false low plain row wide = absurd (true≢false (sym row.line ∙ no-line h.doppler r.observed.items wide))
 
-gps-row : (h : MixedHeadView) (r : SatelliteRow) → All (λ c. letter c ≡ 71) h.listed → IsMixedRow (form_of_head h) r → IsTableRow (length h.listed) r
-gps-row h r all row = row-if h r (leb r.satellite 32) refl row (row.width ∙ width-if h r.satellite (leb r.satellite 32) all)
+gps-row : (h : MixedHeadView) (r : SatelliteRow) → h.doppler ≡ false → All (λ c. letter c ≡ 71) h.listed → IsMixedRow (form_of_head h) r → IsTableRow (length h.listed) r
+gps-row h r plain all row = row-if h r (leb r.satellite 32) refl plain row (row.width ∙ width-if h r.satellite (leb r.satellite 32) all)
 
-gps-epoch : (h : MixedHeadView) (e : EpochTableView) → All (λ c. letter c ≡ 71) h.listed → IsMixedEpoch (form_of_head h) e → IsTableEpoch (length h.listed) e
-gps-epoch h e all good = record {
+gps-epoch : (h : MixedHeadView) (e : EpochTableView) → h.doppler ≡ false → All (λ c. letter c ≡ 71) h.listed → IsMixedEpoch (form_of_head h) e → IsTableEpoch (length h.listed) e
+gps-epoch h e plain all good = record {
   time = good.time;
   some = good.some;
-  rows = All-weaker (IsMixedRow (form_of_head h)) (IsTableRow (length h.listed)) (λ r row. gps-row h r all row) e.rows good.rows;
+  rows = All-weaker (IsMixedRow (form_of_head h)) (IsTableRow (length h.listed)) (λ r row. gps-row h r plain all row) e.rows good.rows;
   rise = good.rise;
 }
 
@@ -301,10 +308,10 @@ table-epoch n e good = record {
 
 -- ---- the file
 
-records-same : GpsRecordsStay → (n : ℕ) (es : List EpochTableView) → All (IsTableEpoch n) es → flat_map mixed_record_text es ≡ flat_map record_text es
+records-same : GpsRecordsStay → (n : ℕ) (es : List EpochTableView) → All (IsTableEpoch n) es → flat_map (mixed_record_text false) es ≡ flat_map record_text es
 records-same stay n [] all = refl
 records-same stay n (e ∷ es) all =
-    ap (λ (t : List ℕ). t ++ flat_map mixed_record_text es) (stay e (table-epoch n e (All-head (IsTableEpoch n) e es all)))
+    ap (λ (t : List ℕ). t ++ flat_map (mixed_record_text false) es) (stay e (table-epoch n e (All-head (IsTableEpoch n) e es all)))
     ∙ ap (λ (t : List ℕ). record_text e ++ t) (records-same stay n es (All-tail (IsTableEpoch n) e es all))
 
 abbrev pub gps_head : MixedHeadView → HeadView
@@ -319,32 +326,43 @@ no-glonass listed (Some g) all told = absurd (true≢false (sym told.0 ∙ none-
     none-glonass (c ∷ cs) all =
         ap (λ x. (x == 82) || has_glonass cs) (All-head (λ c. letter c ≡ 71) c cs all) ∙ none-glonass cs (All-tail (λ c. letter c ≡ 71) c cs all)
 
-gps-file : GpsFilesStay → GpsRecordsStay → (u : MixedTable) → IsMixedTable u → version_letter u.head.listed ≡ 71 → IsTextOfSomeFile (mixed_table_text u)
-gps-file header records u good is =
+gps-file : GpsFilesStay → GpsRecordsStay → (u : MixedTable) → IsMixedTable u → version_letter u.head.listed ≡ 71 → u.head.doppler ≡ false → is_gps_text (mixed_table_text u) ≡ true
+    → IsTextOfSomeFile (mixed_table_text u)
+gps-file header records u good is plain gps =
     let all = gps-letters u.head.listed is in
     let h : HeadView = gps_head u.head in
     let t : WellFormedTable = record { head = h; site = u.site; first = u.first; epochs = u.epochs } in
     let size : length (map gps_code u.head.listed) ≡ length u.head.listed = length-map u.head.listed gps_code in
     let is_head : IsHeadView h = (good.head.marker, gps-list u.head.listed good.head.listed all, good.head.made, good.head.whole_second) in
     let epochs : All (IsTableEpoch (length u.head.listed)) u.epochs =
-    All-weaker (IsMixedEpoch (form_of_head u.head)) (IsTableEpoch (length u.head.listed)) (λ e is. gps-epoch u.head e all is) u.epochs good.epochs in
-    let of_gps : IsOfGps h u.head = record { marker = refl; listed = texts-of u.head.listed all; glonass = no-glonass u.head.listed u.head.glonass all good.head.glonass; made = refl } in (
-      OfGps t,
-      record {
-        head = is_head;
-        site = good.site;
-        first = good.first;
-        starts = good.starts;
-        epochs = subst (λ (n : ℕ). All (IsTableEpoch n) u.epochs) (sym size) epochs;
-        rise = good.rise;
-      },
-      ap (λ (top : List ℕ). top ++ flat_map mixed_record_text u.epochs) (header h u.head u.site u.first of_gps is_head)
-          ∙ ap (λ (body : List ℕ). header_text h u.site u.first ++ body) (records-same records (length u.head.listed) u.epochs epochs),
-    )
+    All-weaker (IsMixedEpoch (form_of_head u.head)) (IsTableEpoch (length u.head.listed)) (λ e is. gps-epoch u.head e plain all is) u.epochs good.epochs in
+    let of_gps : IsOfGps h u.head = record { marker = refl; listed = texts-of u.head.listed all; glonass = no-glonass u.head.listed u.head.glonass all good.head.glonass; made = refl; doppler = plain } in
+    let table : IsWellFormedTable t =
+    record {
+      head = is_head;
+      site = good.site;
+      first = good.first;
+      starts = good.starts;
+      epochs = subst (λ (n : ℕ). All (IsTableEpoch n) u.epochs) (sym size) epochs;
+      rise = good.rise;
+    } in
+    let same : mixed_table_text u ≡ table_text t =
+    ap (λ (top : List ℕ). top ++ flat_map (mixed_record_text u.head.doppler) u.epochs) (header h u.head u.site u.first of_gps is_head)
+    ∙ ap (λ (d : Bool). header_text h u.site u.first ++ flat_map (mixed_record_text d) u.epochs) plain
+    ∙ ap (λ (body : List ℕ). header_text h u.site u.first ++ body) (records-same records (length u.head.listed) u.epochs epochs) in
+    (OfGps t, (table, sym (ap is_gps_text same) ∙ gps), same)
 
 -- the text of each well-formed table of any systems is that of a file
-pub some-file : GpsFilesStay → GpsRecordsStay → (u : MixedTable) → IsMixedTable u → IsTextOfSomeFile (mixed_table_text u)
-some-file header records u good = elim (cases_eq (version_letter u.head.listed) 71) [
-  | inl is ↦ gps-file header records u good is
-  | inr other ↦ (OfSystems u, (good, other), refl)
-]
+pub some-file : GpsFilesStay → GpsRecordsStay → TypesTellShifts → (u : MixedTable) → IsMixedTable u → IsTextOfSomeFile (mixed_table_text u)
+some-file header records tell u good = file-if (is_gps_text (mixed_table_text u)) refl
+  where
+    both-true : (a b : Bool) → (a && not b) ≡ true → (a ≡ true) × (b ≡ false)
+    both-true true true is = cc
+    both-true true false is = (refl, refl)
+    both-true false b is = cc
+
+    file-if : (b : Bool) → is_gps_text (mixed_table_text u) ≡ b → IsTextOfSomeFile (mixed_table_text u)
+    file-if false other = (OfSystems u, (good, other), refl)
+    file-if true gps =
+        let two = both-true (letter_in (mixed_table_text u) == 71) (has_shift_type (mixed_table_text u)) gps in
+        gps-file header records u good (sym (mixed-letter u) ∙ eqb-true (letter_in (mixed_table_text u)) 71 two.0) (sym (tell u good) ∙ two.1) gps

@@ -1,10 +1,9 @@
 -- A file that the commands of a file take: of GPS alone, or with other systems; and its text with a label and time lines.
-use Rattle.std.specs.Prelude.{◌≡◌, ◌≢◌, ◌⊎◌, ℕ, List, ◌++◌, length, get_or}
+use Rattle.std.specs.Prelude.{◌≡◌, ◌≢◌, ◌⊎◌, ◌==◌, ◌&&◌, not, true, false, ℕ, Bool, List, ◌++◌, length, get_or}
 use Rattle.rtk_rinex.specs.Header.{PositionView}
-use Rattle.rtk_rinex.specs.MixedHeader.{version_letter}
 use Rattle.rtk_rinex.specs.Record.{EpochTableView}
 use Rattle.rtk_rinex.specs.Table.{WellFormedTable, IsWellFormedTable, table_text}
-use Rattle.rtk_rinex.specs.MixedTable.{MixedTable, IsMixedTable, mixed_table_text}
+use Rattle.rtk_rinex.specs.MixedTable.{MixedTable, IsMixedTable, mixed_table_text, has_shift_type}
 use Rattle.rtk_rinex.specs.CheckText.{satellite_lines}
 use Rattle.rtk_rinex.specs.CheckTable.{IsFault}
 use Rattle.rtk_rinex.specs.MixedCheckTable.{IsMixedFault}
@@ -22,10 +21,25 @@ pub data FileTable : Type 0 where
   OfSystems : (t : MixedTable) → FileTable
 
 -- formula
--- the table is well-formed; a file of GPS alone is one of GPS
+-- the letter of the system in the first line, column 41 (RINEX 3.05, Table A2)
+abbrev pub letter_in : List ℕ → ℕ
+letter_in text = get_or text 40 0
+
+-- formula
+-- a text is read as one of a file of GPS alone: it has the letter of GPS, and no type of a Doppler shift (this project's
+-- rule)
+abbrev pub is_gps_text : List ℕ → Bool
+is_gps_text text = (letter_in text == 71) && not (has_shift_type text)
+
+-- formula
+-- the table is well-formed, and its text is read as what it is; a file of GPS alone without Doppler shifts is one of GPS
 abbrev pub IsFileTable : FileTable → Type 0
-IsFileTable (OfGps t) = IsWellFormedTable t
-IsFileTable (OfSystems t) = IsMixedTable t × (version_letter t.head.listed ≢ 71)
+IsFileTable (OfGps t) = IsWellFormedTable t × (is_gps_text (table_text t) ≡ true)
+IsFileTable (OfSystems t) = IsMixedTable t × (is_gps_text (mixed_table_text t) ≡ false)
+
+-- each well-formed table of GPS is a file, since its text is read as what it is
+abbrev pub GpsTablesAreFiles : Type 0
+GpsTablesAreFiles = (t : WellFormedTable) → IsWellFormedTable t → IsFileTable (OfGps t)
 
 abbrev pub file_text : FileTable → List ℕ
 file_text (OfGps t) = table_text t
@@ -81,15 +95,10 @@ abbrev pub IsTextOfNoFile : List ℕ → Type 0
 IsTextOfNoFile text = (f : FileTable) → IsFileTable f → text ≢ file_text f
 
 -- formula
--- the letter of the system in the first line, column 41 (RINEX 3.05, Table A2)
-abbrev pub letter_in : List ℕ → ℕ
-letter_in text = get_or text 40 0
-
--- formula
--- the first fault of a text: with the letter of GPS that of a file of GPS, and else that of a file of any
--- systems (this project's rule)
+-- the first fault of a text: that of a file of GPS, if it is read as one, and else that of a file of any systems (this
+-- project's rule)
 abbrev pub IsFaultOfFile : List ℕ → CheckFault → Type 0
-IsFaultOfFile text fault = ((letter_in text ≡ 71) × IsFault text fault) ⊎ ((letter_in text ≢ 71) × IsMixedFault text fault)
+IsFaultOfFile text fault = ((is_gps_text text ≡ true) × IsFault text fault) ⊎ ((is_gps_text text ≡ false) × IsMixedFault text fault)
 
 -- ---- a table in its text
 
@@ -97,10 +106,10 @@ abbrev pub text_of : AnyTable → List ℕ
 text_of (Gps table) = table.text
 text_of (Mixed table) = table.text
 
--- its letter says which it is
+-- its letter and its types say which it is
 abbrev pub HasItsLetter : AnyTable → Type 0
-HasItsLetter (Gps table) = letter_in table.text ≡ 71
-HasItsLetter (Mixed table) = letter_in table.text ≢ 71
+HasItsLetter (Gps table) = is_gps_text table.text ≡ true
+HasItsLetter (Mixed table) = is_gps_text table.text ≡ false
 
 abbrev pub records_of : AnyTable → ℕ
 records_of (Gps table) = table.epochs

@@ -1,10 +1,11 @@
-//! A table in its text, of GPS alone or with other systems.
+//! A table in its text, of GPS alone or with other systems. A file of GPS with Doppler shifts is read as one of any
+//! systems.
 
-ghost use Rattle.std.specs.Prelude.{◌≡◌, ◌≢◌, drop, Err, IfOk, OnOk, OnErr, IfErr, IsErrOf};
+ghost use Rattle.std.specs.Prelude.{◌≡◌, ◌≢◌, true, false, drop, Err, IfOk, OnOk, OnErr, IfErr, IsErrOf};
 ghost use Rattle.rtk_frame.specs.Stream.{CountRises};
 ghost use Rattle.rtk_cut.specs.Cut.{IsStepOrNone};
 ghost use Rattle.rtk_cut.specs.declared.fault.CutFault.TheVariants.{Write};
-ghost use Rattle.rtk_commands.specs.FileTable.{IsTextOfSomeFile, HoldsFile, IsTextOfNoFile, IsFaultOfFile, letter_in, text_of, records_of, lines_of, HasItsLetter};
+ghost use Rattle.rtk_commands.specs.FileTable.{IsTextOfSomeFile, HoldsFile, IsTextOfNoFile, IsFaultOfFile, is_gps_text, text_of, records_of, lines_of, HasItsLetter};
 ghost use Rattle.rtk_commands.specs.CutInput.{WritesPartOfFile, WritesFirstOfPartOfFile, CountsPartOfFile, TellsExtent};
 ghost use Rattle.rtk_commands.specs.LabelInput.{TellsIsFor, WritesWithLines, WritesFirstWithLines, WritesFrontOfFile, WritesFirstOfFrontOfFile, WritesFrontAndLines, WritesFirstOfFrontAndLines};
 
@@ -25,15 +26,18 @@ pub(crate) enum AnyTable<'a> {
     Mixed(MixedTextTable<'a>),
 }
 
-// The letter of the system in the first line of a text; 0 if the text is shorter.
-fn letter(text: &[u8]) -> u8
-    ensures { result ≡ letter_in text.now }
+// Is a text read as one of a file of GPS alone? Such a file has the letter of GPS in its first line, and no Doppler
+// shift as the third type of its tenth line, before which nine lines of 81 bytes stand.
+fn is_gps_text(text: &[u8]) -> bool
+    ensures { result ≡ is_gps_text text.now }
 {
-    text.get(40).copied().unwrap_or_default()
+    let letter = text.get(40).copied().unwrap_or_default();
+    let third_type = text.get(744).copied().unwrap_or_default();
+    letter == b'G' && third_type != b'D'
 }
 
 fn check_gps(text: &[u8]) -> Result<AnyTable<'_>, CheckFault>
-    requires { letter_in text.now ≡ 71 }
+    requires { is_gps_text text.now ≡ true }
     ensures text { IfOk result (λ table. text_of table ≡ text.now) }
     ensures letter { IfOk result HasItsLetter }
     ensures table { OnOk result (IsTextOfSomeFile text.now) }
@@ -48,7 +52,7 @@ fn check_gps(text: &[u8]) -> Result<AnyTable<'_>, CheckFault>
 }
 
 fn check_mixed(text: &[u8]) -> Result<AnyTable<'_>, CheckFault>
-    requires { letter_in text.now ≢ 71 }
+    requires { is_gps_text text.now ≡ false }
     ensures text { IfOk result (λ table. text_of table ≡ text.now) }
     ensures letter { IfOk result HasItsLetter }
     ensures table { OnOk result (IsTextOfSomeFile text.now) }
@@ -71,7 +75,7 @@ pub(crate) fn check_any(text: &[u8]) -> Result<AnyTable<'_>, CheckFault>
     ensures fault { IfErr result (IsFaultOfFile text.now) }
     ensures none { OnErr result (IsTextOfNoFile text.now) }
 {
-    if letter(text) == b'G' {
+    if is_gps_text(text) {
         return check_gps(text);
     }
     check_mixed(text)

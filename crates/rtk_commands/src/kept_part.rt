@@ -16,7 +16,7 @@ use crate::with_label::{LabelledMixed, LabelledTable, mixed_with_label};
 use rtk_cut::{KeptSystems, Part, first_absent, keep_systems, kept_files_are_tables};
 use rtk_frame::Sink;
 use rtk_label::{Label, TimeLines};
-use rtk_rinex::{MixedTextTable, gps_files_stay};
+use rtk_rinex::{MixedTextTable, gps_files_stay, types_tell_shifts};
 use rtk_streams::ToolFault;
 use std::alloc::Global;
 
@@ -82,9 +82,11 @@ fn cut_present<W: Sink + Drop>(
     ensures no_failed_write { result.1 ≢ Err Output → W.failures result.0 ≡ W.failures out }
     ensures faults { IfErr result.1 (λ fault. (fault ≡ OutOfMemory) ⊎ (fault ≡ Output)) }
 {
-    // Laws: what is kept of a file is a file, also if it is one of GPS alone.
+    // Laws: what is kept of a file is a file, also if it is one of GPS alone, and its types tell whether it has Doppler
+    // shifts.
     kept_files_are_tables();
     gps_files_stay();
+    types_tell_shifts();
     let kept = match keep_systems(alloc, table, command.kept) {
         Ok(kept) => kept,
         Err(refused) => return (out, Err(refused.into())),

@@ -9,12 +9,15 @@ ghost use Rattle.rtk_message.specs.declared.accepted.Accepted.{Accepted};
 ghost use Rattle.rtk_message.specs.declared.msm_kind.MsmKind.TheVariants.{Msm4};
 ghost use Rattle.rtk_message.specs.Accepted.{only};
 ghost use Rattle.rtk_commands.specs.CheckLaws.{ValidTellsNumbers, FaultTextTellsFault, YesTellsNumbers, NoTellsFault, NoLineSaysBoth};
+ghost use Rattle.rtk_commands.specs.FileTable.{GpsTablesAreFiles};
 ghost use Rattle.rtk_commands.specs.Shown.{IsLineOf, AreLinesBy, AreLinesOf};
 ghost use Rattle.rtk_commands.specs.ShownBySet.{IsLineBy};
 ghost use Rattle.rtk_commands.specs.WrittenLaws.{LineFollows, PictureFollows, NumbersFollow, PartFollows, LabelFollows, NothingGivesFile};
 
 use rtk_label::{blank_is_file, front_is_changed, mixed_label_laws};
-use rtk_rinex::{one_fault, one_mixed_fault, text_of_a_mixed_table, text_of_a_table};
+use rtk_rinex::{
+    one_fault, one_mixed_fault, text_of_a_mixed_table, text_of_a_table, types_tell_shifts,
+};
 
 /// A payload has one line, in `show` and by each set of messages.
 pub fn one_line_of_a_payload()
@@ -57,6 +60,14 @@ pub fn one_line_tells_one_answer()
     one_mixed_fault();
     text_of_a_table();
     text_of_a_mixed_table();
+}
+
+/// Each well-formed table of GPS is a file of the commands: its text has the letter of GPS, and no type of a Doppler
+/// shift.
+pub fn gps_tables_are_files()
+    ensures { GpsTablesAreFiles }
+{
+    types_tell_shifts();
 }
 
 /// What `check`, `chart`, `quality`, `cut` and `label` are said to have written stands right after what the

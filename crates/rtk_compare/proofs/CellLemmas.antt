@@ -54,8 +54,9 @@ first-slip gone t earlier is = ap (λ (b : Bool). gone && not b) is.had_phase
 
 -- ---- the place
 
-pub told-some : {a b : Findings} (place : Option Place) (q : Place) (earlier : List (Pair Observed)) (p : Pair Observed) → place ≡ Some q → Adds a b (cell_lines earlier p q) → Adds a b (lines_if_told place earlier p)
-told-some place q earlier p is adds = adds-as (sym (ap (λ (o : Option Place). lines_if_told o earlier p) is)) adds
+pub told-some : {a b : Findings} (shifts : Bool) (place : Option Place) (q : Place) (earlier : List (Pair Observed)) (p : Pair Observed) → place ≡ Some q → Adds a b (cell_lines shifts earlier p q)
+    → Adds a b (lines_if_told shifts place earlier p)
+told-some shifts place q earlier p is adds = adds-as (sym (ap (λ (o : Option Place). lines_if_told shifts o earlier p) is)) adds
 
-pub told-none : (f : Findings) (place : Option Place) (earlier : List (Pair Observed)) (p : Pair Observed) → place ≡ None → Adds f f (lines_if_told place earlier p)
-told-none f place earlier p is = adds-as (sym (ap (λ (o : Option Place). lines_if_told o earlier p) is)) (adds_none f)
+pub told-none : (f : Findings) (shifts : Bool) (place : Option Place) (earlier : List (Pair Observed)) (p : Pair Observed) → place ≡ None → Adds f f (lines_if_told shifts place earlier p)
+told-none f shifts place earlier p is = adds-as (sym (ap (λ (o : Option Place). lines_if_told shifts o earlier p) is)) (adds_none f)

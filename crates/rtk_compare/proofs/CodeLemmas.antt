@@ -1,5 +1,5 @@
 -- The codes that two files have both.
-use Rattle.std.proofs.Common.{◌≡◌, ◌≢◌, ℕ, ◌+◌, ◌<◌, ◌≤◌, true, List, ◌++◌, map, length, get_or, drop, append_assoc, refl, sym, ap, ◌∙◌, arith}
+use Rattle.std.proofs.Common.{◌≡◌, ◌≢◌, ℕ, ◌+◌, ◌<◌, ◌≤◌, Bool, true, List, ◌++◌, map, length, get_or, drop, append_assoc, refl, sym, ap, ◌∙◌, arith}
 use Rattle.std.specs.Prelude.{All, AllPairs, ◌==◌, if◌then◌else◌}
 use Rattle.std.specs.List.{list_any}
 use Rattle.std.proofs.lemmas.Bool.{eqb-true}
@@ -24,14 +24,14 @@ use Rattle.rtk_compare.specs.Codes.{place_in, with_places, shared_from, shared_o
 use Rattle.rtk_compare.specs.Steps.SharedCodes.{codes_in, HasShared}
 
 -- one more code of the old list
-pub shared-more : (news olds : List AnyCode) (k : ℕ) (d : AnyCode) (mid after : List SharedCode) → k < length olds
-    → shared_of olds news ≡ mid ++ shared_from news k (drop k olds) → after ≡ mid ++ with_places (get_or olds k d) k (place_in (get_or olds k d) news)
-    → shared_of olds news ≡ after ++ shared_from news (k + 1) (drop (k + 1) olds)
-shared-more news olds k d mid after lt so_far more =
+pub shared-more : (shifts : Bool) (news olds : List AnyCode) (k : ℕ) (d : AnyCode) (mid after : List SharedCode) → k < length olds
+    → shared_of shifts olds news ≡ mid ++ shared_from shifts news k (drop k olds) → after ≡ mid ++ with_places shifts (get_or olds k d) k (place_in (get_or olds k d) news)
+    → shared_of shifts olds news ≡ after ++ shared_from shifts news (k + 1) (drop (k + 1) olds)
+shared-more shifts news olds k d mid after lt so_far more =
     let c = get_or olds k d in
-    let rest = shared_from news (k + 1) (drop (k + 1) olds) in
-    so_far ∙ ap (λ (cs : List AnyCode). mid ++ shared_from news k cs) (drop_more olds k d lt)
-    ∙ sym (append_assoc mid (with_places c k (place_in c news)) rest) ∙ ap (λ (xs : List SharedCode). xs ++ rest) (sym more)
+    let rest = shared_from shifts news (k + 1) (drop (k + 1) olds) in
+    so_far ∙ ap (λ (cs : List AnyCode). mid ++ shared_from shifts news k cs) (drop_more olds k d lt)
+    ∙ sym (append_assoc mid (with_places shifts c k (place_in c news)) rest) ∙ ap (λ (xs : List SharedCode). xs ++ rest) (sym more)
 
 -- ---- how many codes one system has
 
@@ -89,14 +89,14 @@ few_of l n cs one bound list =
 -- ---- the codes of all systems
 
 -- those of each system are these
-pub record AreShared (s : SharedCodes) (olds news : List AnyCode) : Type 0 where
-  pub gps : s.gps.items ≡ shared_of (codes_of 71 olds) (codes_of 71 news)
-  pub glonass : s.glonass.items ≡ shared_of (codes_of 82 olds) (codes_of 82 news)
-  pub galileo : s.galileo.items ≡ shared_of (codes_of 69 olds) (codes_of 69 news)
-  pub beidou : s.beidou.items ≡ shared_of (codes_of 67 olds) (codes_of 67 news)
-  pub qzss : s.qzss.items ≡ shared_of (codes_of 74 olds) (codes_of 74 news)
-  pub sbas : s.sbas.items ≡ shared_of (codes_of 83 olds) (codes_of 83 news)
-  pub navic : s.navic.items ≡ shared_of (codes_of 73 olds) (codes_of 73 news)
+pub record AreShared (s : SharedCodes) (shifts : Bool) (olds news : List AnyCode) : Type 0 where
+  pub gps : s.gps.items ≡ shared_of shifts (codes_of 71 olds) (codes_of 71 news)
+  pub glonass : s.glonass.items ≡ shared_of shifts (codes_of 82 olds) (codes_of 82 news)
+  pub galileo : s.galileo.items ≡ shared_of shifts (codes_of 69 olds) (codes_of 69 news)
+  pub beidou : s.beidou.items ≡ shared_of shifts (codes_of 67 olds) (codes_of 67 news)
+  pub qzss : s.qzss.items ≡ shared_of shifts (codes_of 74 olds) (codes_of 74 news)
+  pub sbas : s.sbas.items ≡ shared_of shifts (codes_of 83 olds) (codes_of 83 news)
+  pub navic : s.navic.items ≡ shared_of shifts (codes_of 73 olds) (codes_of 73 news)
 
 -- and they are few
 pub record AreFew (s : SharedCodes) : Type 0 where
@@ -108,14 +108,15 @@ pub record AreFew (s : SharedCodes) : Type 0 where
   pub sbas : length s.sbas.items ≤ 16
   pub navic : length s.navic.items ≤ 16
 
-shared-in : (s : SharedCodes) (olds news : List AnyCode) → AreShared s olds news → (system : System) → codes_in s system ≡ shared_of (codes_of (letter_of system) olds) (codes_of (letter_of system) news)
-shared-in s olds news are Gps = are.gps
-shared-in s olds news are Glonass = are.glonass
-shared-in s olds news are Galileo = are.galileo
-shared-in s olds news are Beidou = are.beidou
-shared-in s olds news are Qzss = are.qzss
-shared-in s olds news are Sbas = are.sbas
-shared-in s olds news are Navic = are.navic
+shared-in : (s : SharedCodes) (shifts : Bool) (olds news : List AnyCode) → AreShared s shifts olds news → (system : System)
+    → codes_in s system ≡ shared_of shifts (codes_of (letter_of system) olds) (codes_of (letter_of system) news)
+shared-in s shifts olds news are Gps = are.gps
+shared-in s shifts olds news are Glonass = are.glonass
+shared-in s shifts olds news are Galileo = are.galileo
+shared-in s shifts olds news are Beidou = are.beidou
+shared-in s shifts olds news are Qzss = are.qzss
+shared-in s shifts olds news are Sbas = are.sbas
+shared-in s shifts olds news are Navic = are.navic
 
 few-in : (s : SharedCodes) → AreFew s → (system : System) → length (codes_in s system) ≤ 16
 few-in s few Gps = few.gps
@@ -126,11 +127,11 @@ few-in s few Qzss = few.qzss
 few-in s few Sbas = few.sbas
 few-in s few Navic = few.navic
 
-pub has-shared : (s : SharedCodes) (olds news : List AnyCode) → AreShared s olds news → AreFew s → HasShared s (shared_codes olds news)
-has-shared s olds news are few = record {
-  same = λ satellite. shared-in s olds news are (system_at satellite);
+pub has-shared : (s : SharedCodes) (shifts : Bool) (olds news : List AnyCode) → AreShared s shifts olds news → AreFew s → HasShared s (shared_codes shifts olds news)
+has-shared s shifts olds news are few = record {
+  same = λ satellite. shared-in s shifts olds news are (system_at satellite);
   few = λ satellite.
-      let same = shared-in s olds news are (system_at satellite) in
+      let same = shared-in s shifts olds news are (system_at satellite) in
       let low = few-in s few (system_at satellite) in
       let long = ap (λ (xs : List SharedCode). length xs) same in
       omega (arith, low, long);

@@ -197,10 +197,10 @@ others-more start tracks s k now old n (inr high) =
 
 -- what is told of a cell
 pub cell-told : {a b : Findings} (time : Option ℕ) (p : Pair SatelliteRow) (code : SharedCode) (place : Option Place) (old new : Observed) (es : List (Pair Observed)) → place ≡ place_at time p code
-    → old ≡ shown_at code.old p.old.observed.items → new ≡ shown_at code.new p.new.observed.items → Adds a b (lines_if_told place es (pair old new)) → Adds a b (lines_if_told (place_at time p code) es (cells_of code p))
+    → old ≡ shown_at code.old p.old.observed.items → new ≡ shown_at code.new p.new.observed.items → Adds a b (lines_if_told code.shifts place es (pair old new)) → Adds a b (lines_if_told code.shifts (place_at time p code) es (cells_of code p))
 cell-told time p code place old new es at old_is new_is adds =
-    adds-as (ap (λ (o : Option Place). lines_if_told o es (pair old new)) at ∙ ap (λ (o : Observed). lines_if_told (place_at time p code) es (pair o new)) old_is
-    ∙ ap (λ (o : Observed). lines_if_told (place_at time p code) es (pair (shown_at code.old p.old.observed.items) o)) new_is) adds
+    adds-as (ap (λ (o : Option Place). lines_if_told code.shifts o es (pair old new)) at ∙ ap (λ (o : Observed). lines_if_told code.shifts (place_at time p code) es (pair o new)) old_is
+    ∙ ap (λ (o : Observed). lines_if_told code.shifts (place_at time p code) es (pair (shown_at code.old p.old.observed.items) o)) new_is) adds
 
 -- and remembered of it
 pub cell-noted : (now : Track) (p : Pair SatelliteRow) (code : SharedCode) (old new : Observed) (es : List (Pair Observed)) → old ≡ shown_at code.old p.old.observed.items → new ≡ shown_at code.new p.new.observed.items
@@ -216,15 +216,15 @@ flat_map-none (x ∷ xs) = flat_map-none xs
 
 told-by : (t : ℕ) (codes : ℕ → List SharedCode) (earlier : List (List (Pair SatelliteRow))) (p : Pair SatelliteRow) (a b : Bool)
     → told_if (not a && b) Lost what.Satellite (at_satellite t p.old.satellite)
-    ++ flat_map (λ (k : SharedCode). lines_if_told (cond (a || b) None (Some (at_signal t p.old.satellite k.code))) (cells_before p.old.satellite k earlier) (cells_of k p)) (codes p.old.satellite)
+    ++ flat_map (λ (k : SharedCode). lines_if_told k.shifts (cond (a || b) None (Some (at_signal t p.old.satellite k.code))) (cells_before p.old.satellite k earlier) (cells_of k p)) (codes p.old.satellite)
     ≡ cond a [] (cond b (record { class = Lost; what = what.Satellite; place = at_satellite t p.old.satellite } ∷ [])
-    (flat_map (λ (k : SharedCode). cell_lines (cells_before p.old.satellite k earlier) (cells_of k p) (at_signal t p.old.satellite k.code)) (codes p.old.satellite)))
+    (flat_map (λ (k : SharedCode). cell_lines k.shifts (cells_before p.old.satellite k earlier) (cells_of k p) (at_signal t p.old.satellite k.code)) (codes p.old.satellite)))
 told-by t codes earlier p true b = flat_map-none (codes p.old.satellite)
 told-by t codes earlier p false true = ap (λ (ds : List Difference). record { class = Lost; what = what.Satellite; place = at_satellite t p.old.satellite } ∷ ds) (flat_map-none (codes p.old.satellite))
 told-by t codes earlier p false false = refl
 
 pub row-told : (time : Option ℕ) (codes : ℕ → List SharedCode) (earlier : List (List (Pair SatelliteRow))) (p : Pair SatelliteRow)
-    → gone_line time p ++ flat_map (λ (k : SharedCode). lines_if_told (place_at time p k) (cells_before p.old.satellite k earlier) (cells_of k p)) (codes p.old.satellite) ≡ lines_told time codes earlier p
+    → gone_line time p ++ flat_map (λ (k : SharedCode). lines_if_told k.shifts (place_at time p k) (cells_before p.old.satellite k earlier) (cells_of k p)) (codes p.old.satellite) ≡ lines_told time codes earlier p
 row-told None codes earlier p = flat_map-none (codes p.old.satellite)
 row-told (Some t) codes earlier p = told-by t codes earlier p (eqb (length p.old.observed.items) 0) (eqb (length p.new.observed.items) 0)
 

@@ -1,11 +1,12 @@
 -- The differences of a cell: what two files show of one satellite and code at one epoch. All of it is this
 -- project's rule.
-use Rattle.std.specs.Prelude.{Bool, not, ◌&&◌, if◌then◌else◌, List, [], ◌∷◌, ◌++◌, Option, is_some, is_none}
+use Rattle.std.specs.Prelude.{Bool, false, not, ◌&&◌, if◌then◌else◌, List, [], ◌∷◌, ◌++◌, ℤ, Option, None, Some, is_some, is_none}
+use Rattle.std.specs.Ordering.{int_eq}
 use Rattle.rtk_rinex.specs.declared.epoch_table.Observed.{Observed}
 use Rattle.rtk_compare.specs.declared.difference.Class.{Class}
 use Rattle.rtk_compare.specs.declared.difference.Class.TheVariants.{Lost, Changed, Explained}
 use Rattle.rtk_compare.specs.declared.difference.What.{What}
-use Rattle.rtk_compare.specs.declared.difference.What.TheVariants.{Range, Phase, Strength, Finer, Roll, Slip, FirstSlip, FilledSlip, NewSlip, HalfCycle}
+use Rattle.rtk_compare.specs.declared.difference.What.TheVariants.{Range, Phase, Strength, Doppler, Finer, Roll, Slip, FirstSlip, FilledSlip, NewSlip, HalfCycle}
 use Rattle.rtk_compare.specs.declared.difference.Place.{Place}
 use Rattle.rtk_compare.specs.declared.difference.Difference.{Difference}
 use Rattle.rtk_compare.specs.declared.distances.Distances.{Distances}
@@ -22,6 +23,12 @@ told_if differs class what place = if differs then record { class = class; what 
 -- the old file has a value, and the new one has none
 abbrev pub is_gone : {A : Type 0} → Option A → Option A → Bool
 is_gone a b = is_some a && is_none b
+
+-- both files have a value, but not the same
+abbrev pub is_other_number : Option ℤ → Option ℤ → Bool
+is_other_number (Some a) (Some b) = not (int_eq a b)
+is_other_number (Some a) None = false
+is_other_number None b = false
 
 abbrev pub gone_lines : Pair Observed → Place → List Difference
 gone_lines p place =
@@ -65,9 +72,20 @@ half_lines d p place =
     told_if (mark_is_gone p p.old.half p.new.half) Lost HalfCycle place
     ++ told_if (mark_is_gone p p.new.half p.old.half && not (is_finer d)) Changed HalfCycle place
 
+-- ---- Doppler shifts
+
+-- a Doppler shift is gone, if both files show them, or has changed. All messages that tell a rate tell it in the same
+-- units, so none is finer
+abbrev pub shift_lines : Bool → Pair Observed → Place → List Difference
+shift_lines shifts p place =
+    told_if (shifts && is_gone p.old.doppler_millihertz p.new.doppler_millihertz) Lost Doppler place
+    ++ told_if (is_other_number p.old.doppler_millihertz p.new.doppler_millihertz) Changed Doppler place
+
 -- ---- the cell
 
--- the differences of a cell, after these earlier ones of the satellite and code, newest first
-unfoldable pub cell_lines : List (Pair Observed) → Pair Observed → Place → List Difference
-cell_lines earlier p place =
+-- the differences of a cell, after these earlier ones of the satellite and code, newest first; both files show Doppler
+-- shifts (true), or not
+unfoldable pub cell_lines : Bool → List (Pair Observed) → Pair Observed → Place → List Difference
+cell_lines shifts earlier p place =
     gone_lines p place ++ value_lines (distances_of earlier p) place ++ slip_lines earlier p place ++ half_lines (distances_of earlier p) p place
+    ++ shift_lines shifts p place

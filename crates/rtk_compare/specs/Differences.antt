@@ -1,5 +1,5 @@
 -- The differences of two files, and how they are counted. All of it is this project's rule.
-use Rattle.std.specs.Prelude.{◌≡◌, ℕ, Bool, true, false, not, List, ◌++◌, length, take}
+use Rattle.std.specs.Prelude.{◌≡◌, ℕ, Bool, true, false, not, ◌&&◌, List, ◌++◌, length, take}
 use Rattle.std.specs.List.{filter, list_any}
 use Rattle.rtk_rinex.specs.MixedTable.{MixedTable, IsMixedTable, mixed_table_text}
 use Rattle.rtk_tracking.specs.Epochs.{capped}
@@ -12,9 +12,10 @@ use Rattle.rtk_compare.specs.Codes.{shared_codes}
 use Rattle.rtk_compare.specs.Headers.{header_lines}
 use Rattle.rtk_compare.specs.Records.{record_lines}
 
--- the differences of two files: those of their headers, then those of their epochs
+-- the differences of two files: those of their headers, then those of their epochs. Doppler shifts are compared if both
+-- show them
 abbrev pub differences : MixedTable → MixedTable → List Difference
-differences t u = header_lines t.head t.site u.head u.site ++ record_lines (shared_codes t.head.listed u.head.listed) t.epochs u.epochs
+differences t u = header_lines t.head t.site u.head u.site ++ record_lines (shared_codes (t.head.doppler && u.head.doppler) t.head.listed u.head.listed) t.epochs u.epochs
 
 -- ---- counts
 

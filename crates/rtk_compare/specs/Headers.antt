@@ -1,5 +1,5 @@
 -- The differences of the headers of two files. All of it is this project's rule.
-use Rattle.std.specs.Prelude.{ℕ, nat_lt, ◌==◌, Bool, false, not, ◌&&◌, List, [], ◌++◌, flat_map, bytes_eq, ℤ, pos, Option, None, Some}
+use Rattle.std.specs.Prelude.{ℕ, nat_lt, ◌==◌, Bool, not, ◌&&◌, List, [], ◌++◌, flat_map, bytes_eq, pos, Option, None, Some}
 use Rattle.std.specs.List.{list_any, range_with_len}
 use Rattle.std.specs.Ordering.{int_eq}
 use Rattle.rtk_obs.specs.declared.any_code.AnyCode.{AnyCode}
@@ -9,10 +9,10 @@ use Rattle.rtk_rinex.specs.Header.{PositionView}
 use Rattle.rtk_rinex.specs.MixedHead.{GlonassView, MixedHeadView}
 use Rattle.rtk_compare.specs.declared.difference.Class.TheVariants.{Lost, Changed}
 use Rattle.rtk_compare.specs.declared.difference.What.{What}
-use Rattle.rtk_compare.specs.declared.difference.What.TheVariants.{Marker, Position, Height, Code, Channel, LeapSeconds}
+use Rattle.rtk_compare.specs.declared.difference.What.TheVariants.{Marker, Position, Height, Code, Doppler, Channel, LeapSeconds}
 use Rattle.rtk_compare.specs.declared.difference.Difference.{Difference}
 use Rattle.rtk_compare.specs.Places.{in_header, at_code, at_slot}
-use Rattle.rtk_compare.specs.Cells.{told_if, is_gone}
+use Rattle.rtk_compare.specs.Cells.{told_if, is_gone, is_other_number}
 
 -- something that both can have or not is lost, or has changed
 abbrev pub lines_of : Bool → Bool → Bool → What → List Difference
@@ -41,17 +41,11 @@ code_line c news = told_if (not (is_listed c news)) Lost Code (at_code c)
 abbrev pub code_lines : List AnyCode → List AnyCode → List Difference
 code_lines olds news = flat_map (λ c. code_line c news) olds
 
--- both have a channel, but not the same
-abbrev pub is_other_channel : Option ℤ → Option ℤ → Bool
-is_other_channel (Some a) (Some b) = not (int_eq a b)
-is_other_channel (Some a) None = false
-is_other_channel None b = false
-
 -- the channel of a slot of GLONASS
 abbrev pub slot_lines : GlonassView → GlonassView → ℕ → List Difference
 slot_lines g h slot =
     told_if (is_gone (channel_at g.channels slot) (channel_at h.channels slot)) Lost Channel (at_slot slot)
-    ++ told_if (is_other_channel (channel_at g.channels slot) (channel_at h.channels slot)) Changed Channel (at_slot slot)
+    ++ told_if (is_other_number (channel_at g.channels slot) (channel_at h.channels slot)) Changed Channel (at_slot slot)
 
 abbrev pub channel_lines : GlonassView → GlonassView → List Difference
 channel_lines g h = flat_map (slot_lines g h) (range_with_len 1 27)
@@ -71,6 +65,10 @@ glonass_differences (Some g) h = told_beside g h
 abbrev pub marker_lines : List ℕ → List ℕ → List Difference
 marker_lines a b = told_if (not (bytes_eq a b)) Changed Marker in_header
 
+-- the old file shows Doppler shifts, and the new one none; the values are not told
+abbrev pub shifts_line : Bool → Bool → List Difference
+shifts_line was is = told_if (was && not is) Lost Doppler in_header
+
 -- the differences of two headers, of which these are the heads and the positions
 abbrev pub header_lines : MixedHeadView → PositionView → MixedHeadView → PositionView → List Difference
 header_lines h s g r =
@@ -78,3 +76,4 @@ header_lines h s g r =
     ++ position_differences s r
     ++ code_lines h.listed g.listed
     ++ glonass_differences h.glonass g.glonass
+    ++ shifts_line h.doppler g.doppler

@@ -31,7 +31,7 @@ abbrev pub row_lines : (ℕ → List SharedCode) → List (List (Pair SatelliteR
 row_lines shared earlier time p =
     if length p.old.observed.items == 0 then []
     else if length p.new.observed.items == 0 then record { class = Lost; what = what.Satellite; place = at_satellite time p.old.satellite } ∷ []
-    else flat_map (λ k. cell_lines (cells_before p.old.satellite k earlier) (cells_of k p) (at_signal time p.old.satellite k.code)) (shared p.old.satellite)
+    else flat_map (λ k. cell_lines k.shifts (cells_before p.old.satellite k earlier) (cells_of k p) (at_signal time p.old.satellite k.code)) (shared p.old.satellite)
 
 -- the differences of the epochs of a moment
 abbrev pub epoch_lines : (ℕ → List SharedCode) → List (List (Pair SatelliteRow)) → Pair EpochTableView → List Difference

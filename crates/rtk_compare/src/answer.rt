@@ -54,6 +54,7 @@ impl What {
             What::Range => b"range",
             What::Phase => b"phase",
             What::Strength => b"strength",
+            What::Doppler => b"doppler",
             What::Finer => b"finer",
             What::Roll => b"roll",
             What::Slip => b"slip",

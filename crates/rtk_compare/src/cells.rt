@@ -4,7 +4,7 @@ ghost use Rattle.std.specs.Prelude.{◌≡◌, ◌&&◌, ◌∷◌, not, List};
 ghost use Rattle.rtk_rinex.specs.declared.epoch_table.Observed.{Observed};
 ghost use Rattle.rtk_compare.specs.Pairs.{Pair};
 ghost use Rattle.rtk_compare.specs.Distances.{distances_of};
-ghost use Rattle.rtk_compare.specs.Cells.{is_gone, have_phases, gone_lines, value_lines, gone_slip_lines, slip_lines, half_lines, cell_lines};
+ghost use Rattle.rtk_compare.specs.Cells.{is_gone, is_other_number, have_phases, gone_lines, value_lines, gone_slip_lines, slip_lines, half_lines, shift_lines, cell_lines};
 ghost use Rattle.rtk_compare.specs.Differences.{Adds};
 ghost use Rattle.rtk_compare.specs.Steps.Tracks.{IsTrackOf, pair, lines_if_told};
 
@@ -115,56 +115,81 @@ fn put_halves(
     findings.push_if(has_come & !is_finer, Class::Changed, What::HalfCycle, place);
 }
 
+// Have both files a Doppler shift, but not the same?
+fn is_other_number(old: Option<i64>, new: Option<i64>) -> bool
+    ensures { result ≡ is_other_number old new }
+{
+    match (old, new) {
+        (Some(old), Some(new)) => old != new,
+        _ => false,
+    }
+}
+
+// Adds a Doppler shift that is gone, if both files show them, or has changed.
+fn put_shifts(shifts: bool, old: &Observed, new: &Observed, place: &Place, findings: &mut Findings)
+    ensures { Adds findings.old findings.new (shift_lines shifts (pair old.now new.now) place.now) }
+{
+    let is_gone = is_gone(old.doppler_millihertz, new.doppler_millihertz);
+    findings.push_if(shifts & is_gone, Class::Lost, What::Doppler, place);
+    let has_changed = is_other_number(old.doppler_millihertz, new.doppler_millihertz);
+    findings.push_if(has_changed, Class::Changed, What::Doppler, place);
+}
+
 // Adds the differences of a cell.
 fn put_cell(
     track: &Track,
     distances: &Distances,
+    shifts: bool,
     old: &Observed,
     new: &Observed,
     place: &Place,
     findings: &mut Findings,
 )
     ensures { (earlier : List (Pair Observed)) → IsTrackOf track.now earlier → distances.now ≡ distances_of earlier (pair old.now new.now)
-        → Adds findings.old findings.new (cell_lines earlier (pair old.now new.now) place.now) }
+        → Adds findings.old findings.new (cell_lines shifts earlier (pair old.now new.now) place.now) }
 {
     put_gone(old, new, place, findings);
     put_values(distances, place, findings);
     put_slips(track, old, new, place, findings);
     put_halves(distances, old, new, place, findings);
+    put_shifts(shifts, old, new, place, findings);
 }
 
 // Adds the differences of a cell, if there is a place to tell them at.
 fn tell_cell(
     track: &Track,
     distances: &Distances,
+    shifts: bool,
     old: &Observed,
     new: &Observed,
     place: &Option<Place>,
     findings: &mut Findings,
 )
     ensures { (earlier : List (Pair Observed)) → IsTrackOf track.now earlier → distances.now ≡ distances_of earlier (pair old.now new.now)
-        → Adds findings.old findings.new (lines_if_told place.now earlier (pair old.now new.now)) }
+        → Adds findings.old findings.new (lines_if_told shifts place.now earlier (pair old.now new.now)) }
 {
     if let Some(place) = place {
-        put_cell(track, distances, old, new, place, findings);
+        put_cell(track, distances, shifts, old, new, place, findings);
     }
 }
 
-/// Adds the differences of a cell, if there is a place to tell them at, and notes the cell.
+/// Adds the differences of a cell, if there is a place to tell them at, and notes the cell. Both files show Doppler
+/// shifts, or not.
 pub(crate) fn compare_cell(
     track: &mut Track,
+    shifts: bool,
     old: &Observed,
     new: &Observed,
     place: &Option<Place>,
     findings: &mut Findings,
 )
     ensures lines { (earlier : List (Pair Observed)) → IsTrackOf track.old earlier
-        → Adds findings.old findings.new (lines_if_told place.now earlier (pair old.now new.now)) }
+        → Adds findings.old findings.new (lines_if_told shifts place.now earlier (pair old.now new.now)) }
     ensures track { (earlier : List (Pair Observed)) → IsTrackOf track.old earlier → IsTrackOf track.new (pair old.now new.now ∷ earlier) }
 {
     let rolls = rolls_of(old.phase_millicycles, new.phase_millicycles);
     let held = track.rolls_held(old, new, rolls);
     let distances = Distances::of(old, new, rolls, held);
-    tell_cell(track, &distances, old, new, place, findings);
+    tell_cell(track, &distances, shifts, old, new, place, findings);
     track.note(old, new, held);
 }

@@ -67,6 +67,8 @@ pub enum What {
     Phase,
     /// A signal strength.
     Strength,
+    /// A Doppler shift, or in the header all of them.
+    Doppler,
     /// A cell that another message gives more finely.
     Finer,
     /// A phase that is whole rolls of 1,500 cycles away.

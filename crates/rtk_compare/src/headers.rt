@@ -3,9 +3,9 @@
 ghost use Rattle.std.specs.Prelude.{◌≡◌, bytes_eq};
 ghost use Rattle.rtk_obs.specs.Carriers.{IsSlot, channel_at};
 ghost use Rattle.rtk_rinex.specs.Header.{position_view};
-ghost use Rattle.rtk_compare.specs.Cells.{is_gone};
+ghost use Rattle.rtk_compare.specs.Cells.{is_gone, is_other_number};
 ghost use Rattle.rtk_compare.specs.Differences.{Adds};
-ghost use Rattle.rtk_compare.specs.Headers.{lines_of, is_known, is_same_place, position_differences, is_listed, code_line, code_lines, is_other_channel, slot_lines, channel_lines, lines_of_told, told_beside, glonass_differences, marker_lines, header_lines};
+ghost use Rattle.rtk_compare.specs.Headers.{lines_of, is_known, is_same_place, position_differences, is_listed, code_line, code_lines, slot_lines, channel_lines, lines_of_told, told_beside, glonass_differences, marker_lines, shifts_line, header_lines};
 
 use crate::difference::{Class, Place, What};
 use crate::findings::Findings;
@@ -119,7 +119,7 @@ fn channel_is_gone(old: Option<i8>, new: Option<i8>) -> bool
 
 // Have both files a channel, but not the same?
 fn is_other_channel(old: Option<i8>, new: Option<i8>) -> bool
-    ensures { result ≡ is_other_channel old new }
+    ensures { result ≡ is_other_number old new }
 {
     match (old, new) {
         (Some(old), Some(new)) => old != new,
@@ -194,6 +194,14 @@ fn compare_markers(old: &[u8], new: &[u8], findings: &mut Findings)
     findings.push_if(!is_same, Class::Changed, What::Marker, &place);
 }
 
+// Compares whether the files show Doppler shifts.
+fn compare_shifts(was: bool, is: bool, findings: &mut Findings)
+    ensures { Adds findings.old findings.new (shifts_line was is) }
+{
+    let place = Place::header();
+    findings.push_if(was & !is, Class::Lost, What::Doppler, &place);
+}
+
 /// Compares the headers of two files.
 pub(crate) fn compare_headers(
     old: &MixedHeading<'_>,
@@ -207,4 +215,5 @@ pub(crate) fn compare_headers(
     compare_positions(&old.position, &new.position, findings);
     compare_codes(old.head.codes(), new.head.codes(), findings);
     compare_glonass(old.head.glonass(), new.head.glonass(), findings);
+    compare_shifts(old.head.has_doppler(), new.head.has_doppler(), findings);
 }

@@ -120,13 +120,13 @@ fn compare_code(
     findings: &mut Findings,
 )
     ensures lines { (es : List (Pair Observed)) → IsTrackOf track.old es
-        → Adds findings.old findings.new (lines_if_told (place_at time.now (row_view row.now) code.now) es (cells_of code.now (row_view row.now))) }
+        → Adds findings.old findings.new (lines_if_told code.now.shifts (place_at time.now (row_view row.now) code.now) es (cells_of code.now (row_view row.now))) }
     ensures track { (es : List (Pair Observed)) → IsTrackOf track.old es → IsTrackOf track.new (cells_of code.now (row_view row.now) ∷ es) }
 {
     let old = shown_at(row.old, code.old);
     let new = shown_at(row.new, code.new);
     let place = row.place_of(code, time);
-    compare_cell(track, &old, &new, &place, findings);
+    compare_cell(track, code.shifts, &old, &new, &place, findings);
 }
 
 // Compares a satellite. Its differences are added if there is a time, that of its epoch.

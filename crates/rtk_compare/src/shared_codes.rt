@@ -1,6 +1,6 @@
 //! The codes that two files have both.
 
-ghost use Rattle.std.specs.Prelude.{◌≡◌, ◌≤◌, ◌<◌, ◌+◌, ◌++◌, length, get_or};
+ghost use Rattle.std.specs.Prelude.{◌≡◌, ◌≤◌, ◌<◌, ◌+◌, ◌&&◌, ◌++◌, length, get_or};
 ghost use Rattle.rtk_obs.specs.declared.any_code.AnyCode.{AnyCode};
 ghost use Rattle.rtk_rinex.specs.MixedHeader.{codes_of};
 ghost use Rattle.rtk_compare.specs.Codes.{place_in, with_places, shared_of, shared_codes};
@@ -17,6 +17,8 @@ pub(crate) struct SharedCode {
     pub(crate) code: AnyCode,
     pub(crate) old: usize,
     pub(crate) new: usize,
+    /// Both files show Doppler shifts.
+    pub(crate) shifts: bool,
 }
 
 /// The codes of a system that both files list.
@@ -62,13 +64,18 @@ fn place_in(code: AnyCode, listed: &[AnyCode]) -> Option<usize>
 }
 
 // Adds a code, if it has a place in the new list.
-fn put_shared(shared: &mut Shared, code: AnyCode, old: usize, new: Option<usize>)
+fn put_shared(shared: &mut Shared, shifts: bool, code: AnyCode, old: usize, new: Option<usize>)
     requires { length shared.old.items < 16 }
-    ensures items { shared.new.items ≡ shared.old.items ++ with_places code old new }
+    ensures items { shared.new.items ≡ shared.old.items ++ with_places shifts code old new }
     ensures len { length shared.new.items ≤ length shared.old.items + 1 }
 {
     if let Some(new) = new {
-        shared.push(SharedCode { code, old, new });
+        shared.push(SharedCode {
+            code,
+            old,
+            new,
+            shifts,
+        });
     }
 }
 
@@ -80,37 +87,45 @@ fn code_at(listed: &[AnyCode], place: usize) -> AnyCode
     listed[place]
 }
 
-// Returns the codes that both lists have.
-fn shared_of(olds: &[AnyCode], news: &[AnyCode]) -> Shared
+// Returns the codes that both lists have. The files show both Doppler shifts, or not.
+fn shared_of(shifts: bool, olds: &[AnyCode], news: &[AnyCode]) -> Shared
     requires { length olds.now ≤ 16 }
-    ensures items { result.items ≡ shared_of olds.now news.now }
+    ensures items { result.items ≡ shared_of shifts olds.now news.now }
     ensures few { length result.items ≤ 16 }
 {
     let mut shared = ArrayVec::new();
     for old in 0..olds.len() {
         let code = code_at(olds, old);
         let new = place_in(code, news);
-        put_shared(&mut shared, code, old, new);
+        put_shared(&mut shared, shifts, code, old, new);
     }
     shared
 }
 
+// Returns whether both files show Doppler shifts.
+fn both_show_shifts(old: &MixedHead, new: &MixedHead) -> bool
+    ensures { result ≡ (old.now.doppler && new.now.doppler) }
+{
+    old.has_doppler() && new.has_doppler()
+}
+
 // Returns the codes of the system of this letter that both heads list.
 fn shared_in(letter: u8, old: &MixedHead, new: &MixedHead) -> Shared
-    ensures items { result.items ≡ shared_of (codes_of letter old.now.listed) (codes_of letter new.now.listed) }
+    ensures items { result.items ≡ shared_of (old.now.doppler && new.now.doppler) (codes_of letter old.now.listed) (codes_of letter new.now.listed) }
     ensures few { length result.items ≤ 16 }
 {
     // A law: a place belongs to one code of a system, and is below 16.
     any_code_laws();
     let olds = codes_of(letter, old.codes());
     let news = codes_of(letter, new.codes());
-    shared_of(olds.as_slice(), news.as_slice())
+    let shifts = both_show_shifts(old, new);
+    shared_of(shifts, olds.as_slice(), news.as_slice())
 }
 
 impl SharedCodes {
     /// Finds the codes that both heads list.
     pub(crate) fn of(old: &MixedHead, new: &MixedHead) -> SharedCodes
-        ensures { HasShared result (shared_codes old.now.listed new.now.listed) }
+        ensures { HasShared result (shared_codes (old.now.doppler && new.now.doppler) old.now.listed new.now.listed) }
     {
         SharedCodes {
             gps: shared_in(b'G', old, new),

@@ -96,15 +96,15 @@ module _ {s : SetupView} {w w' : CollectorView SignalEntry} {c : ClosedEpochsVie
     (taken : IsTakenBy s (message_of a)) (size : w.places ≡ s.window) (same : w'.places ≡ w.places) (meets : AnswersMessage s w a offer listed w')
     (text : lines ≡ offer_lines link (number_of (message_of a)) (epoch_of a) offer listed) where
   -- all was written
-  pub adds-all : {class : MessageClass} {c' : ClosedEpochsView} → class_named class ≡ class_of_offer offer → ClosesMore s.head.listed c (closed_by offer) c'
-      → ((below : List (EpochSetView SignalEntry)) → HasClosed c s.head.listed below → o'.file ≡ with_more o.file (closing_if s (site_of_window w') (closed_by offer) below))
+  pub adds-all : {class : MessageClass} {c' : ClosedEpochsView} → class_named class ≡ class_of_offer offer → ClosesMore s.head.doppler s.head.listed c (closed_by offer) c'
+      → ((below : List (EpochSetView SignalEntry)) → HasClosed c s.head.doppler s.head.listed below → o'.file ≡ with_more o.file (closing_if s (site_of_window w') (closed_by offer) below))
       → o'.report ≡ with_more o.report lines → (before : List Arrival) → RepresentsEpochs s (epochs w c) before → AddsArrivalAs s (epochs w c) link a class before (epochs w' c') o o'
   adds-all {class} {c'} named closes file report before rep =
       let answer = answered {w' = w'} offer listed size meets before rep.kept in
       record {
         after = record {
           kept = holds-more taken rep.kept (meets before rep.kept).1;
-          closed = subst (λ (xs : List (EpochSetView SignalEntry)). HasClosed c' s.head.listed xs) (sym (answer-closed s a before offer listed answer))
+          closed = subst (λ (xs : List (EpochSetView SignalEntry)). HasClosed c' s.head.doppler s.head.listed xs) (sym (answer-closed s a before offer listed answer))
               (closes (closed signals (cells_by s) s.window before) rep.closed);
         };
         is_class = named ∙ sym (answer-class s a before offer listed answer);
@@ -114,7 +114,7 @@ module _ {s : SetupView} {w w' : CollectorView SignalEntry} {c : ClosedEpochsVie
       }
 
   -- a first part of it
-  pub adds-part : ((below : List (EpochSetView SignalEntry)) → HasClosed c s.head.listed below → TakesPart o.file o'.file (closing_if s (site_of_window w') (closed_by offer) below))
+  pub adds-part : ((below : List (EpochSetView SignalEntry)) → HasClosed c s.head.doppler s.head.listed below → TakesPart o.file o'.file (closing_if s (site_of_window w') (closed_by offer) below))
       → TakesPart o.report o'.report lines → (before : List Arrival) → RepresentsEpochs s (epochs w c) before → AddsArrivalPartAs s link a before o o'
   adds-part file report before rep = record {
     out = part-text o.file o'.file (file_so_far s before) (file_so_far s (a ∷ before)) (closing_if s (site_of_window w') (closed_by offer) (closed signals (cells_by s) s.window before))

@@ -1,5 +1,5 @@
 -- The laws on the file of arrivals.
-use Rattle.std.proofs.Common.{◌≡◌, ℕ, List, [], ◌∷◌, ◌++◌, take, Option, Some, refl, ap, append_assoc, sym, ◌∙◌, inl, inr}
+use Rattle.std.proofs.Common.{◌≡◌, ℕ, List, [], ◌∷◌, ◌++◌, take, Option, Some, refl, ap, append_assoc, sym, ◌∙◌, inl, inr, Bool}
 use Rattle.std.specs.Prelude.{is_some, unwrap_or}
 use Rattle.std.proofs.lemmas.List.{append-nil, take-append-drop}
 use Rattle.rtk_message.specs.declared.any_message.AnyMessage.{AnyMessage as Message}
@@ -58,7 +58,7 @@ whole s before =
     let split : take s.window all ++ closed signals (cells_by s) s.window before ≡ all =
     ap (λ (x : List (EpochSetView SignalEntry)). take s.window all ++ x) (closed-drop signals (cells_by s) s.window no_cells before) ∙ take-append-drop s.window all in
     let more = closed-grows s site (take s.window all) (closed signals (cells_by s) s.window before) in
-    let last : List ℕ = header_before s site s.near (is_some (first_time s.head.listed all)) in (
+    let last : List ℕ = header_before s site s.near (is_some (first_time s.head.doppler s.head.listed all)) in (
       more.0 ++ last,
       file-closed s site all
           ∙ ap (λ (x : List ℕ). x ++ last) (ap (closed_text s site) (sym split) ∙ more.1 ∙ ap (λ (x : List ℕ). x ++ more.0) (sym (so_far-is s before)))
@@ -73,28 +73,28 @@ so_far-begins s later before =
 
 -- ---- the header
 
-first_time-more : (listed : List AnyCode) (more below : List (EpochSetView SignalEntry)) (t : ℕ) → first_time listed below ≡ Some t → first_time listed (more ++ below) ≡ Some t
+first_time-more : (doppler : Bool) (listed : List AnyCode) (more below : List (EpochSetView SignalEntry)) (t : ℕ) → first_time doppler listed below ≡ Some t → first_time doppler listed (more ++ below) ≡ Some t
 unfolding first_time
-first_time-more listed [] below t h = h
-first_time-more listed (e ∷ more) below t h =
-    first-kept (first_time listed (more ++ below)) e.epoch t (record_of listed e (more ++ below)) (first_time-more listed more below t h)
+first_time-more doppler listed [] below t h = h
+first_time-more doppler listed (e ∷ more) below t h =
+    first-kept (first_time doppler listed (more ++ below)) e.epoch t (record_of doppler listed e (more ++ below)) (first_time-more doppler listed more below t h)
 
-first_time-kept : (s : SetupView) (before : List Arrival) (t : ℕ) → first_time s.head.listed (closed signals (cells_by s) s.window before) ≡ Some t → first_time s.head.listed (kept signals (cells_by s) s.window before) ≡ Some t
+first_time-kept : (s : SetupView) (before : List Arrival) (t : ℕ) → first_time s.head.doppler s.head.listed (closed signals (cells_by s) s.window before) ≡ Some t → first_time s.head.doppler s.head.listed (kept signals (cells_by s) s.window before) ≡ Some t
 first_time-kept s before t h =
-    first_time-drop s.window s.head.listed (kept signals (cells_by s) s.window before) t (ap (first_time s.head.listed) (sym (closed-drop signals (cells_by s) s.window no_cells before)) ∙ h)
+    first_time-drop s.window s.head.doppler s.head.listed (kept signals (cells_by s) s.window before) t (ap (first_time s.head.doppler s.head.listed) (sym (closed-drop signals (cells_by s) s.window no_cells before)) ∙ h)
 
-none-closed : (listed : List AnyCode) (xs : List (EpochSetView SignalEntry)) (t : ℕ) → first_time listed xs ≡ Some t → xs ≡ [] → ⊥
+none-closed : (doppler : Bool) (listed : List AnyCode) (xs : List (EpochSetView SignalEntry)) (t : ℕ) → first_time doppler listed xs ≡ Some t → xs ≡ [] → ⊥
 unfolding first_time
-none-closed listed [] t h e = cc
-none-closed listed (x ∷ xs) t h e = cc
+none-closed doppler listed [] t h e = cc
+none-closed doppler listed (x ∷ xs) t h e = cc
 
 pub header-final : HeaderIsFinal
 header-final s a before t h =
     let g = closed-only-grow signals (cells_by s) s.window (a ∷ []) before in
-    let after : first_time s.head.listed (closed signals (cells_by s) s.window (a ∷ before)) ≡ Some t =
-    ap (first_time s.head.listed) g.1 ∙ first_time-more s.head.listed g.0 (closed signals (cells_by s) s.window before) t h in
+    let after : first_time s.head.doppler s.head.listed (closed signals (cells_by s) s.window (a ∷ before)) ≡ Some t =
+    ap (first_time s.head.doppler s.head.listed) g.1 ∙ first_time-more s.head.doppler s.head.listed g.0 (closed signals (cells_by s) s.window before) t h in
     let site : site_of_kept s.window (a ∷ before) ≡ site_of_kept s.window before = elim (closed-after signals (cells_by s) s.window before) [
-      | inl none ↦ absurd (none-closed s.head.listed (closed signals (cells_by s) s.window before) t h none)
+      | inl none ↦ absurd (none-closed s.head.doppler s.head.listed (closed signals (cells_by s) s.window before) t h none)
       | inr full ↦ site-final s.window a before full
     ] in
     ap (λ (o : Option ℕ). header_at s (site_of_kept s.window (a ∷ before)) (unwrap_or o s.near)) (first_time-kept s (a ∷ before) t after)

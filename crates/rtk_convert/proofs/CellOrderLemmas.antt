@@ -1,12 +1,11 @@
 -- What the order of cells gives: those of a satellite stand together, and of one kind of message no
 -- two have one satellite and code.
-use Rattle.std.proofs.Common.{◌≡◌, ◌≢◌, ℕ, zero, suc, ◌+◌, ◌-◌, ◌*◌, ◌<◌, ◌≤◌, [], ◌∷◌, ◌++◌, List, length, take, drop, get_or, get_or-take, get_or-drop, length-drop, take-append-drop, slice_range, refl, sym, ap, subst, ◌∙◌, arith, true, false, Bool, nat_eq, cond, Option, Some, None, All, inl, inr}
+use Rattle.std.proofs.Common.{◌≡◌, ◌≢◌, ℕ, zero, suc, ◌+◌, ◌-◌, ◌*◌, ◌<◌, ◌≤◌, [], ◌∷◌, ◌++◌, List, length, take, drop, get_or, get_or-take, get_or-drop, length-drop, take-append-drop, slice_range, refl, sym, ap, subst, ◌∙◌, arith, true, false, Bool, nat_eq, cond, Option, Some, None, All, inl, inr, pos}
 use Rattle.std.specs.Prelude.{is_some}
 use Rattle.std.proofs.lemmas.Bool.{cases_order, cases_lt, and_parts, and_from, eqb-true, eq-eqb, false_from_ne_true}
 use Rattle.std.proofs.lemmas.List.{length-take-le, take_more}
 use Rattle.std.proofs.lemmas.List.Folds.{drop_split}
 use Rattle.std.proofs.lemmas.Bool.Decides.{nat_tests}
-use Rattle.rtk_obs.specs.declared.cell.Cell.{Cell}
 use Rattle.rtk_obs.specs.declared.signal_cells.SignalEntry.{SignalEntry}
 use Rattle.rtk_obs.specs.declared.cell.CellSource.{CellSource}
 use Rattle.rtk_obs.specs.declared.cell.CellSource.TheVariants.{Legacy, Msm}
@@ -25,6 +24,7 @@ abbrev pub any_cell : SignalEntry
 any_cell = record {
   satellite = 0;
   code = G1C;
+  doppler_millihertz = pos 0;
   cell = record { range_mm = None; phase_millicycles = None; strength_millidbhz = None; lock_time_ms = 0; half = false; source = Legacy; offset = None };
 }
 
@@ -82,26 +82,26 @@ satellites-at xs i j d r l m = signal-satellite (get_or xs i d) (get_or xs j d) 
 pub other-satellite : (s : ℕ) (c : AnyCode) (e : SignalEntry) → e.satellite ≢ s → is_signal s c e ≡ false
 other-satellite s c e h = grind (arith, nat_tests)
 
-none-if : (b : Bool) (x : Cell) (o : Option Cell) → b ≡ false → o ≡ None → cond b (Some x) o ≡ None
+none-if : (b : Bool) (x : SignalEntry) (o : Option SignalEntry) → b ≡ false → o ≡ None → cond b (Some x) o ≡ None
 none-if true x o h k = cc
 none-if false x o h k = k
 
 pub none-at : (xs : List SignalEntry) (s : ℕ) (c : AnyCode) (d : SignalEntry) → ((k : ℕ) → k < length xs → is_signal s c (get_or xs k d) ≡ false) → first_cell xs s c ≡ None
 none-at [] s c d h = refl
-none-at (x ∷ xs) s c d h = none-if (is_signal s c x) x.cell (first_cell xs s c) (h 0 (omega arith)) (none-at xs s c d (λ k l. h (suc k) (omega arith)))
+none-at (x ∷ xs) s c d h = none-if (is_signal s c x) x (first_cell xs s c) (h 0 (omega arith)) (none-at xs s c d (λ k l. h (suc k) (omega arith)))
 
-some-if : (b : Bool) (x : Cell) (o : Option Cell) → is_some o ≡ true → is_some (cond b (Some x) o) ≡ true
+some-if : (b : Bool) (x : SignalEntry) (o : Option SignalEntry) → is_some o ≡ true → is_some (cond b (Some x) o) ≡ true
 some-if true x o h = refl
 some-if false x o h = h
 
-some-here : (b : Bool) (x : Cell) (o : Option Cell) → b ≡ true → is_some (cond b (Some x) o) ≡ true
+some-here : (b : Bool) (x : SignalEntry) (o : Option SignalEntry) → b ≡ true → is_some (cond b (Some x) o) ≡ true
 some-here true x o h = refl
 some-here false x o h = cc
 
 some-at : (xs : List SignalEntry) (k s : ℕ) (c : AnyCode) (d : SignalEntry) → k < length xs → is_signal s c (get_or xs k d) ≡ true → is_some (first_cell xs s c) ≡ true
 some-at [] k s c d l h = absurd (omega arith)
-some-at (x ∷ xs) zero s c d l h = some-here (is_signal s c x) x.cell (first_cell xs s c) h
-some-at (x ∷ xs) (suc k) s c d l h = some-if (is_signal s c x) x.cell (first_cell xs s c) (some-at xs k s c d (omega arith) h)
+some-at (x ∷ xs) zero s c d l h = some-here (is_signal s c x) x (first_cell xs s c) h
+some-at (x ∷ xs) (suc k) s c d l h = some-if (is_signal s c x) x (first_cell xs s c) (some-at xs k s c d (omega arith) h)
 
 pub some-signal : (xs : List SignalEntry) (k s : ℕ) (c : AnyCode) (d : SignalEntry) → k < length xs → (get_or xs k d).satellite ≡ s → (get_or xs k d).code ≡ c → is_some (first_cell xs s c) ≡ true
 some-signal xs k s c d l h e =
@@ -126,32 +126,32 @@ other-code s c e h = false_from_ne_true (is_signal s c e) (λ t. h (same-code e.
 
 -- ---- the first cell of two lists
 
-abbrev pub or_later : Option Cell → Option Cell → Option Cell
+abbrev pub or_later : Option SignalEntry → Option SignalEntry → Option SignalEntry
 or_later None later = later
 or_later (Some c) later = Some c
 
-or-cond : (b : Bool) (x : Cell) (o p : Option Cell) → cond b (Some x) (or_later o p) ≡ or_later (cond b (Some x) o) p
+or-cond : (b : Bool) (x : SignalEntry) (o p : Option SignalEntry) → cond b (Some x) (or_later o p) ≡ or_later (cond b (Some x) o) p
 or-cond true x o p = refl
 or-cond false x o p = refl
 
-or-none : (o : Option Cell) → or_later o None ≡ o
+or-none : (o : Option SignalEntry) → or_later o None ≡ o
 or-none None = refl
 or-none (Some c) = refl
 
-some-or : (o p : Option Cell) → is_some o ≡ true → is_some (or_later o p) ≡ true
+some-or : (o p : Option SignalEntry) → is_some o ≡ true → is_some (or_later o p) ≡ true
 some-or None p h = cc
 some-or (Some c) p h = refl
 
 pub first-append : (xs ys : List SignalEntry) (s : ℕ) (c : AnyCode) → first_cell (xs ++ ys) s c ≡ or_later (first_cell xs s c) (first_cell ys s c)
 first-append [] ys s c = refl
 first-append (x ∷ xs) ys s c =
-    ap (λ (o : Option Cell). cond (is_signal s c x) (Some x.cell) o) (first-append xs ys s c) ∙ or-cond (is_signal s c x) x.cell (first_cell xs s c) (first_cell ys s c)
+    ap (λ (o : Option SignalEntry). cond (is_signal s c x) (Some x) o) (first-append xs ys s c) ∙ or-cond (is_signal s c x) x (first_cell xs s c) (first_cell ys s c)
 
 pub some-before : (xs ys : List SignalEntry) (s : ℕ) (c : AnyCode) → is_some (first_cell xs s c) ≡ true → is_some (first_cell (xs ++ ys) s c) ≡ true
 some-before xs ys s c h = ap is_some (first-append xs ys s c) ∙ some-or (first_cell xs s c) (first_cell ys s c) h
 
 pub none-both : (xs ys : List SignalEntry) (s : ℕ) (c : AnyCode) → first_cell xs s c ≡ None → first_cell ys s c ≡ None → first_cell (xs ++ ys) s c ≡ None
-none-both xs ys s c h k = first-append xs ys s c ∙ ap (λ (o : Option Cell). or_later o (first_cell ys s c)) h ∙ k
+none-both xs ys s c h k = first-append xs ys s c ∙ ap (λ (o : Option SignalEntry). or_later o (first_cell ys s c)) h ∙ k
 
 -- ---- the cells between two places
 
@@ -216,7 +216,7 @@ first-range xs i j s c p q l =
     first-append r (drop j xs) s c ∙ ap (or_later (first_cell r s c)) (none-drop xs j s c q) ∙ or-none (first_cell r s c) in
     let whole : take i xs ++ (r ++ drop j xs) ≡ xs = ap (λ (ys : List SignalEntry). take i xs ++ ys) (sym (drop_split xs i j l)) ∙ take-append-drop i xs in
     sym (ap (λ (ys : List SignalEntry). first_cell ys s c) (sym whole) ∙ first-append (take i xs) (r ++ drop j xs) s c
-    ∙ ap (λ (o : Option Cell). or_later o (first_cell (r ++ drop j xs) s c)) (none-take xs i s c p) ∙ after)
+    ∙ ap (λ (o : Option SignalEntry). or_later o (first_cell (r ++ drop j xs) s c)) (none-take xs i s c p) ∙ after)
 
 -- a satellite whose place is that of the next one has no cell
 pub first-absent : (xs : List SignalEntry) (i s : ℕ) (c : AnyCode) → IsPlaceOf s xs i → IsPlaceOf (s + 1) xs i → first_cell xs s c ≡ None

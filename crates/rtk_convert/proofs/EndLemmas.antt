@@ -84,7 +84,7 @@ remarks-same s y found h =
 -- the rest of the file was written, with this count of records
 abbrev pub EndsFile : SetupView → CollectorView SignalEntry → ClosedEpochsView → ℕ → Option (List ℕ) → Option (List ℕ) → Type 0
 EndsFile s w c count o out = (before : List Arrival) → RepresentsEpochs s (epochs w c) before
-    → (count ≡ record_count s.head.listed (kept signals (cells_by s) s.window before)) × WritesRest o out (file_so_far s before) (kept_file s before)
+    → (count ≡ record_count s.head.doppler s.head.listed (kept signals (cells_by s) s.window before)) × WritesRest o out (file_so_far s before) (kept_file s before)
 
 -- it breaks off in the file
 pub finish-part-file : {s : SetupView} {w : CollectorView SignalEntry} {c : ClosedEpochsView} {k : Counts} {y : Remarks} {b : Bool} {o : Written} {file : Option (List ℕ)} → ((before : List Arrival) → RepresentsEpochs s (epochs w c) before → WritesPartOfRest o.file file (file_so_far s before) (kept_file s before))

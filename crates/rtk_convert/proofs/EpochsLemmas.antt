@@ -1,5 +1,5 @@
 -- The epochs of a conversion: none at the start, what comes of an answer, and the end.
-use Rattle.std.proofs.Common.{◌≡◌, ◌∙◌, ℕ, zero, suc, ◌<◌, ◌≤◌, List, [], ◌∷◌, length, take, Option, None, Some, Result, Ok, Err, refl, sym, ap, subst, arith}
+use Rattle.std.proofs.Common.{◌≡◌, ◌∙◌, ℕ, zero, suc, ◌<◌, ◌≤◌, List, [], ◌∷◌, length, take, Option, None, Some, Result, Ok, Err, refl, sym, ap, subst, arith, Bool}
 use Rattle.std.specs.Prelude.{OnOk, IfErr}
 use Rattle.rtk_obs.specs.declared.any_code.AnyCode.{AnyCode}
 use Rattle.rtk_obs.specs.declared.signal_cells.SignalEntry.{SignalEntry}
@@ -55,11 +55,11 @@ nothing-kept s w is =
     (record { taken = λ k d lt. absurd (omega arith); window = record { sets = sym (take-none s.window); arp1005 = refl; arp1006 = refl } })
 
 pub new-epochs : {E : Type 0} (f : E → SignalEntry) (s : SetupView) (w : CollectorView E) (c : ClosedEpochsView) (size : ℕ) → w ≡ empty_window size → size ≡ s.window
-    → ((listed : List AnyCode) → HasClosed c listed []) → ((epoch : ℕ) → AllBelow c.tracks epoch) → AreNewEpochs s (epochs (window_of f w) c)
+    → ((doppler : Bool) (listed : List AnyCode) → HasClosed c doppler listed []) → ((epoch : ℕ) → AllBelow c.tracks epoch) → AreNewEpochs s (epochs (window_of f w) c)
 new-epochs f s w c size is same follows below =
     let empty : window_of f w ≡ empty_window s.window = ap (window_of f) is ∙ ap empty_window same in
     record {
-      represents = record { kept = nothing-kept s (window_of f w) empty; closed = follows s.head.listed };
+      represents = record { kept = nothing-kept s (window_of f w) empty; closed = follows s.head.doppler s.head.listed };
       places = ap (λ (x : CollectorView SignalEntry). x.places) empty;
       few = subst (λ (x : CollectorView SignalEntry). length x.sets ≤ s.window) (sym empty) (omega arith);
       ahead = ahead-none (window_of f w) c (below 0);
@@ -81,7 +81,7 @@ pub writes-lines : {T : Type 0} (r : Result T ConvertFault) {s : SetupView} {ope
 writes-lines {T} r {s} {opened} {old} {set} {lines} {o} {o'} seen none file report fault =
     subst (λ (x : Option (EpochSetView SignalEntry)). WritesAnswer s old x lines r opened o o') (sym none)
     (record {
-      closes = on_ok-from r (λ below h. subst (λ (x : EpochsView). HasClosed x.closed s.head.listed below) (sym seen) h);
+      closes = on_ok-from r (λ below h. subst (λ (x : EpochsView). HasClosed x.closed s.head.doppler s.head.listed below) (sym seen) h);
       below = on_ok-from r (ap (λ (x : EpochsView). x.closed) seen);
       file = λ below h. record { all = on_ok-from r (file ∙ sym (with_more-nil o.file)); part = subst (λ (x : Option (List ℕ)). TakesPart o.file x []) (sym file) (takes-none o.file []) };
       report = report;
@@ -91,9 +91,9 @@ writes-lines {T} r {s} {opened} {old} {set} {lines} {o} {o'} seen none file repo
 -- one closes, and the lines follow its record
 pub writes-record : {T : Type 0} (r : Result T ConvertFault) {s : SetupView} {w : CollectorView SignalEntry} {c c' : ClosedEpochsView} {old : EpochsView} {set : Option (EpochSetView SignalEntry)} {e : EpochSetView SignalEntry} {site : PositionView} {lines : List ℕ} {o o' : Written}
     → epochs w c ≡ old → set ≡ Some e → site ≡ site_of_window w
-    → ((below : List (EpochSetView SignalEntry)) → HasClosed c s.head.listed below → HasClosed c' s.head.listed (e ∷ below))
-    → ((below : List (EpochSetView SignalEntry)) → HasClosed c s.head.listed below → o'.file ≡ with_more o.file (closing s site e below))
-    → ((below : List (EpochSetView SignalEntry)) → HasClosed c s.head.listed below → TakesPart o.file o'.file (closing s site e below))
+    → ((below : List (EpochSetView SignalEntry)) → HasClosed c s.head.doppler s.head.listed below → HasClosed c' s.head.doppler s.head.listed (e ∷ below))
+    → ((below : List (EpochSetView SignalEntry)) → HasClosed c s.head.doppler s.head.listed below → o'.file ≡ with_more o.file (closing s site e below))
+    → ((below : List (EpochSetView SignalEntry)) → HasClosed c s.head.doppler s.head.listed below → TakesPart o.file o'.file (closing s site e below))
     → ((later : ℕ) → e.epoch < later → AllBelow c'.tracks later)
     → PutsText r o.report o'.report lines → IfErr r (λ f. f ≡ Write Log) → WritesAnswer s old set lines r (epochs w c') o o'
 writes-record {T} r {s} {w} {c} {c'} {old} {set} {e} {site} {lines} {o} {o'} seen some is follows all part later report fault =
@@ -113,7 +113,7 @@ writes-record {T} r {s} {w} {c} {c'} {old} {set} {e} {site} {lines} {o} {o'} see
 -- it breaks off in the record
 pub writes-part : {T : Type 0} (fault : ConvertFault) {s : SetupView} {w : CollectorView SignalEntry} {c : ClosedEpochsView} {old new : EpochsView} {set : Option (EpochSetView SignalEntry)} {e : EpochSetView SignalEntry} {site : PositionView} {lines : List ℕ} {o o' : Written}
     → epochs w c ≡ old → set ≡ Some e → site ≡ site_of_window w
-    → ((below : List (EpochSetView SignalEntry)) → HasClosed c s.head.listed below → TakesPart o.file o'.file (closing s site e below))
+    → ((below : List (EpochSetView SignalEntry)) → HasClosed c s.head.doppler s.head.listed below → TakesPart o.file o'.file (closing s site e below))
     → o'.report ≡ o.report → IsFrameFault fault → WritesAnswer {T = T} s old set lines (Err fault) new o o'
 writes-part {T} fault {s} {w} {c} {old} {new} {set} {e} {site} {lines} {o} {o'} seen some is part report frame =
     subst (λ (x : EpochsView). WritesAnswer {T = T} s x set lines (Err fault) new o o') seen

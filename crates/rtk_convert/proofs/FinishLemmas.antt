@@ -34,16 +34,16 @@ use Rattle.rtk_convert.proofs.WritingLemmas.{writes-none, writes-on, part-text, 
 pub record SomeClosed (s : SetupView) (site : PositionView) (held now : List (EpochSetView SignalEntry)) (first last : ClosedEpochsView) (o o' : Option (List ℕ)) : Type 0 where
   pub gone : List (EpochSetView SignalEntry)
   pub split : held ≡ now ++ gone
-  pub wrote : (below : List (EpochSetView SignalEntry)) → HasClosed first s.head.listed below
-      → HasClosed last s.head.listed (gone ++ below) × WritesRest o o' (closed_text s site below) (closed_text s site (gone ++ below))
+  pub wrote : (below : List (EpochSetView SignalEntry)) → HasClosed first s.head.doppler s.head.listed below
+      → HasClosed last s.head.doppler s.head.listed (gone ++ below) × WritesRest o o' (closed_text s site below) (closed_text s site (gone ++ below))
 
 pub some-none : (s : SetupView) (site : PositionView) (held : List (EpochSetView SignalEntry)) (c : ClosedEpochsView) (o : Option (List ℕ)) → SomeClosed s site held held c c o o
 some-none s site held c o = record { gone = []; split = sym (append-nil held); wrote = λ below f. (f, writes-none o _ _ refl) }
 
 pub some-more : {s : SetupView} {site : PositionView} {held now next : List (EpochSetView SignalEntry)} {e : EpochSetView SignalEntry} {first last last' : ClosedEpochsView} {o o' o'' : Option (List ℕ)}
     → SomeClosed s site held now first last o o' → now ≡ next ++ e ∷ []
-    → ((below : List (EpochSetView SignalEntry)) → HasClosed last s.head.listed below → HasClosed last' s.head.listed (e ∷ below))
-    → ((below : List (EpochSetView SignalEntry)) → HasClosed last s.head.listed below → o'' ≡ with_more o' (closing s site e below))
+    → ((below : List (EpochSetView SignalEntry)) → HasClosed last s.head.doppler s.head.listed below → HasClosed last' s.head.doppler s.head.listed (e ∷ below))
+    → ((below : List (EpochSetView SignalEntry)) → HasClosed last s.head.doppler s.head.listed below → o'' ≡ with_more o' (closing s site e below))
     → SomeClosed s site held next first last' o o''
 some-more {s} {site} {held} {now} {next} {e} {first} {last} {last'} {o} {o'} {o''} l cut follows out = record {
   gone = e ∷ l.gone;
@@ -61,13 +61,13 @@ some-all s site held now first last o o' l none = λ below f.
     let w = l.wrote below f in
     let all : held ≡ l.gone = l.split ∙ ap (λ t. t ++ l.gone) none in
     record {
-      follows = subst (λ (t : List (EpochSetView SignalEntry)). HasClosed last s.head.listed (t ++ below)) (sym all) w.0;
+      follows = subst (λ (t : List (EpochSetView SignalEntry)). HasClosed last s.head.doppler s.head.listed (t ++ below)) (sym all) w.0;
       out = subst (λ (t : List (EpochSetView SignalEntry)). WritesRest o o' (closed_text s site below) (closed_text s site (t ++ below))) (sym all) w.1;
     }
 
 pub some-part : {s : SetupView} {site : PositionView} {held now : List (EpochSetView SignalEntry)} (next : List (EpochSetView SignalEntry)) (e : EpochSetView SignalEntry) {first last : ClosedEpochsView} {o o' o'' : Option (List ℕ)}
     → SomeClosed s site held now first last o o' → now ≡ next ++ e ∷ []
-    → ((below : List (EpochSetView SignalEntry)) → HasClosed last s.head.listed below → TakesPart o' o'' (closing s site e below))
+    → ((below : List (EpochSetView SignalEntry)) → HasClosed last s.head.doppler s.head.listed below → TakesPart o' o'' (closing s site e below))
     → ClosesEpochsInPart s site first held o o''
 some-part {s} {site} {held} {now} next e {first} {last} {o} {o'} {o''} l cut part = λ below f.
     let w = l.wrote below f in
@@ -99,7 +99,7 @@ module _ {s : SetupView} {w : CollectorView SignalEntry} {c : ClosedEpochsView} 
       so_far-is s A ∙ ap (λ (x : PositionView). closed_text s x (closed signals (cells_by s) s.window A)) (sym (site-kept s w A size rep.kept.window) ∙ sym is)
 
   file-text : (A : List Arrival) → RepresentsEpochs s (epochs w c) A
-      → kept_file s A ≡ closed_text s site (w.sets ++ closed signals (cells_by s) s.window A) ++ header_before s site s.near (is_some (first_time s.head.listed (w.sets ++ closed signals (cells_by s) s.window A)))
+      → kept_file s A ≡ closed_text s site (w.sets ++ closed signals (cells_by s) s.window A) ++ header_before s site s.near (is_some (first_time s.head.doppler s.head.listed (w.sets ++ closed signals (cells_by s) s.window A)))
   file-text A rep =
       ap (λ (x : PositionView). file_of s x (kept signals (cells_by s) s.window A)) (sym (site-kept s w A size rep.kept.window) ∙ sym is)
       ∙ ap (file_of s site) (sym (kept-all s w A size rep.kept.window))
@@ -108,10 +108,10 @@ module _ {s : SetupView} {w : CollectorView SignalEntry} {c : ClosedEpochsView} 
   -- all was written
   pub finish-all : {c' : ClosedEpochsView} {o mid out : Option (List ℕ)} → ClosesEpochs s site c w.sets c' o mid → out ≡ with_more mid (header_before s site s.near c'.is_header_out)
       → (A : List Arrival) → RepresentsEpochs s (epochs w c) A
-      → (c'.count ≡ record_count s.head.listed (kept signals (cells_by s) s.window A)) × WritesRest o out (file_so_far s A) (kept_file s A)
+      → (c'.count ≡ record_count s.head.doppler s.head.listed (kept signals (cells_by s) s.window A)) × WritesRest o out (file_so_far s A) (kept_file s A)
   finish-all {c'} {o} {mid} {out} closes header A rep =
       let t = closes (closed signals (cells_by s) s.window A) rep.closed in (
-        t.follows.count ∙ ap (record_count s.head.listed) (kept-all s w A size rep.kept.window),
+        t.follows.count ∙ ap (record_count s.head.doppler s.head.listed) (kept-all s w A size rep.kept.window),
         writes-on o mid out (file_so_far s A) (closed_text s site (w.sets ++ closed signals (cells_by s) s.window A)) (kept_file s A)
             (t.out.0, t.out.1 ∙ ap (λ x. x ++ t.out.0) (sym (so_far-text A rep)), t.out.2)
             (_, file-text A rep, header ∙ ap (λ (x : Bool). with_more mid (header_before s site s.near x)) t.follows.is_header_out),

@@ -1,5 +1,5 @@
 -- What a window of GPS answers, with its cells as signals of any system.
-use Rattle.std.proofs.Common.{◌≡◌, ◌≢◌, ◌∙◌, ◌↔◌, filter, ℕ, ◌+◌, ◌-◌, ◌*◌, ◌<◌, ℤ, Bool, true, false, cond, List, [], ◌∷◌, ◌++◌, map, take, Option, None, Some, inl, inr, refl, ap, sym, subst, arith, nat_eq}
+use Rattle.std.proofs.Common.{◌≡◌, ◌≢◌, ◌∙◌, ◌↔◌, filter, ℕ, ◌+◌, ◌-◌, ◌*◌, ◌<◌, ℤ, Bool, true, false, cond, List, [], ◌∷◌, ◌++◌, map, take, Option, None, Some, inl, inr, refl, ap, sym, subst, arith, nat_eq, not}
 use Rattle.std.specs.Prelude.{All, IsTrue, option_map, option_to_list, nat_lt, nat_le, ◌==◌, ◌||◌, ◌&&◌, not}
 use Rattle.std.specs.List.{list_all, list_any}
 use Rattle.std.proofs.lemmas.Bool.{cases_order, cases_lt, cases_Bool, and_parts, both_ways, eqb-true}
@@ -68,9 +68,20 @@ lists-none (c ∷ listed) m h ne =
     let p = and_parts (letter c == 71) (list_all (λ c. letter c == 71) listed) h in
     not-first (letter c == m) (list_any (λ c. letter c == m) listed) (letter-no (letter c) m p.0 ne) (lists-none listed m p.1 ne)
 
+-- all codes are of GPS, and the file shows no Doppler shifts
+gps-alone : (s : SetupView) → IsTrue (is_of_gps s) → list_all (λ c. letter c == 71) s.head.listed ≡ true
+gps-alone s is = (and_parts (not s.head.doppler) (list_all (λ c. letter c == 71) s.head.listed) is).1
+
+not-shown : (b : Bool) → not b ≡ true → b ≡ false
+not-shown false h = refl
+not-shown true h = absurd cc
+
+pub shows-none : (s : SetupView) → IsTrue (is_of_gps s) → s.head.doppler ≡ false
+shows-none s is = not-shown s.head.doppler (and_parts (not s.head.doppler) (list_all (λ c. letter c == 71) s.head.listed) is).0
+
 -- no kind of another system is taken
 kinds-none : (s : SetupView) (system : System) → IsTrue (is_of_gps s) → letter_of system ≢ 71 → kinds_taken s system ≡ accepted.no_kind
-kinds-none s system is ne = rw (lists-none s.head.listed (letter_of system) is ne) refl
+kinds-none s system is ne = rw (lists-none s.head.listed (letter_of system) (gps-alone s is) ne) refl
 
 and-false : (b : Bool) → (b && false) ≡ false
 and-false true = refl
@@ -78,11 +89,13 @@ and-false false = refl
 
 -- 1012 is not taken
 none-of-1012 : (s : SetupView) → IsTrue (is_of_gps s) → obs1012_taken s ≡ false
-none-of-1012 s is = ap (λ (b : Bool). s.takes_1012 && b) (lists-none s.head.listed (letter_of Glonass) is (λ e. omega arith)) ∙ and-false s.takes_1012
+none-of-1012 s is = ap (λ (b : Bool). s.takes_1012 && b) (lists-none s.head.listed (letter_of Glonass) (gps-alone s is) (λ e. omega arith)) ∙ and-false s.takes_1012
 
 -- the cells are those without SBAS in a 1004
 pub gps-cells : (s : SetupView) → IsTrue (is_of_gps s) → cells_by s ≡ entries_of (channels_of s.head.glonass)
-gps-cells s is = ap (λ (b : Bool). entries_by b (channels_of s.head.glonass)) (lists-none s.head.listed (letter_of Sbas) is (λ e. omega arith))
+gps-cells s is =
+    ap (λ (b : Bool). entries_by b s.head.doppler (channels_of s.head.glonass)) (lists-none s.head.listed (letter_of Sbas) (gps-alone s is) (λ e. omega arith))
+    ∙ ap (λ (d : Bool). entries_by false d (channels_of s.head.glonass)) (shows-none s is)
 
 pub taken-of-gps : (s : SetupView) → IsTrue (is_of_gps s) → taken_by s ≡ accepted.of_gps (kinds_taken s Gps)
 taken-of-gps s is =

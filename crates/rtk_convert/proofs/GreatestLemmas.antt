@@ -25,6 +25,7 @@ use Rattle.rtk_obs.specs.declared.any_code.AnyCode.{AnyCode}
 use Rattle.rtk_obs.specs.declared.cell.CellEntry.{CellEntry}
 use Rattle.rtk_obs.specs.declared.signal_cells.SignalEntry.{SignalEntry}
 use Rattle.rtk_obs.specs.Cell.{IsSatellite}
+use Rattle.rtk_obs.specs.Doppler.{doppler_entry_if, doppler_entry, doppler_entries, entries_with_doppler}
 use Rattle.rtk_obs.specs.GlonassCells.{entries_of_1012, first_of_slots, glonass_channel, glonass_entries, glonass_l2_code, glonass_l2_entries, slot_entries}
 use Rattle.rtk_obs.specs.Mask.{join_from}
 use Rattle.rtk_obs.specs.MessageCells.{cells_of}
@@ -38,7 +39,7 @@ use Rattle.rtk_collect.specs.Accepted.{kept}
 use Rattle.rtk_collect.specs.Arrival.{Arrival, message_of}
 use Rattle.rtk_collect.specs.Collector.{CollectorView}
 use Rattle.rtk_collect.specs.EpochSet.{EpochSetView}
-use Rattle.rtk_collect.specs.Signals.{signals, AreUpTo, entries_by}
+use Rattle.rtk_collect.specs.Signals.{signals, AreUpTo, plain_entries_by, entries_by}
 use Rattle.rtk_collect.proofs.PublicLaws.{epochs-are-of-satellites}
 use Rattle.rtk_convert.specs.Conversion.{AllTaken, HoldsArrivals}
 use Rattle.rtk_setup.specs.Setup.{SetupView, taken_by, kind_of, lists_system, last_or, greatest_satellite, cells_by, channels_of, obs1012_taken}
@@ -82,6 +83,20 @@ slots-up-to channels m k (s ∷ slots) =
     (slots-up-to channels m (suc k) slots)
 
 -- the satellites of a 1012
+shift-up-to : (limit : ℕ) (m : Msm) (k row : ℕ) (channel : Option ℤ) (o : Option ℕ) (c : Option AnyCode) → IfSome o (λ i. i ≤ limit) → All (IsUpTo limit) (doppler_entry_if m k row channel o c)
+shift-up-to limit m k row channel None c h = All-nil (IsUpTo limit)
+shift-up-to limit m k row channel (Some i) None h = All-nil (IsUpTo limit)
+shift-up-to limit m k row channel (Some i) (Some c) h = All-cons (IsUpTo limit) _ [] h (All-nil (IsUpTo limit))
+
+shifts-up-to : (channels : List (Option ℤ)) (m : Msm) (k : ℕ) (slots : List Slot) → All (IsUpTo (last_of m.system)) (join_from (doppler_entry channels m) k slots)
+unfolding join_from
+shifts-up-to channels m k [] = All-nil (IsUpTo (last_of m.system))
+shifts-up-to channels m k (s ∷ slots) =
+    All-append (IsUpTo (last_of m.system)) (doppler_entry channels m k s) (join_from (doppler_entry channels m) (suc k) slots)
+    (shift-up-to (last_of m.system) m k s.row (channel_in m.system channels (bit_of_row m s.row) (field_of_row m s.row)) (index_in m.system (bit_of_row m s.row)) (code_in m.system s.signal)
+    (index-up-to m.system (bit_of_row m s.row)))
+    (shifts-up-to channels m (suc k) slots)
+
 l2-up-to : (limit : ℕ) (s : GlonassSatellite) (channel : Option ℤ) (i : ℕ) (o : Option AnyCode) → i ≤ limit → All (IsUpTo limit) (glonass_l2_entries s channel i o)
 l2-up-to limit s channel i None h = All-nil (IsUpTo limit)
 l2-up-to limit s channel i (Some code) h = All-cons (IsUpTo limit) _ [] h (All-nil (IsUpTo limit))
@@ -177,7 +192,7 @@ module _ (s : SetupView) where
 
   -- a 1004, by whether a code of SBAS is listed
   legacy-up-to : (b : Bool) (m : Obs1004Message) → lists_system s.head.listed Sbas ≡ b → (lists_system s.head.listed Gps || b) ≡ true
-      → All (IsUpTo (greatest_satellite s)) (entries_by b (channels_of s.head.glonass) (any.Message (Obs1004 m)))
+      → All (IsUpTo (greatest_satellite s)) (plain_entries_by b (channels_of s.head.glonass) (any.Message (Obs1004 m)))
   legacy-up-to true m is h =
       let low = greatest-from Sbas is in
       All-weaker (IsUpTo 207) (IsUpTo (greatest_satellite s)) (λ e up. omega (arith, up, low)) (signals_of_1004 m.satellites) (each-signal (IsUpTo 207) gps-low sbas-low m.satellites)
@@ -196,7 +211,7 @@ module _ (s : SetupView) where
       All-weaker (IsUpTo (last_of m.system)) (IsUpTo (greatest_satellite s)) (λ e is. omega (arith, is, low)) (signal_entries (channels_of s.head.glonass) m)
       (slots-up-to (channels_of s.head.glonass) m 0 (slots_of m.header m.cell_mask))
 
-  up-to-by : (b : Bool) (m : Message) → lists_system s.head.listed Sbas ≡ b → IsTakenBy s m → All (IsUpTo (greatest_satellite s)) (entries_by b (channels_of s.head.glonass) m)
+  up-to-by : (b : Bool) (m : Message) → lists_system s.head.listed Sbas ≡ b → IsTakenBy s m → All (IsUpTo (greatest_satellite s)) (plain_entries_by b (channels_of s.head.glonass) m)
   up-to-by true (any.Message (Obs1004 m)) is h = legacy-up-to true m is (subst (λ (b : Bool). (lists_system s.head.listed Gps || b) ≡ true) is h)
   up-to-by true (any.Message (Arp1005 m)) is h = All-nil (IsUpTo (greatest_satellite s))
   up-to-by true (any.Message (Arp1006 m)) is h = All-nil (IsUpTo (greatest_satellite s))
@@ -210,10 +225,27 @@ module _ (s : SetupView) where
   up-to-by false (any.Msm m) is h = msm-up-to m h
   up-to-by false (any.Obs1012 m) is h = up-to-1012 m h
 
-  pub message-up-to : (m : Message) → IsTakenBy s m → All (IsUpTo (greatest_satellite s)) (cells_by s m)
-  message-up-to m h = up-to-by (lists_system s.head.listed Sbas) m refl h
+  shifted-up-to : (m : Msm) → IsTakenBy s (any.Msm m) → All (IsUpTo (greatest_satellite s)) (doppler_entries (channels_of s.head.glonass) m)
+  shifted-up-to m h =
+      let listed = takes-listed m.system m.kind (sym (accepts-type (taken_by s) (type_of m)) ∙ accepts-taken s (number_of (any.Msm m)) h) in
+      let low = greatest-from m.system listed in
+      All-weaker (IsUpTo (last_of m.system)) (IsUpTo (greatest_satellite s)) (λ e is. omega (arith, is, low)) (doppler_entries (channels_of s.head.glonass) m)
+      (shifts-up-to (channels_of s.head.glonass) m 0 (slots_of m.header m.cell_mask))
 
-  arrivals-up-to : (arrivals : List Arrival) → AllTaken s arrivals → AreUpTo (lists_system s.head.listed Sbas) (channels_of s.head.glonass) (greatest_satellite s) arrivals
+  with-shifts-up-to : (b : Bool) (m : Message) → lists_system s.head.listed Sbas ≡ b → IsTakenBy s m
+      → All (IsUpTo (greatest_satellite s)) (entries_with_doppler (plain_entries_by b (channels_of s.head.glonass)) (channels_of s.head.glonass) m)
+  with-shifts-up-to b (any.Message m) is h = up-to-by b (any.Message m) is h
+  with-shifts-up-to b (any.Msm m) is h = shifted-up-to m h
+  with-shifts-up-to b (any.Obs1012 m) is h = up-to-by b (any.Obs1012 m) is h
+
+  up-to-in : (b doppler : Bool) (m : Message) → lists_system s.head.listed Sbas ≡ b → IsTakenBy s m → All (IsUpTo (greatest_satellite s)) (entries_by b doppler (channels_of s.head.glonass) m)
+  up-to-in b true m is h = with-shifts-up-to b m is h
+  up-to-in b false m is h = up-to-by b m is h
+
+  pub message-up-to : (m : Message) → IsTakenBy s m → All (IsUpTo (greatest_satellite s)) (cells_by s m)
+  message-up-to m h = up-to-in (lists_system s.head.listed Sbas) s.head.doppler m refl h
+
+  arrivals-up-to : (arrivals : List Arrival) → AllTaken s arrivals → AreUpTo (lists_system s.head.listed Sbas) s.head.doppler (channels_of s.head.glonass) (greatest_satellite s) arrivals
   arrivals-up-to arrivals h =
       All-weaker (λ (a : Arrival). IsTakenBy s (message_of a)) (λ (a : Arrival). All (IsUpTo (greatest_satellite s)) (cells_by s (message_of a))) (λ a taken. message-up-to (message_of a) taken) arrivals h
 
@@ -222,4 +254,4 @@ module _ (s : SetupView) where
   cells-few w p =
       subst (All (λ (e : EpochSetView SignalEntry). length e.cells ≤ 32 * greatest_satellite s)) (sym p.1.window.sets)
       (All-take (λ (e : EpochSetView SignalEntry). length e.cells ≤ 32 * greatest_satellite s) w.places (kept signals (cells_by s) w.places p.0)
-      (epochs-are-of-satellites (lists_system s.head.listed Sbas) (channels_of s.head.glonass) (greatest_satellite s) w.places p.0 (arrivals-up-to p.0 p.1.taken)))
+      (epochs-are-of-satellites (lists_system s.head.listed Sbas) s.head.doppler (channels_of s.head.glonass) (greatest_satellite s) w.places p.0 (arrivals-up-to p.0 p.1.taken)))

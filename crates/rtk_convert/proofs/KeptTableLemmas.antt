@@ -102,7 +102,7 @@ module _ (s : SetupView) where
   kept-good n (At (Some e) m ∷ before) h = elim (cases_Bool (late n (At (Some e) m) before)) [
     | inl over ↦ subst (AllByRecursion (IsGoodEpoch s)) (sym (kept-late signals (cells_by s) n e m before over)) (kept-good n before h.1)
     | inr fresh ↦ subst (AllByRecursion (IsGoodEpoch s)) (sym (kept-new signals (cells_by s) n e m before fresh))
-        (with_arrival-good e (cells_by s m) (kept signals (cells_by s) n before) h.0.1 (in-range (lists_system s.head.listed Sbas) (channels_of s.head.glonass) m h.0.0, phases-by s.head (lists_system s.head.listed Sbas) m) (kept-good n before h.1))
+        (with_arrival-good e (cells_by s m) (kept signals (cells_by s) n before) h.0.1 (in-range (lists_system s.head.listed Sbas) s.head.doppler (channels_of s.head.glonass) m h.0.0, phases-by s.head (lists_system s.head.listed Sbas) s.head.doppler m) (kept-good n before h.1))
   ]
 
 -- ---- and so is the position
@@ -153,7 +153,7 @@ site-good short (Some (any.Obs1012 m)) s t = site_of_1005-good short s
 
 pub kept-file-has_records : (s : SetupView) (found : List Found) → IsSetupView s → All (HasPayload s) found
     → (t : MixedTable) × IsMixedTable t × (kept_file s (arrivals found) ≡ mixed_table_text t)
-    × (length (kept signals (cells_by s) s.window (arrivals found)) < 2 ^ 64 → length t.epochs ≡ record_count s.head.listed (kept signals (cells_by s) s.window (arrivals found)))
+    × (length (kept signals (cells_by s) s.window (arrivals found)) < 2 ^ 64 → length t.epochs ≡ record_count s.head.doppler s.head.listed (kept signals (cells_by s) s.window (arrivals found)))
 kept-file-has_records s found good_setup h =
     let n : ℕ = s.window in
     let good = arrivals-good s found good_setup.1 (recursion_from_All (HasPayload s) found h) in

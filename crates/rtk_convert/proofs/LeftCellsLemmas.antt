@@ -6,7 +6,6 @@ use Rattle.std.specs.List.{list_any}
 use Rattle.std.proofs.lemmas.Bool.{eqb-true}
 use Rattle.std.proofs.lemmas.Bool.Decides.{nat_tests}
 use Rattle.rtk_obs.specs.declared.any_code.AnyCode.{AnyCode}
-use Rattle.rtk_obs.specs.declared.cell.Cell.{Cell}
 use Rattle.rtk_obs.specs.declared.signal_cells.SignalEntry.{SignalEntry}
 use Rattle.rtk_obs.specs.AnyCode.{number_of}
 use Rattle.rtk_obs.proofs.PublicLaws.{number_below}
@@ -28,7 +27,7 @@ is-number s c e = test-is e.satellite s (number_of e.code) (number_of c) (number
 number-is : (s : ℕ) (c : AnyCode) (e : SignalEntry) → is_signal s c e ≡ true → signal_number e.satellite e.code ≡ signal_number s c
 number-is s c e h = eqb-true (signal_number e.satellite e.code) (signal_number s c) (is-number s c e ∙ h)
 
-some-step : (b t : Bool) (x : Cell) (o : Option Cell) → t ≡ is_some o → (b || t) ≡ is_some (cond b (Some x) o)
+some-step : (b t : Bool) (x : SignalEntry) (o : Option SignalEntry) → t ≡ is_some o → (b || t) ≡ is_some (cond b (Some x) o)
 some-step true t x o h = refl
 some-step false t x o h = h
 
@@ -36,10 +35,10 @@ has-first : (known : List SignalEntry) (s : ℕ) (c : AnyCode) → has_number kn
 has-first [] s c = refl
 has-first (x ∷ xs) s c =
     ap (λ (b : Bool). b || has_number xs (signal_number s c)) (is-number s c x)
-    ∙ some-step (is_signal s c x) (has_number xs (signal_number s c)) x.cell (first_cell xs s c) (has-first xs s c)
+    ∙ some-step (is_signal s c x) (has_number xs (signal_number s c)) x (first_cell xs s c) (has-first xs s c)
 
-left-step : (b t : Bool) (s : ℕ) (c : AnyCode) (x : SignalEntry) (rest : List SignalEntry) (o : Option Cell) → is_signal s c x ≡ b → (b ≡ true → t ≡ false) → first_cell rest s c ≡ o
-    → first_cell (cond (not t) (x ∷ rest) rest) s c ≡ cond b (Some x.cell) o
+left-step : (b t : Bool) (s : ℕ) (c : AnyCode) (x : SignalEntry) (rest : List SignalEntry) (o : Option SignalEntry) → is_signal s c x ≡ b → (b ≡ true → t ≡ false) → first_cell rest s c ≡ o
+    → first_cell (cond (not t) (x ∷ rest) rest) s c ≡ cond b (Some x) o
 left-step true true s c x rest o e n h = let f : true ≡ false = n refl in cc
 left-step true false s c x rest o e n h = rw e refl
 left-step false true s c x rest o e n h = h
@@ -51,7 +50,7 @@ left-first known (x ∷ xs) s c h =
     left-step (is_signal s c x) (has_number known (signal_number x.satellite x.code)) s c x (left_beside signals known xs) (first_cell xs s c) refl
     (λ t. ap (has_number known) (number-is s c x t) ∙ h) (left-first known xs s c h)
 
-left-or : (o : Option Cell) (known cells : List SignalEntry) (s : ℕ) (c : AnyCode) → first_cell known s c ≡ o
+left-or : (o : Option SignalEntry) (known cells : List SignalEntry) (s : ℕ) (c : AnyCode) → first_cell known s c ≡ o
     → or_later o (first_cell (left_beside signals known cells) s c) ≡ or_later o (first_cell cells s c)
 left-or None known cells s c e = left-first known cells s c (has-first known s c ∙ ap is_some e)
 left-or (Some x) known cells s c e = refl

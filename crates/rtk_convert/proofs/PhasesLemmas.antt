@@ -1,5 +1,5 @@
 -- A cell of a satellite of GLONASS has no phase unless the head tells the channel of its slot.
-use Rattle.std.proofs.Common.{◌≡◌, ◌≢◌, ◌∙◌, ◌+◌, ◌-◌, ◌≤◌, ℕ, suc, Bool, true, false, List, [], ◌∷◌, Option, None, Some, ℤ, cond, inl, inr, refl, ap, subst, arith}
+use Rattle.std.proofs.Common.{◌≡◌, ◌≢◌, ◌∙◌, ◌+◌, ◌-◌, ◌≤◌, ℕ, suc, Bool, true, false, List, [], ◌∷◌, Option, None, Some, ℤ, cond, inl, inr, refl, ap, subst, arith, pos}
 use Rattle.std.specs.Prelude.{All, IfSome, nat_le, is_some, ◌==◌}
 use Rattle.std.specs.List.{flat_map}
 use Rattle.std.proofs.lemmas.Bool.{cases_Bool, and_parts}
@@ -20,6 +20,7 @@ use Rattle.rtk_obs.specs.declared.signal_cells.SignalEntry.{SignalEntry}
 use Rattle.rtk_obs.specs.AnyCode.{carrier_of}
 use Rattle.rtk_obs.specs.Carriers.{channel_at, frequency_at}
 use Rattle.rtk_obs.specs.Cell.{IsSatellite}
+use Rattle.rtk_obs.specs.Doppler.{doppler_on, rate_at, doppler_entry_if, doppler_entry, entries_with_doppler}
 use Rattle.rtk_obs.specs.GlonassCells.{first_of_slots, glonass_channel, glonass_l1_cell, glonass_l1_code, glonass_l1_entry, glonass_l2_cell, glonass_l2_code, glonass_l2_entries, glonass_l2_entry, slot_entries, unless_other_in_1012}
 use Rattle.rtk_obs.specs.Mask.{join_from}
 use Rattle.rtk_obs.specs.MessageCells.{cells_of}
@@ -29,7 +30,7 @@ use Rattle.rtk_obs.specs.SbasCells.{entries_with_sbas}
 use Rattle.rtk_obs.specs.Signals.{code_in}
 use Rattle.rtk_obs.specs.SignalCells.{bit_of_row, channel_in, entries_of, entry_if, field_of_row, signal_entry, signal_of}
 use Rattle.rtk_obs.proofs.PublicLaws.{cells_of-satellites}
-use Rattle.rtk_collect.specs.Signals.{entries_by}
+use Rattle.rtk_collect.specs.Signals.{plain_entries_by, entries_by}
 use Rattle.rtk_rinex.specs.MixedForm.{form_of_head, has_channel, has_phases, phases_in}
 use Rattle.rtk_rinex.specs.MixedHead.{GlonassView, MixedHeadView}
 use Rattle.rtk_setup.specs.Setup.{channels_of}
@@ -112,7 +113,7 @@ l2-frequency n = l2-frequency-if (n == 0) (n == 1)
 
 module _ (h : MixedHeadView) where
   abbrev HasPhase : SignalEntry → Type 0
-  HasPhase e = has_phases (form_of_head h) e.satellite ≡ false → e.cell.phase_millicycles ≡ None
+  HasPhase e = has_phases (form_of_head h) e.satellite ≡ false → (e.cell.phase_millicycles ≡ None) × (e.doppler_millihertz ≡ pos 0)
 
   of-another : (e : SignalEntry) (s : System) → system_at e.satellite ≡ s → s ≢ Glonass → HasPhase e
   of-another e s is ne none =
@@ -128,15 +129,22 @@ module _ (h : MixedHeadView) where
       none-told h.glonass bit (subst (λ (n : ℕ). has_channel h.glonass n ≡ false) slot untold)
 
   of-glonass : (m : Msm) (k row bit field signal : ℕ) (code : AnyCode) → code_in Glonass signal ≡ Some code → is_taken Glonass bit ≡ true
-      → HasPhase (record { satellite = 32 + bit; code = code; cell = cell_on m k row (frequency_at (carrier_of code) (channel_in Glonass (channels_of h.glonass) bit field)) })
+      → HasPhase (record { satellite = 32 + bit; code = code; doppler_millihertz = pos 0; cell = cell_on m k row (frequency_at (carrier_of code) (channel_in Glonass (channels_of h.glonass) bit field)) })
   of-glonass m k row bit field signal code is taken none =
-      let channel = channel-none (channels_of h.glonass) bit field (untold-slot bit taken none) in
-      ap (λ (o : Option ℤ). (cell_on m k row (frequency_at (carrier_of code) o)).phase_millicycles) channel
-      ∙ ap (λ (f : Option ℕ). (cell_on m k row f).phase_millicycles) (glonass-frequency signal code is)
+      let channel = channel-none (channels_of h.glonass) bit field (untold-slot bit taken none) in (
+        ap (λ (o : Option ℤ). (cell_on m k row (frequency_at (carrier_of code) o)).phase_millicycles) channel
+            ∙ ap (λ (f : Option ℕ). (cell_on m k row f).phase_millicycles) (glonass-frequency signal code is),
+        refl,
+      )
 
   abbrev entry_of : System → Msm → ℕ → ℕ → ℕ → ℕ → AnyCode → SignalEntry
   entry_of s m k row bit field code =
-      record { satellite = satellites_before s + bit; code = code; cell = cell_on m k row (frequency_at (carrier_of code) (channel_in s (channels_of h.glonass) bit field)) }
+      record { satellite = satellites_before s + bit; code = code; doppler_millihertz = pos 0; cell = cell_on m k row (frequency_at (carrier_of code) (channel_in s (channels_of h.glonass) bit field)) }
+
+  abbrev shift_entry_of : System → Msm → ℕ → ℕ → ℕ → ℕ → AnyCode → SignalEntry
+  shift_entry_of s m k row bit field code =
+      let frequency = frequency_at (carrier_of code) (channel_in s (channels_of h.glonass) bit field) in
+      record { satellite = satellites_before s + bit; code = code; doppler_millihertz = doppler_on frequency (rate_at m k row); cell = cell_on m k row frequency }
 
   of-system : (s : System) (m : Msm) (k row bit field signal : ℕ) (code : AnyCode) → code_in s signal ≡ Some code → is_taken s bit ≡ true
       → HasPhase (entry_of s m k row bit field code)
@@ -149,7 +157,7 @@ module _ (h : MixedHeadView) where
   of-system Navic m k row bit field signal code is taken = of-another (entry_of Navic m k row bit field code) Navic (system-of Navic bit taken) (λ e. cc)
 
   of-code : (m : Msm) (k row satellite : ℕ) (channel : Option ℤ) (c : Option AnyCode)
-      → ((code : AnyCode) → c ≡ Some code → HasPhase (record { satellite = satellite; code = code; cell = cell_on m k row (frequency_at (carrier_of code) channel) }))
+      → ((code : AnyCode) → c ≡ Some code → HasPhase (record { satellite = satellite; code = code; doppler_millihertz = pos 0; cell = cell_on m k row (frequency_at (carrier_of code) channel) }))
       → All HasPhase (entry_if m k row channel (Some satellite) c)
   of-code m k row satellite channel None f = All-nil HasPhase
   of-code m k row satellite channel (Some code) f = All-cons HasPhase _ [] (f code refl) (All-nil HasPhase)
@@ -171,15 +179,19 @@ module _ (h : MixedHeadView) where
   -- the entries of a 1012
   of-l1 : (s : GlonassSatellite) (code : AnyCode) → frequency_at (carrier_of code) None ≡ None → is_taken Glonass s.slot ≡ true
       → HasPhase (glonass_l1_entry s (glonass_channel (channels_of h.glonass) s) (32 + s.slot) code)
-  of-l1 s code is taken none =
-      ap (λ (o : Option ℤ). (glonass_l1_cell s (frequency_at (carrier_of code) (unless_other_in_1012 s.channel o))).phase_millicycles) (untold-slot s.slot taken none)
-      ∙ ap (λ (f : Option ℕ). (glonass_l1_cell s f).phase_millicycles) is
+  of-l1 s code is taken none = (
+    ap (λ (o : Option ℤ). (glonass_l1_cell s (frequency_at (carrier_of code) (unless_other_in_1012 s.channel o))).phase_millicycles) (untold-slot s.slot taken none)
+        ∙ ap (λ (f : Option ℕ). (glonass_l1_cell s f).phase_millicycles) is,
+    refl,
+  )
 
   of-l2 : (s : GlonassSatellite) (code : AnyCode) → frequency_at (carrier_of code) None ≡ None → is_taken Glonass s.slot ≡ true
       → HasPhase (glonass_l2_entry s (glonass_channel (channels_of h.glonass) s) (32 + s.slot) code)
-  of-l2 s code is taken none =
-      ap (λ (o : Option ℤ). (glonass_l2_cell s (frequency_at (carrier_of code) (unless_other_in_1012 s.channel o))).phase_millicycles) (untold-slot s.slot taken none)
-      ∙ ap (λ (f : Option ℕ). (glonass_l2_cell s f).phase_millicycles) is
+  of-l2 s code is taken none = (
+    ap (λ (o : Option ℤ). (glonass_l2_cell s (frequency_at (carrier_of code) (unless_other_in_1012 s.channel o))).phase_millicycles) (untold-slot s.slot taken none)
+        ∙ ap (λ (f : Option ℕ). (glonass_l2_cell s f).phase_millicycles) is,
+    refl,
+  )
 
   of-l2-if : (s : GlonassSatellite) (o : Option AnyCode) → IfSome o (λ code. frequency_at (carrier_of code) None ≡ None) → is_taken Glonass s.slot ≡ true
       → All HasPhase (glonass_l2_entries s (glonass_channel (channels_of h.glonass) s) (32 + s.slot) o)
@@ -219,6 +231,61 @@ module _ (h : MixedHeadView) where
   with-sbas (any.Msm m) = entries-phases (any.Msm m)
   with-sbas (any.Obs1012 m) = entries-phases (any.Obs1012 m)
 
-  pub phases-by : (sbas : Bool) (m : Message) → All HasPhase (entries_by sbas (channels_of h.glonass) m)
-  phases-by true m = with-sbas m
-  phases-by false m = entries-phases m
+  plain-by : (sbas : Bool) (m : Message) → All HasPhase (plain_entries_by sbas (channels_of h.glonass) m)
+  plain-by true m = with-sbas m
+  plain-by false m = entries-phases m
+
+  -- nor an entry with a Doppler shift
+  shift-glonass : (m : Msm) (k row bit field signal : ℕ) (code : AnyCode) → code_in Glonass signal ≡ Some code → is_taken Glonass bit ≡ true
+      → HasPhase (shift_entry_of Glonass m k row bit field code)
+  shift-glonass m k row bit field signal code is taken none =
+      let channel = channel-none (channels_of h.glonass) bit field (untold-slot bit taken none) in (
+        ap (λ (o : Option ℤ). (cell_on m k row (frequency_at (carrier_of code) o)).phase_millicycles) channel
+            ∙ ap (λ (f : Option ℕ). (cell_on m k row f).phase_millicycles) (glonass-frequency signal code is),
+        ap (λ (o : Option ℤ). doppler_on (frequency_at (carrier_of code) o) (rate_at m k row)) channel
+            ∙ ap (λ (f : Option ℕ). doppler_on f (rate_at m k row)) (glonass-frequency signal code is),
+      )
+
+  shift-system : (s : System) (m : Msm) (k row bit field signal : ℕ) (code : AnyCode) → code_in s signal ≡ Some code → is_taken s bit ≡ true
+      → HasPhase (shift_entry_of s m k row bit field code)
+  shift-system Gps m k row bit field signal code is taken = of-another (shift_entry_of Gps m k row bit field code) Gps (system-of Gps bit taken) (λ e. cc)
+  shift-system Glonass m k row bit field signal code is taken = shift-glonass m k row bit field signal code is taken
+  shift-system Galileo m k row bit field signal code is taken = of-another (shift_entry_of Galileo m k row bit field code) Galileo (system-of Galileo bit taken) (λ e. cc)
+  shift-system Beidou m k row bit field signal code is taken = of-another (shift_entry_of Beidou m k row bit field code) Beidou (system-of Beidou bit taken) (λ e. cc)
+  shift-system Qzss m k row bit field signal code is taken = of-another (shift_entry_of Qzss m k row bit field code) Qzss (system-of Qzss bit taken) (λ e. cc)
+  shift-system Sbas m k row bit field signal code is taken = of-another (shift_entry_of Sbas m k row bit field code) Sbas (system-of Sbas bit taken) (λ e. cc)
+  shift-system Navic m k row bit field signal code is taken = of-another (shift_entry_of Navic m k row bit field code) Navic (system-of Navic bit taken) (λ e. cc)
+
+  shift-code : (m : Msm) (k row satellite : ℕ) (channel : Option ℤ) (c : Option AnyCode)
+      → ((code : AnyCode) → c ≡ Some code → HasPhase (record {
+        satellite = satellite;
+        code = code;
+        doppler_millihertz = doppler_on (frequency_at (carrier_of code) channel) (rate_at m k row);
+        cell = cell_on m k row (frequency_at (carrier_of code) channel);
+      }))
+      → All HasPhase (doppler_entry_if m k row channel (Some satellite) c)
+  shift-code m k row satellite channel None f = All-nil HasPhase
+  shift-code m k row satellite channel (Some code) f = All-cons HasPhase _ [] (f code refl) (All-nil HasPhase)
+
+  shift-entry : (s : System) (m : Msm) (k row bit field signal : ℕ)
+      → All HasPhase (doppler_entry_if m k row (channel_in s (channels_of h.glonass) bit field) (index_in s bit) (code_in s signal))
+  shift-entry s m k row bit field signal = elim (cases_Bool (is_taken s bit)) [
+    | inl taken ↦ rw taken (shift-code m k row (satellites_before s + bit) (channel_in s (channels_of h.glonass) bit field) (code_in s signal) (λ code is. shift-system s m k row bit field signal code is taken))
+    | inr other ↦ rw other (All-nil HasPhase)
+  ]
+
+  shift-slots : (m : Msm) (k : ℕ) (slots : List Slot) → All HasPhase (join_from (doppler_entry (channels_of h.glonass) m) k slots)
+  unfolding join_from
+  shift-slots m k [] = All-nil HasPhase
+  shift-slots m k (x ∷ slots) =
+      All-append HasPhase (doppler_entry (channels_of h.glonass) m k x) (join_from (doppler_entry (channels_of h.glonass) m) (suc k) slots)
+      (shift-entry m.system m k x.row (bit_of_row m x.row) (field_of_row m x.row) x.signal) (shift-slots m (suc k) slots)
+
+  with-shifts : (sbas : Bool) (m : Message) → All HasPhase (entries_with_doppler (plain_entries_by sbas (channels_of h.glonass)) (channels_of h.glonass) m)
+  with-shifts sbas (any.Message m) = plain-by sbas (any.Message m)
+  with-shifts sbas (any.Msm m) = shift-slots m 0 (slots_of m.header m.cell_mask)
+  with-shifts sbas (any.Obs1012 m) = plain-by sbas (any.Obs1012 m)
+
+  pub phases-by : (sbas doppler : Bool) (m : Message) → All HasPhase (entries_by sbas doppler (channels_of h.glonass) m)
+  phases-by sbas true m = with-shifts sbas m
+  phases-by sbas false m = plain-by sbas m

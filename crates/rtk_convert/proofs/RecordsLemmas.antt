@@ -31,29 +31,29 @@ count-yes n [] h = cc
 count-yes n (x ∷ text) h = refl
 
 -- an epoch without a record
-pub follows-no : (old new : ClosedEpochsView) (listed : List AnyCode) (e : EpochSetView SignalEntry) (below : List (EpochSetView SignalEntry)) → HasLastPhases new.tracks (e ∷ below) → new.is_header_out ≡ old.is_header_out
-    → new.count ≡ old.count → is_any (record_of listed e below) ≡ false → HasClosed old listed below → HasClosed new listed (e ∷ below)
+pub follows-no : (old new : ClosedEpochsView) (doppler : Bool) (listed : List AnyCode) (e : EpochSetView SignalEntry) (below : List (EpochSetView SignalEntry)) → HasLastPhases new.tracks (e ∷ below) → new.is_header_out ≡ old.is_header_out
+    → new.count ≡ old.count → is_any (record_of doppler listed e below) ≡ false → HasClosed old doppler listed below → HasClosed new doppler listed (e ∷ below)
 unfolding first_time record_count
-follows-no old new listed e below phases out count none f = record {
+follows-no old new doppler listed e below phases out count none f = record {
   phases = phases;
-  is_header_out = out ∙ f.is_header_out ∙ ap (λ (o : Option ℕ). is_some o) (sym (first-no (first_time listed below) e.epoch (record_of listed e below) none));
-  count = count ∙ f.count ∙ sym (count-no (record_count listed below) (record_of listed e below) none);
+  is_header_out = out ∙ f.is_header_out ∙ ap (λ (o : Option ℕ). is_some o) (sym (first-no (first_time doppler listed below) e.epoch (record_of doppler listed e below) none));
+  count = count ∙ f.count ∙ sym (count-no (record_count doppler listed below) (record_of doppler listed e below) none);
 }
 
 -- one with a record
-pub follows-yes : (old new : ClosedEpochsView) (listed : List AnyCode) (e : EpochSetView SignalEntry) (below : List (EpochSetView SignalEntry)) → HasLastPhases new.tracks (e ∷ below) → new.is_header_out ≡ true
-    → new.count ≡ count_after old.count → is_any (record_of listed e below) ≡ true → HasClosed old listed below → HasClosed new listed (e ∷ below)
+pub follows-yes : (old new : ClosedEpochsView) (doppler : Bool) (listed : List AnyCode) (e : EpochSetView SignalEntry) (below : List (EpochSetView SignalEntry)) → HasLastPhases new.tracks (e ∷ below) → new.is_header_out ≡ true
+    → new.count ≡ count_after old.count → is_any (record_of doppler listed e below) ≡ true → HasClosed old doppler listed below → HasClosed new doppler listed (e ∷ below)
 unfolding first_time record_count
-follows-yes old new listed e below phases out count some f = record {
+follows-yes old new doppler listed e below phases out count some f = record {
   phases = phases;
-  is_header_out = out ∙ sym (first-yes (first_time listed below) e.epoch (record_of listed e below) some);
-  count = count ∙ ap count_after f.count ∙ sym (count-yes (record_count listed below) (record_of listed e below) some);
+  is_header_out = out ∙ sym (first-yes (first_time doppler listed below) e.epoch (record_of doppler listed e below) some);
+  count = count ∙ ap count_after f.count ∙ sym (count-yes (record_count doppler listed below) (record_of doppler listed e below) some);
 }
 
 -- what the text of its record adds, by the header that is out
 pub closing-is : (s : SetupView) (site : PositionView) (e : EpochSetView SignalEntry) (below : List (EpochSetView SignalEntry)) (time : ℕ) (out : Bool) (text : List ℕ) → time ≡ e.epoch
-    → out ≡ is_some (first_time s.head.listed below) → text ≡ record_of s.head.listed e below → closing_text s site time out text ≡ closing s site e below
+    → out ≡ is_some (first_time s.head.doppler s.head.listed below) → text ≡ record_of s.head.doppler s.head.listed e below → closing_text s site time out text ≡ closing s site e below
 closing-is s site e below time out text timed known shown =
     ap (λ (t : ℕ). closing_text s site t out text) timed
     ∙ ap (λ (b : Bool). closing_text s site e.epoch b text) known
-    ∙ ap (closing_text s site e.epoch (is_some (first_time s.head.listed below))) shown
+    ∙ ap (closing_text s site e.epoch (is_some (first_time s.head.doppler s.head.listed below))) shown

@@ -209,33 +209,33 @@ more-counted (x ∷ text) texts count is few =
     let most = count_by-le-length has_bytes texts in
     omega (arith, is, one, most, few)
 
-as-many : (listed : List AnyCode) (epochs : List (EpochSetView SignalEntry)) → length (record_texts listed epochs) ≡ length epochs
-as-many listed [] = refl
-as-many listed (e ∷ below) =
-    let before = as-many listed below in
-    let more = length-append (record_texts listed below) (record_of listed e below ∷ []) in
+as-many : (doppler : Bool) (listed : List AnyCode) (epochs : List (EpochSetView SignalEntry)) → length (record_texts doppler listed epochs) ≡ length epochs
+as-many doppler listed [] = refl
+as-many doppler listed (e ∷ below) =
+    let before = as-many doppler listed below in
+    let more = length-append (record_texts doppler listed below) (record_of doppler listed e below ∷ []) in
     omega (arith, before, more)
 
-records-counted : (listed : List AnyCode) (epochs : List (EpochSetView SignalEntry)) → length epochs < 2 ^ 64 → record_count listed epochs ≡ count_by has_bytes (record_texts listed epochs)
+records-counted : (doppler : Bool) (listed : List AnyCode) (epochs : List (EpochSetView SignalEntry)) → length epochs < 2 ^ 64 → record_count doppler listed epochs ≡ count_by has_bytes (record_texts doppler listed epochs)
 unfolding record_count
-records-counted listed [] few = refl
-records-counted listed (e ∷ below) few =
-    let size = as-many listed below in
-    more-counted (record_of listed e below) (record_texts listed below) (record_count listed below) (records-counted listed below (omega (arith, few))) (omega (arith, few, size))
+records-counted doppler listed [] few = refl
+records-counted doppler listed (e ∷ below) few =
+    let size = as-many doppler listed below in
+    more-counted (record_of doppler listed e below) (record_texts doppler listed below) (record_count doppler listed below) (records-counted doppler listed below (omega (arith, few))) (omega (arith, few, size))
 
-records-joined : (listed : List AnyCode) (epochs : List (EpochSetView SignalEntry)) → records listed epochs ≡ flat_map (λ text. text) (record_texts listed epochs)
+records-joined : (doppler : Bool) (listed : List AnyCode) (epochs : List (EpochSetView SignalEntry)) → records doppler listed epochs ≡ flat_map (λ text. text) (record_texts doppler listed epochs)
 unfolding records
-records-joined listed [] = refl
-records-joined listed (e ∷ below) =
-    let text : List ℕ = record_of listed e below in
-    let before : List (List ℕ) = record_texts listed below in
-    ap (λ (t : List ℕ). t ++ text) (records-joined listed below)
+records-joined doppler listed [] = refl
+records-joined doppler listed (e ∷ below) =
+    let text : List ℕ = record_of doppler listed e below in
+    let before : List (List ℕ) = record_texts doppler listed below in
+    ap (λ (t : List ℕ). t ++ text) (records-joined doppler listed below)
     ∙ ap (λ (t : List ℕ). flat_map (λ (x : List ℕ). x) before ++ t) (sym (append-nil text))
     ∙ sym (flat_map-append (λ (x : List ℕ). x) before (text ∷ []))
 
 pub epochs-are : EpochsAreRecords
 epochs-are s found few =
-    record { file = records-joined s.head.listed (kept signals (cells_by s) s.window (arrivals found)); counted = records-counted s.head.listed (kept signals (cells_by s) s.window (arrivals found)) few }
+    record { file = records-joined s.head.doppler s.head.listed (kept signals (cells_by s) s.window (arrivals found)); counted = records-counted s.head.doppler s.head.listed (kept signals (cells_by s) s.window (arrivals found)) few }
 
 pub epochs-of-table : EpochsAreOfTable
 epochs-of-table s found epochs satellites good_setup h few holds =

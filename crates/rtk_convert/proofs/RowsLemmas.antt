@@ -8,7 +8,6 @@ use Rattle.std.proofs.lemmas.List.Elements.{All-nil, All-cons, All-append, All-h
 use Rattle.std.specs.List.{list_any}
 use Rattle.rtk_obs.specs.declared.any_code.AnyCode.{AnyCode}
 use Rattle.rtk_obs.specs.declared.any_code.AnyCode.TheVariants.{G1C}
-use Rattle.rtk_obs.specs.declared.cell.Cell.{Cell}
 use Rattle.rtk_obs.specs.declared.signal_cells.SignalEntry.{SignalEntry}
 use Rattle.rtk_obs.specs.declared.track.Track.{Track}
 use Rattle.rtk_obs.specs.AnyCode.{IsSignal, place_of}
@@ -17,7 +16,7 @@ use Rattle.rtk_obs.specs.SatelliteIndex.{IsSatelliteIndex}
 use Rattle.rtk_obs.specs.SignalCells.{IsSignalInRange}
 use Rattle.rtk_rinex.specs.declared.epoch_table.Observed.{Observed}
 use Rattle.rtk_rinex.specs.declared.epoch_table.SatelliteRow.{SatelliteRow}
-use Rattle.rtk_rinex.specs.Record.{IsStrengthOrNone, has_line, has_observation}
+use Rattle.rtk_rinex.specs.Record.{IsStrengthOrNone, has_line_in, has_observation_or_doppler}
 use Rattle.rtk_convert.specs.Steps.RowLines.{HasRoom}
 use Rattle.rtk_convert.specs.Steps.ShownCells.{IsFreeOf, is_at, with_place}
 use Rattle.rtk_convert.specs.Rows.{is_signal, first_cell, observed_after, or_nothing, codes_for, row_with, row_if_any, rows_to}
@@ -81,10 +80,10 @@ entry-strength : (o : Option ℕ) → IfSome o IsGiven → IsStrengthOrNone o
 entry-strength None h = tt
 entry-strength (Some s) h = ((h.least, h.greatest), h.step)
 
-abbrev pub HasStrength : Option Cell → Type 0
-HasStrength o = IfSome o (λ c. IsStrengthOrNone c.strength_millidbhz)
+abbrev pub HasStrength : Option SignalEntry → Type 0
+HasStrength o = IfSome o (λ c. IsStrengthOrNone c.cell.strength_millidbhz)
 
-strength-if : (b : Bool) (c : Cell) (o : Option Cell) → IsStrengthOrNone c.strength_millidbhz → HasStrength o → HasStrength (cond b (Some c) o)
+strength-if : (b : Bool) (c : SignalEntry) (o : Option SignalEntry) → IsStrengthOrNone c.cell.strength_millidbhz → HasStrength o → HasStrength (cond b (Some c) o)
 strength-if true c o h k = h
 strength-if false c o h k = k
 
@@ -92,10 +91,10 @@ pub first-strength : (cells : List SignalEntry) (s : ℕ) (c : AnyCode) → All 
 first-strength [] s c h = tt
 first-strength (e ∷ cells) s c h =
     let head : IsSignalInRange e = All-head IsSignalInRange e cells h in
-    strength-if (is_signal s c e) e.cell (first_cell cells s c) (entry-strength e.cell.strength_millidbhz head.strength)
+    strength-if (is_signal s c e) e (first_cell cells s c) (entry-strength e.cell.strength_millidbhz head.strength)
     (first-strength cells s c (All-tail IsSignalInRange e cells h))
 
-pub observed-strength : (last : Option Track) (code : AnyCode) (epoch : ℕ) (o : Option Cell) → HasStrength o → IsStrengthOrNone (or_nothing (observed_after last code epoch o)).strength_millidbhz
+pub observed-strength : (last : Option Track) (code : AnyCode) (epoch : ℕ) (o : Option SignalEntry) → HasStrength o → IsStrengthOrNone (or_nothing (observed_after last code epoch o)).strength_millidbhz
 observed-strength last code epoch None h = tt
 observed-strength last code epoch (Some c) h = h
 
@@ -143,7 +142,7 @@ free-of s f code codes all hc none = record {
   width = length-map codes (λ c. or_nothing (f c));
   free = λ k d lt is.
       let e : get_or codes k G1C ≡ code = same_code_of s (get_or codes k G1C) code (all k G1C lt) hc (eqb-true (place_of (get_or codes k G1C)) (place_of code) is) in
-      ap has_observation (get_or-map (λ c. or_nothing (f c)) codes k G1C d lt ∙ ap (λ (c : AnyCode). or_nothing (f c)) e ∙ ap or_nothing none);
+      ap has_observation_or_doppler (get_or-map (λ c. or_nothing (f c)) codes k G1C d lt ∙ ap (λ (c : AnyCode). or_nothing (f c)) e ∙ ap or_nothing none);
 }
 
 -- ---- the line of a row
@@ -152,17 +151,17 @@ none-of-some : (o : Option Observed) → is_some o ≡ false → o ≡ None
 none-of-some None h = refl
 none-of-some (Some o) h = cc
 
-no-line : (f : AnyCode → Option Observed) (codes : List AnyCode) → list_any (λ c. is_some (f c)) codes ≡ false → list_any has_observation (map (λ c. or_nothing (f c)) codes) ≡ false
+no-line : (f : AnyCode → Option Observed) (codes : List AnyCode) → list_any (λ c. is_some (f c)) codes ≡ false → list_any has_observation_or_doppler (map (λ c. or_nothing (f c)) codes) ≡ false
 no-line f [] h = refl
 no-line f (c ∷ codes) h =
     let p = both-false (is_some (f c)) (list_any (λ c. is_some (f c)) codes) h in
-    ap (λ (o : Option Observed). has_observation (or_nothing o) || list_any has_observation (map (λ c. or_nothing (f c)) codes)) (none-of-some (f c) p.0) ∙ no-line f codes p.1
+    ap (λ (o : Option Observed). has_observation_or_doppler (or_nothing o) || list_any has_observation_or_doppler (map (λ c. or_nothing (f c)) codes)) (none-of-some (f c) p.0) ∙ no-line f codes p.1
 
 -- text without a line for a row without an observation
 abbrev pub LeavesOut : {L : Type 0} → (L → List SatelliteRow → Type 0) → L → Type 0
-LeavesOut HasRows l = (rows : List SatelliteRow) (r : SatelliteRow) → has_line r ≡ false → HasRows l (rows ++ r ∷ []) → HasRows l rows
+LeavesOut HasRows l = (rows : List SatelliteRow) (r : SatelliteRow) → has_line_in true r ≡ false → HasRows l (rows ++ r ∷ []) → HasRows l rows
 
-held-if : {L : Type 0} (HasRows : L → List SatelliteRow → Type 0) (l : L) → LeavesOut HasRows l → (rows : List SatelliteRow) (r : SatelliteRow) (b : Bool) → (b ≡ false → has_line r ≡ false)
+held-if : {L : Type 0} (HasRows : L → List SatelliteRow → Type 0) (l : L) → LeavesOut HasRows l → (rows : List SatelliteRow) (r : SatelliteRow) (b : Bool) → (b ≡ false → has_line_in true r ≡ false)
     → HasRows l (rows ++ r ∷ []) → HasRows l (rows ++ (if b then r ∷ [] else []))
 held-if HasRows l leaves rows r true none h = h
 held-if HasRows l leaves rows r false none h = subst (λ (rs : List SatelliteRow). HasRows l rs) (sym (append-nil rows)) (leaves rows r (none refl) h)
@@ -204,6 +203,6 @@ pub rows-step : (f : ℕ → AnyCode → Option Observed) (listed : List AnyCode
 rows-step f listed n rows more e m = ap (λ (xs : List SatelliteRow). xs ++ more) e ∙ ap (λ (xs : List SatelliteRow). rows_to f listed n ++ xs) m ∙ sym (rows_to-more f listed n)
 
 -- there is room for one row more
-pub room-held : {L : Type 0} (HasRows : L → List SatelliteRow → Type 0) (greatest : ℕ) (l : L) (f : ℕ → AnyCode → Option Observed) (listed : List AnyCode) (n : ℕ) → HasRows l (rows_to f listed n) → n < greatest
-    → HasRoom HasRows greatest l
-room-held HasRows greatest l f listed n h lt = (rows_to f listed n, h, omega (arith, rows-few f listed n))
+pub room-held : {L : Type 0} (HasRows : L → Bool → List SatelliteRow → Type 0) (doppler : Bool) (greatest : ℕ) (l : L) (f : ℕ → AnyCode → Option Observed) (listed : List AnyCode) (n : ℕ)
+    → HasRows l doppler (rows_to f listed n) → n < greatest → HasRoom HasRows greatest l
+room-held HasRows doppler greatest l f listed n h lt = (doppler, rows_to f listed n, h, omega (arith, rows-few f listed n))

@@ -13,7 +13,6 @@ use Rattle.rtk_message.specs.declared.any_fault.AnyFault.{AnyFault}
 use Rattle.rtk_message.specs.declared.system.System.{System}
 use Rattle.rtk_message.specs.declared.system.System.TheVariants.{Gps, Glonass, Galileo, Beidou, Qzss, Sbas, Navic}
 use Rattle.rtk_message.specs.AnyDecoded.{number_of}
-use Rattle.rtk_obs.specs.declared.cell.Cell.{Cell}
 use Rattle.rtk_obs.specs.declared.any_code.AnyCode.{AnyCode}
 use Rattle.rtk_obs.specs.declared.track.Track.{Track}
 use Rattle.rtk_obs.specs.AnyCode.{IsSignal}
@@ -83,23 +82,23 @@ rest-alike before after a b x y g w =
 -- ---- closed epochs
 
 -- the same phases are the last ones, both have a record or none, and as many records
-pub record SameClosed (listed : List AnyCode) (first second : List (EpochSetView SignalEntry)) : Type 0 where
+pub record SameClosed (doppler : Bool) (listed : List AnyCode) (first second : List (EpochSetView SignalEntry)) : Type 0 where
   pub phases : (satellite : ℕ) (code : AnyCode) → IsSignal satellite code → last_phase_of first satellite code ≡ last_phase_of second satellite code
-  pub header : is_some (first_time listed first) ≡ is_some (first_time listed second)
-  pub count : record_count listed first ≡ record_count listed second
+  pub header : is_some (first_time doppler listed first) ≡ is_some (first_time doppler listed second)
+  pub count : record_count doppler listed first ≡ record_count doppler listed second
 
-text_of : ℕ → List SatelliteRow → List ℕ
-text_of epoch rows = mixed_record_text (record { time = epoch; rows = rows })
+text_of : Bool → ℕ → List SatelliteRow → List ℕ
+text_of doppler epoch rows = mixed_record_text doppler (record { time = epoch; rows = rows })
 
-record-same : (listed : List AnyCode) (e : EpochSetView SignalEntry) (first second : List (EpochSetView SignalEntry)) → SameClosed listed first second → record_of listed e first ≡ record_of listed e second
+record-same : (doppler : Bool) (listed : List AnyCode) (e : EpochSetView SignalEntry) (first second : List (EpochSetView SignalEntry)) → SameClosed doppler listed first second → record_of doppler listed e first ≡ record_of doppler listed e second
 unfolding text_of
-record-same listed e first second c =
-    ap (text_of e.epoch) (rows_to-same (observed_at e first) (observed_at e second) listed 221 (omega arith)
+record-same doppler listed e first second c =
+    ap (text_of doppler e.epoch) (rows_to-same (observed_at e first) (observed_at e second) listed 221 (omega arith)
     (λ s code is. ap (λ (t : Option Track). observed_after t code e.epoch (cell_at e.cells s code)) (c.phases s code is)))
 
-phase-step : (frequency : ℕ) (epoch : ℕ) (o : Option Cell) (xs ys : List EpochCell) → last_phase frequency xs ≡ last_phase frequency ys → last_phase frequency (and_below epoch o xs) ≡ last_phase frequency (and_below epoch o ys)
+phase-step : (frequency : ℕ) (epoch : ℕ) (o : Option SignalEntry) (xs ys : List EpochCell) → last_phase frequency xs ≡ last_phase frequency ys → last_phase frequency (and_below epoch o xs) ≡ last_phase frequency (and_below epoch o ys)
 phase-step frequency epoch None xs ys h = h
-phase-step frequency epoch (Some c) xs ys h = ap (λ (t : Option Track). last_after frequency t (epoch_cell epoch c)) h
+phase-step frequency epoch (Some c) xs ys h = ap (λ (t : Option Track). last_after frequency t (epoch_cell epoch c.cell)) h
 
 header-step : (o p : Option ℕ) (epoch : ℕ) (text : List ℕ) → is_some o ≡ is_some p → is_some (first_or o epoch text) ≡ is_some (first_or p epoch text)
 header-step None None epoch text h = refl
@@ -107,27 +106,27 @@ header-step None (Some t) epoch text h = absurd cc
 header-step (Some t) None epoch text h = absurd cc
 header-step (Some t) (Some u) epoch text h = refl
 
-one-closed : (listed : List AnyCode) (e : EpochSetView SignalEntry) (first second : List (EpochSetView SignalEntry)) → SameClosed listed first second → SameClosed listed (e ∷ first) (e ∷ second)
+one-closed : (doppler : Bool) (listed : List AnyCode) (e : EpochSetView SignalEntry) (first second : List (EpochSetView SignalEntry)) → SameClosed doppler listed first second → SameClosed doppler listed (e ∷ first) (e ∷ second)
 unfolding record_count
-one-closed listed e first second c =
-    let same = record-same listed e first second c in
+one-closed doppler listed e first second c =
+    let same = record-same doppler listed e first second c in
     record {
       phases = λ s code is. phase-step (rolling_frequency code) e.epoch (cell_at e.cells s code) _ _ (c.phases s code is);
-      header = ap is_some (first_time-more listed e first) ∙ header-step (first_time listed first) (first_time listed second) e.epoch (record_of listed e first) c.header
-          ∙ ap (λ t. is_some (first_or (first_time listed second) e.epoch t)) same ∙ ap is_some (sym (first_time-more listed e second));
-      count = ap (one_more_if_any (record_of listed e first)) c.count ∙ ap (λ t. one_more_if_any t (record_count listed second)) same;
+      header = ap is_some (first_time-more doppler listed e first) ∙ header-step (first_time doppler listed first) (first_time doppler listed second) e.epoch (record_of doppler listed e first) c.header
+          ∙ ap (λ t. is_some (first_or (first_time doppler listed second) e.epoch t)) same ∙ ap is_some (sym (first_time-more doppler listed e second));
+      count = ap (one_more_if_any (record_of doppler listed e first)) c.count ∙ ap (λ t. one_more_if_any t (record_count doppler listed second)) same;
     }
 
-more-closed : (listed : List AnyCode) (more first second : List (EpochSetView SignalEntry)) → SameClosed listed first second → SameClosed listed (more ++ first) (more ++ second)
-more-closed listed [] first second c = c
-more-closed listed (e ∷ more) first second c = one-closed listed e (more ++ first) (more ++ second) (more-closed listed more first second c)
+more-closed : (doppler : Bool) (listed : List AnyCode) (more first second : List (EpochSetView SignalEntry)) → SameClosed doppler listed first second → SameClosed doppler listed (more ++ first) (more ++ second)
+more-closed doppler listed [] first second c = c
+more-closed doppler listed (e ∷ more) first second c = one-closed doppler listed e (more ++ first) (more ++ second) (more-closed doppler listed more first second c)
 
-closing-same : (s : SetupView) (site : PositionView) (e : EpochSetView SignalEntry) (first second : List (EpochSetView SignalEntry)) → SameClosed s.head.listed first second → closing s site e first ≡ closing s site e second
+closing-same : (s : SetupView) (site : PositionView) (e : EpochSetView SignalEntry) (first second : List (EpochSetView SignalEntry)) → SameClosed s.head.doppler s.head.listed first second → closing s site e first ≡ closing s site e second
 closing-same s site e first second c =
-    ap (λ b. closing_text s site e.epoch b (record_of s.head.listed e first)) c.header
-    ∙ ap (closing_text s site e.epoch (is_some (first_time s.head.listed second))) (record-same s.head.listed e first second c)
+    ap (λ b. closing_text s site e.epoch b (record_of s.head.doppler s.head.listed e first)) c.header
+    ∙ ap (closing_text s site e.epoch (is_some (first_time s.head.doppler s.head.listed second))) (record-same s.head.doppler s.head.listed e first second c)
 
-closed-alike : (s : SetupView) (site : PositionView) (more first second : List (EpochSetView SignalEntry)) → SameClosed s.head.listed first second
+closed-alike : (s : SetupView) (site : PositionView) (more first second : List (EpochSetView SignalEntry)) → SameClosed s.head.doppler s.head.listed first second
     → GoOnAlike (closed_text s site first) (closed_text s site (more ++ first)) (closed_text s site second) (closed_text s site (more ++ second))
 closed-alike s site [] first second c = alike-none (closed_text s site first) (closed_text s site second)
 closed-alike s site (e ∷ more) first second c =
@@ -138,7 +137,7 @@ closed-alike s site (e ∷ more) first second c =
       more = closing s site e (more ++ first);
       first_is = closed-more s site e (more ++ first);
       second_is = closed-more s site e (more ++ second)
-          ∙ ap (λ t. closed_text s site (more ++ second) ++ t) (sym (closing-same s site e (more ++ first) (more ++ second) (more-closed s.head.listed more first second c)));
+          ∙ ap (λ t. closed_text s site (more ++ second) ++ t) (sym (closing-same s site e (more ++ first) (more ++ second) (more-closed s.head.doppler s.head.listed more first second c)));
     })
 
 -- ---- an arrival
@@ -147,7 +146,7 @@ site-same : (of : Message → List SignalEntry) (n : ℕ) (first second : List A
 site-same of n first second w =
     ap (λ (m : Option Message). site_of_stations m (station n 1006 first)) w.arp1005 ∙ ap (site_of_stations (station n 1005 second)) w.arp1006
 
-arrival-alike : (s : SetupView) (a : Arrival) (first second : List Arrival) → AnsweredAlike (cells_by s) s.window a first second → SameClosed s.head.listed (closed signals (cells_by s) s.window first) (closed signals (cells_by s) s.window second)
+arrival-alike : (s : SetupView) (a : Arrival) (first second : List Arrival) → AnsweredAlike (cells_by s) s.window a first second → SameClosed s.head.doppler s.head.listed (closed signals (cells_by s) s.window first) (closed signals (cells_by s) s.window second)
     → GoOnAlike (file_so_far s first) (file_so_far s (a ∷ first)) (file_so_far s second) (file_so_far s (a ∷ second))
 arrival-alike s a first second alike c =
     let site = site_of_kept s.window (a ∷ first) in
@@ -161,10 +160,10 @@ arrival-alike s a first second alike c =
           ∙ ap (λ t. t ++ g.more) (ap (λ (p : PositionView). closed_text s p (closed signals (cells_by s) s.window second)) (sym same) ∙ text-final s a second ∙ sym (so_far-is s second));
     }
 
-closed-after-same : (s : SetupView) (a : Arrival) (first second : List Arrival) → AnsweredAlike (cells_by s) s.window a first second → SameClosed s.head.listed (closed signals (cells_by s) s.window first) (closed signals (cells_by s) s.window second)
-    → SameClosed s.head.listed (closed signals (cells_by s) s.window (a ∷ first)) (closed signals (cells_by s) s.window (a ∷ second))
+closed-after-same : (s : SetupView) (a : Arrival) (first second : List Arrival) → AnsweredAlike (cells_by s) s.window a first second → SameClosed s.head.doppler s.head.listed (closed signals (cells_by s) s.window first) (closed signals (cells_by s) s.window second)
+    → SameClosed s.head.doppler s.head.listed (closed signals (cells_by s) s.window (a ∷ first)) (closed signals (cells_by s) s.window (a ∷ second))
 closed-after-same s a first second alike c =
-    let more = more-closed s.head.listed alike.closes (closed signals (cells_by s) s.window first) (closed signals (cells_by s) s.window second) c in
+    let more = more-closed s.head.doppler s.head.listed alike.closes (closed signals (cells_by s) s.window first) (closed signals (cells_by s) s.window second) c in
     rw (alike.first_closes, alike.second_closes) more
 
 lines-same : (s : SetupView) (link : ℕ) (a : Arrival) (first second : List Arrival) → AnsweredAlike (cells_by s) s.window a first second → frame_lines s link (Dated a) first ≡ frame_lines s link (Dated a) second
@@ -197,7 +196,7 @@ RemarksAlike s first second =
 pub record SameFound (s : SetupView) (first second : List Found) : Type 0 where
   pub taken : AllTaken s (arrivals second)
   pub window : SameWindow (cells_by s) s.window (arrivals first) (arrivals second)
-  pub closed : SameClosed s.head.listed (closed signals (cells_by s) s.window (arrivals first)) (closed signals (cells_by s) s.window (arrivals second))
+  pub closed : SameClosed s.head.doppler s.head.listed (closed signals (cells_by s) s.window (arrivals first)) (closed signals (cells_by s) s.window (arrivals second))
   pub counts : frame_counts s first ≡ frame_counts s second
   pub remarks : RemarksAlike s first second
 
@@ -317,22 +316,22 @@ none = no_cells 0
 window-and-closed : (of : Message → List SignalEntry) (n : ℕ) (before : List Arrival) → kept signals of n before ≡ take n (kept signals of n before) ++ closed signals of n before
 window-and-closed of n before = sym (take-append-drop n (kept signals of n before)) ∙ ap (λ t. take n (kept signals of n before) ++ t) (sym (closed-drop signals of n none before))
 
-kept-same : (s : SetupView) (first second : List Arrival) → SameWindow (cells_by s) s.window first second → SameClosed s.head.listed (closed signals (cells_by s) s.window first) (closed signals (cells_by s) s.window second)
-    → SameClosed s.head.listed (kept signals (cells_by s) s.window first) (kept signals (cells_by s) s.window second)
+kept-same : (s : SetupView) (first second : List Arrival) → SameWindow (cells_by s) s.window first second → SameClosed s.head.doppler s.head.listed (closed signals (cells_by s) s.window first) (closed signals (cells_by s) s.window second)
+    → SameClosed s.head.doppler s.head.listed (kept signals (cells_by s) s.window first) (kept signals (cells_by s) s.window second)
 kept-same s first second w c =
-    let more = more-closed s.head.listed (take s.window (kept signals (cells_by s) s.window first)) (closed signals (cells_by s) s.window first) (closed signals (cells_by s) s.window second) c in
+    let more = more-closed s.head.doppler s.head.listed (take s.window (kept signals (cells_by s) s.window first)) (closed signals (cells_by s) s.window first) (closed signals (cells_by s) s.window second) c in
     let one = window-and-closed (cells_by s) s.window first in
     let other : kept signals (cells_by s) s.window second ≡ take s.window (kept signals (cells_by s) s.window first) ++ closed signals (cells_by s) s.window second = window-and-closed (cells_by s) s.window second ∙ ap (λ t. t ++ closed signals (cells_by s) s.window second) (sym w.sets) in
     record {
       phases = λ satellite code is. ap (λ (xs : List (EpochSetView SignalEntry)). last_phase_of xs satellite code) one ∙ more.phases satellite code is ∙ ap (λ (xs : List (EpochSetView SignalEntry)). last_phase_of xs satellite code) (sym other);
-      header = ap (λ (xs : List (EpochSetView SignalEntry)). is_some (first_time s.head.listed xs)) one ∙ more.header ∙ ap (λ (xs : List (EpochSetView SignalEntry)). is_some (first_time s.head.listed xs)) (sym other);
-      count = ap (record_count s.head.listed) one ∙ more.count ∙ ap (record_count s.head.listed) (sym other);
+      header = ap (λ (xs : List (EpochSetView SignalEntry)). is_some (first_time s.head.doppler s.head.listed xs)) one ∙ more.header ∙ ap (λ (xs : List (EpochSetView SignalEntry)). is_some (first_time s.head.doppler s.head.listed xs)) (sym other);
+      count = ap (record_count s.head.doppler s.head.listed) one ∙ more.count ∙ ap (record_count s.head.doppler s.head.listed) (sym other);
     }
 
 pub counts-same : (s : SetupView) (first second : List Found) → SameFound s first second → all_counts s first ≡ all_counts s second
 counts-same s first second same =
     let k = kept-same s (arrivals first) (arrivals second) same.window same.closed in
-    ap (λ (c : Counts). record c { epochs = record_count s.head.listed (kept signals (cells_by s) s.window (arrivals first)) }) same.counts
+    ap (λ (c : Counts). record c { epochs = record_count s.head.doppler s.head.listed (kept signals (cells_by s) s.window (arrivals first)) }) same.counts
     ∙ ap (λ (n : ℕ). record (frame_counts s second) { epochs = n }) k.count
 
 pub file-ends-alike : (s : SetupView) (first second : List Found) → SameFound s first second
@@ -345,7 +344,7 @@ file-ends-alike s first second same =
     let sets = take s.window (kept signals (cells_by s) s.window A) in
     let k = kept-same s A B same.window same.closed in
     let g = closed-alike s site sets (closed signals (cells_by s) s.window A) (closed signals (cells_by s) s.window B) same.closed in
-    let last = header_before s site s.near (is_some (first_time s.head.listed (kept signals (cells_by s) s.window A))) in
+    let last = header_before s site s.near (is_some (first_time s.head.doppler s.head.listed (kept signals (cells_by s) s.window A))) in
     let other : kept signals (cells_by s) s.window B ≡ sets ++ closed signals (cells_by s) s.window B = window-and-closed (cells_by s) s.window B ∙ ap (λ t. t ++ closed signals (cells_by s) s.window B) (sym same.window.sets) in
     record {
       more = g.more ++ last;
@@ -353,7 +352,7 @@ file-ends-alike s first second same =
           ∙ ap (λ t. t ++ last) (ap (closed_text s site) (window-and-closed (cells_by s) s.window A) ∙ g.first_is ∙ ap (λ t. t ++ g.more) (sym (so_far-is s A)))
           ∙ append_assoc (file_so_far s A) g.more last;
       second_is = file-closed s (site_of_kept s.window B) (kept signals (cells_by s) s.window B)
-          ∙ ap (λ (p : PositionView). closed_text s p (kept signals (cells_by s) s.window B) ++ header_before s p s.near (is_some (first_time s.head.listed (kept signals (cells_by s) s.window B)))) sites
+          ∙ ap (λ (p : PositionView). closed_text s p (kept signals (cells_by s) s.window B) ++ header_before s p s.near (is_some (first_time s.head.doppler s.head.listed (kept signals (cells_by s) s.window B)))) sites
           ∙ ap (λ b. closed_text s site (kept signals (cells_by s) s.window B) ++ header_before s site s.near b) (sym k.header)
           ∙ ap (λ t. t ++ last) (ap (closed_text s site) other ∙ g.second_is
           ∙ ap (λ t. t ++ g.more) (ap (λ (p : PositionView). closed_text s p (closed signals (cells_by s) s.window B)) (sym sites) ∙ sym (so_far-is s B)))

@@ -181,15 +181,15 @@ window-too of n w first second places same a =
     let here = subst (λ (k : ℕ). SameWindow of k first second) (sym places) same in
     record { sets = a.sets ∙ here.sets; arp1005 = a.arp1005 ∙ here.arp1005; arp1006 = a.arp1006 ∙ here.arp1006 }
 
-closed-same : (listed : List AnyCode) (c : ClosedEpochsView) (first second : List (EpochSetView SignalEntry)) → HasClosed c listed first → HasClosed c listed second → SameClosed listed first second
-closed-same listed c first second a b = record {
+closed-same : (doppler : Bool) (listed : List AnyCode) (c : ClosedEpochsView) (first second : List (EpochSetView SignalEntry)) → HasClosed c doppler listed first → HasClosed c doppler listed second → SameClosed doppler listed first second
+closed-same doppler listed c first second a b = record {
   phases = λ satellite code is. sym (a.phases satellite code is) ∙ b.phases satellite code is;
   header = sym a.is_header_out ∙ b.is_header_out;
   count = sym a.count ∙ b.count;
 }
 
-closed-too : (listed : List AnyCode) (c : ClosedEpochsView) (first second : List (EpochSetView SignalEntry)) → SameClosed listed first second → HasClosed c listed first → HasClosed c listed second
-closed-too listed c first second same a = record {
+closed-too : (doppler : Bool) (listed : List AnyCode) (c : ClosedEpochsView) (first second : List (EpochSetView SignalEntry)) → SameClosed doppler listed first second → HasClosed c doppler listed first → HasClosed c doppler listed second
+closed-too doppler listed c first second same a = record {
   phases = λ satellite code is. a.phases satellite code is ∙ same.phases satellite code is;
   is_header_out = a.is_header_out ∙ same.header;
   count = a.count ∙ same.count;
@@ -198,14 +198,14 @@ closed-too listed c first second same a = record {
 found-same : (s : SetupView) (c : ConversionView) (first second : List Found) → c.setup ≡ s → c.collector.places ≡ s.window → RepresentsFound c first → RepresentsFound c second → SameFound s first second
 found-same s c first second setup places a b =
     let of_setup = λ (found : List Found) (r : RepresentsFound c found).
-    subst (λ (t : SetupView). HoldsKept t c.collector (arrivals found) × HasClosed c.closed_epochs t.head.listed (closed signals (cells_by t) t.window (arrivals found)) × (c.counts ≡ frame_counts t found)
+    subst (λ (t : SetupView). HoldsKept t c.collector (arrivals found) × HasClosed c.closed_epochs t.head.doppler t.head.listed (closed signals (cells_by t) t.window (arrivals found)) × (c.counts ≡ frame_counts t found)
     × HasRemarks t c.remarks found) setup (r.kept, r.closed, r.counts, r.remarks) in
     let A = of_setup first a in
     let B = of_setup second b in
     record {
       taken = B.0.taken;
       window = window-same (cells_by s) s.window c.collector (arrivals first) (arrivals second) places A.0.window B.0.window;
-      closed = closed-same s.head.listed c.closed_epochs _ _ A.1 B.1;
+      closed = closed-same s.head.doppler s.head.listed c.closed_epochs _ _ A.1 B.1;
       counts = sym A.2 ∙ B.2;
       remarks = (
         λ system. sym (A.3.0 system) ∙ B.3.0 system,
@@ -219,7 +219,7 @@ found-too s c first second setup places same a =
     let here = subst (λ (t : SetupView). SameFound t first second) (sym setup) same in
     record {
       kept = record { taken = here.taken; window = window-too (cells_by c.setup) c.setup.window c.collector (arrivals first) (arrivals second) (places ∙ ap (λ (t : SetupView). t.window) (sym setup)) here.window a.kept.window };
-      closed = closed-too c.setup.head.listed c.closed_epochs _ _ here.closed a.closed;
+      closed = closed-too c.setup.head.doppler c.setup.head.listed c.closed_epochs _ _ here.closed a.closed;
       counts = a.counts ∙ here.counts;
       remarks = (
         λ system. a.remarks.0 system ∙ here.remarks.0 system,

@@ -1,12 +1,11 @@
 -- The cells of a satellite, one after another, and its row.
-use Rattle.std.proofs.Common.{◌≡◌, ◌≢◌, ℕ, ◌+◌, ◌-◌, ◌^◌, bit_and, bit_or, length-append, ◌<◌, ◌≤◌, [], ◌∷◌, ◌++◌, List, map, length, get_or, slice_range, refl, sym, ap, subst, ◌∙◌, append_assoc, arith, Option, None, Some, true, cond, inl, inr}
+use Rattle.std.proofs.Common.{◌≡◌, ◌≢◌, ℕ, ◌+◌, ◌-◌, ◌^◌, bit_and, bit_or, length-append, ◌<◌, ◌≤◌, [], ◌∷◌, ◌++◌, List, map, length, get_or, slice_range, refl, sym, ap, subst, ◌∙◌, append_assoc, arith, Option, None, Some, true, cond, inl, inr, Bool}
 use Rattle.std.specs.Prelude.{is_some, All}
 use Rattle.std.proofs.lemmas.Bool.{cases_lt}
 use Rattle.std.proofs.lemmas.List.{append-nil}
 use Rattle.std.proofs.lemmas.Nat.{and_le_l, and_or_self, and_or_apart, pow_apart, pow_pos}
 use Rattle.std.proofs.Math.Seq.{get_or-append_seam}
 use Rattle.rtk_obs.specs.declared.any_code.AnyCode.{AnyCode}
-use Rattle.rtk_obs.specs.declared.cell.Cell.{Cell}
 use Rattle.rtk_obs.specs.declared.signal_cells.SignalEntry.{SignalEntry}
 use Rattle.rtk_obs.specs.declared.track.Track.{Track}
 use Rattle.rtk_obs.specs.AnyCode.{IsSignal, place_of}
@@ -49,7 +48,7 @@ row-free old epoch xs s codes e own at he none =
     free-of s (shown_by old epoch xs s) e.code codes own (signal-at e at he)
     (ap (observed_after (track_at old s e.code) e.code epoch) (subst (λ (n : ℕ). first_cell xs n e.code ≡ None) at none))
 
-module _ {L : Type 0} (HasRows : L → List SatelliteRow → Type 0) (HasLine : L → List Observed → Type 0) where
+module _ {L : Type 0} (HasRows : L → Bool → List SatelliteRow → Type 0) (HasLine : L → List Observed → Type 0) where
   pub shows-repeat : {old : List (Option Track)} {epoch : ℕ} {xs : List SignalEntry} {s : ℕ} {codes : List AnyCode} {tracks : List (Option Track)} {lines : L} (e : SignalEntry)
       → AreRowCodes codes s → IsSignal e.satellite e.code → is_some (first_cell xs e.satellite e.code) ≡ true
       → ShowsRow HasLine old epoch xs s codes tracks lines → ShowsRow HasLine old epoch (xs ++ e ∷ []) s codes tracks lines
@@ -65,7 +64,7 @@ module _ {L : Type 0} (HasRows : L → List SatelliteRow → Type 0) (HasLine : 
       → AreRowCodes codes s → e.satellite ≡ s → IsSignal e.satellite e.code → first_cell xs e.satellite e.code ≡ None → StepsOver HasRows HasLine epoch e codes tracks after lines now
       → ShowsRow HasLine old epoch xs s codes tracks lines → ShowsRow HasLine old epoch (xs ++ e ∷ []) s codes after now
   shows-more {old} {epoch} {xs} {s} {codes} {tracks} {lines} after now e own at he none step g =
-      let o : Observed = observed_with e.cell (digits_since (rolling_frequency e.code) (track_at tracks e.satellite e.code) (epoch_cell epoch e.cell)) in
+      let o : Observed = observed_with e (digits_since (rolling_frequency e.code) (track_at tracks e.satellite e.code) (epoch_cell epoch e.cell)) in
       let shown : (c : AnyCode) → IsSignal s c → shown_by old epoch (xs ++ e ∷ []) s c ≡ cond (is_at (place_of e.code) c) (Some o) (shown_by old epoch xs s c) =
       λ c hc. subst (λ (x : ℕ). shown_by old epoch (xs ++ e ∷ []) x c ≡ cond (is_at (place_of e.code) c) (Some o) (shown_by old epoch xs x c)) at
       (shown-more old epoch xs tracks e he none g.taken c (subst (λ (n : ℕ). IsSignal n c) (sym at) hc)) in
@@ -86,7 +85,7 @@ module _ {L : Type 0} (HasRows : L → List SatelliteRow → Type 0) (HasLine : 
         within = l;
         same = λ k d a b. absurd (omega arith);
         later = subst (λ (ys : List SignalEntry). MayStep first ys s epoch) none later;
-        kept = λ rows h. h;
+        kept = λ doppler rows h. h;
         shows = λ old g. subst (λ (ys : List SignalEntry). ShowsRow HasLine old epoch ys s codes first before) none g;
       }
 
@@ -137,7 +136,7 @@ pub codes-begin : (codes : ℕ) (earlier xs : List SignalEntry) (begin s : ℕ) 
 codes-begin codes earlier xs begin s g =
     subst (λ (ys : List SignalEntry). IsSetOfCodes codes ys s) (sym (ap (λ (ys : List SignalEntry). earlier ++ ys) (range-empty xs begin) ∙ append-nil earlier)) g
 
-module _ {L : Type 0} (HasRows : L → List SatelliteRow → Type 0) (HasLine : L → List Observed → Type 0) (epoch : ℕ) (earlier xs : List SignalEntry) (begin end s : ℕ) (codes : List AnyCode)
+module _ {L : Type 0} (HasRows : L → Bool → List SatelliteRow → Type 0) (HasLine : L → List Observed → Type 0) (epoch : ℕ) (earlier xs : List SignalEntry) (begin end s : ℕ) (codes : List AnyCode)
     (first : List (Option Track)) (before : L) (tracks : List (Option Track)) (lines : L) (e : SignalEntry)
     (g : TakesCells HasRows HasLine epoch earlier xs begin end s codes first before tracks lines) (own : AreRowCodes codes s) (ranges : All IsSignalInRange xs) (l : end < length xs)
     (here : (d : SignalEntry) → get_or xs end d ≡ e) (at : e.satellite ≡ s) where
@@ -214,7 +213,7 @@ module _ {L : Type 0} (HasRows : L → List SatelliteRow → Type 0) (HasLine : 
         within = omega arith;
         same = same-more xs begin end s g.same next-at;
         later = subst (λ (ys : List SignalEntry). MayStep after ys s epoch) next-is (may-more tracks after taken s epoch e step.others next-signal g.later);
-        kept = λ rows h. step.kept rows (g.kept rows h);
+        kept = λ doppler rows h. step.kept doppler rows (g.kept doppler rows h);
         shows = λ old h. subst (λ (ys : List SignalEntry). ShowsRow HasLine old epoch ys s codes after now) next-is (shows-more HasRows HasLine after now e own at next-signal none step (g.shows old h));
       }
 
@@ -318,7 +317,7 @@ module _ (before : List (Option Track)) (epoch : ℕ) (ms : List SignalEntry) (i
     own : (c : AnyCode) → first_cell (slice_range ms i end ++ slice_range ls j last) n c ≡ first_cell (ms ++ ls) n c
     own c =
         first-append (slice_range ms i end) (slice_range ls j last) n c
-        ∙ ap (λ (o : Option Cell). or_later o (first_cell (slice_range ls j last) n c)) (first-range ms i end n c g.msm p from)
+        ∙ ap (λ (o : Option SignalEntry). or_later o (first_cell (slice_range ls j last) n c)) (first-range ms i end n c g.msm p from)
         ∙ ap (or_later (first_cell ms n c)) (first-range ls j last n c g.legacy q more)
         ∙ sym (first-append ms ls n c)
 

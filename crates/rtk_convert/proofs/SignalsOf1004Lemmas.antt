@@ -1,5 +1,5 @@
 -- The entries of a message with satellites of SBAS in a 1004 or without them.
-use Rattle.std.proofs.Common.{◌≡◌, ◌+◌, ◌-◌, ◌≤◌, ℕ, Bool, true, false, cond, nat_le, List, [], ◌∷◌, map, Option, None, Some, ℤ, refl, arith}
+use Rattle.std.proofs.Common.{◌≡◌, ◌+◌, ◌-◌, ◌≤◌, ℕ, Bool, true, false, cond, nat_le, List, [], ◌∷◌, map, Option, None, Some, ℤ, refl, arith, pos}
 use Rattle.std.specs.Prelude.{All}
 use Rattle.std.specs.List.{flat_map}
 use Rattle.std.proofs.lemmas.Bool.{and_parts}
@@ -17,8 +17,8 @@ use Rattle.rtk_obs.specs.LegacyCells.{first_entries, l1_cell_of, l1_code_of, l2_
 use Rattle.rtk_obs.specs.SatelliteIndex.{index_in, is_taken}
 use Rattle.rtk_obs.specs.SbasCells.{is_sbas_number, satellite_signals, sbas_entry_if, signals_of_1004}
 use Rattle.rtk_obs.specs.SignalCells.{IsSignalInRange, signal_of}
-use Rattle.rtk_obs.proofs.PublicLaws.{entries_of-in_range, sbas-range}
-use Rattle.rtk_collect.specs.Signals.{entries_by}
+use Rattle.rtk_obs.proofs.PublicLaws.{entries_of-in_range, sbas-range, doppler-range}
+use Rattle.rtk_collect.specs.Signals.{plain_entries_by, entries_by}
 
 le-of : (a b : ℕ) → nat_le a b ≡ true → a ≤ b
 le-of a b h = grind (arith, nat_tests)
@@ -28,7 +28,7 @@ satellite-is n h = let p = and_parts (nat_le 1 n) (nat_le n 32) h in (le-of 1 n 
 
 -- the entry of a satellite of SBAS, by its mask bit
 abbrev pub sbas_entry : Satellite → ℕ → SignalEntry
-sbas_entry s bit = record { satellite = 168 + bit; code = S1C; cell = l1_cell_of s }
+sbas_entry s bit = record { satellite = 168 + bit; code = S1C; doppler_millihertz = pos 0; cell = l1_cell_of s }
 
 -- what holds of all cells of GPS, and of the entry of each satellite of SBAS, holds of all entries of a 1004
 module _ (P : SignalEntry → Type 0) (of-gps : (e : CellEntry) → IsSatellite e.satellite → P (signal_of e)) (of-sbas : (s : Satellite) (bit : ℕ) → is_taken Sbas bit ≡ true → P (sbas_entry s bit)) where
@@ -55,6 +55,10 @@ module _ (P : SignalEntry → Type 0) (of-gps : (e : CellEntry) → IsSatellite 
   each-signal ss = all-satellites (first_entries ss)
 
 -- all entries are in range
-pub in-range : (sbas : Bool) (channels : List (Option ℤ)) (m : Message) → IsValid m → All IsSignalInRange (entries_by sbas channels m)
-in-range true channels m valid = sbas-range channels m valid
-in-range false channels m valid = entries_of-in_range channels m valid
+plain-in-range : (sbas : Bool) (channels : List (Option ℤ)) (m : Message) → IsValid m → All IsSignalInRange (plain_entries_by sbas channels m)
+plain-in-range true channels m valid = sbas-range channels m valid
+plain-in-range false channels m valid = entries_of-in_range channels m valid
+
+pub in-range : (sbas doppler : Bool) (channels : List (Option ℤ)) (m : Message) → IsValid m → All IsSignalInRange (entries_by sbas doppler channels m)
+in-range sbas true channels m valid = doppler-range (plain_entries_by sbas channels) channels m valid (plain-in-range sbas channels m valid)
+in-range sbas false channels m valid = plain-in-range sbas channels m valid

@@ -1,6 +1,6 @@
 -- The file of a set is the text of a well-formed table, since it is a header and the records of
 -- rising epochs.
-use Rattle.std.proofs.Common.{◌≡◌, ℕ, suc, ◌<◌, Bool, true, false, cond, List, [], ◌∷◌, ◌++◌, length, get_or, Option, None, Some, refl, ap, sym, subst, ◌∙◌, arith, ◌≤◌, ◌^◌, inl, inr, length-append, ℤ}
+use Rattle.std.proofs.Common.{◌≡◌, ℕ, suc, ◌<◌, Bool, true, false, cond, List, [], ◌∷◌, ◌++◌, length, get_or, Option, None, Some, refl, ap, sym, subst, ◌∙◌, arith, ◌≤◌, ◌^◌, inl, inr, length-append, ℤ, pos}
 use Rattle.std.specs.Prelude.{filter, flat_map, All, AllPairs, IfSome, unwrap_or, nat_lt, ◌==◌}
 use Rattle.std.proofs.lemmas.Bool.Decides.{nat_tests}
 use Rattle.std.proofs.lemmas.Bool.{and_parts, cases_Bool, eqb-true}
@@ -11,7 +11,6 @@ use Rattle.std.proofs.lemmas.Grind.{flat_map-append}
 use Rattle.rtk_message.specs.declared.system.System.{System}
 use Rattle.rtk_obs.specs.declared.any_code.AnyCode.{AnyCode}
 use Rattle.rtk_obs.specs.declared.signal_cells.SignalEntry.{SignalEntry}
-use Rattle.rtk_obs.specs.declared.cell.Cell.{Cell}
 use Rattle.rtk_obs.specs.declared.track.Track.{Track}
 use Rattle.rtk_obs.specs.AnyCode.{number_of}
 use Rattle.rtk_obs.specs.Rollover.{digits_since}
@@ -29,9 +28,9 @@ use Rattle.rtk_rinex.specs.MixedHead.{MixedHeadView}
 use Rattle.rtk_rinex.specs.MixedRecord.{mixed_record_text}
 use Rattle.rtk_rinex.specs.MixedTable.{HasNoPhase, IsEpochOfHead, IsMixedTable, IsRowOfHead, MixedTable, WritesNoPhase, mixed_table_text, shown_mixed_table, with_mixed_record}
 use Rattle.rtk_rinex.specs.Record.{EpochTableView, IsStrengthOrNone, is_present}
-use Rattle.rtk_rinex.specs.Table.{StartsAt, shown_epoch}
+use Rattle.rtk_rinex.specs.Table.{StartsAt, shown_epoch_in}
 use Rattle.rtk_rinex.proofs.PublicLaws.{mixed_file-is_shown}
-use Rattle.rtk_convert.specs.Rows.{rolling_frequency, codes_for, first_cell, is_signal, last_phase_of, cell_at, in_turn, observed_after, observed_at, or_nothing, rolled_or_none, table_of}
+use Rattle.rtk_convert.specs.Rows.{rolling_frequency, codes_for, first_cell, is_signal, last_phase_of, cell_at, in_turn, observed_after, observed_at, or_nothing, rolled_or_none, shift_or_none, table_of}
 use Rattle.rtk_convert.specs.File.{record_of, records, first_or, first_time, head_at, header_at, file_of, one_more_if_any, record_count}
 use Rattle.rtk_setup.specs.Setup.{SetupView, IsSetupView}
 use Rattle.rtk_convert.specs.FileLaws.{HasPhaseBy, IsGoodEpoch, FileIsTable}
@@ -43,37 +42,37 @@ tables : List AnyCode → List (EpochSetView SignalEntry) → List EpochTableVie
 tables listed [] = []
 tables listed (e ∷ below) = tables listed below ++ table_of listed e below ∷ []
 
-tables-text : (listed : List AnyCode) (epochs : List (EpochSetView SignalEntry)) → flat_map mixed_record_text (tables listed epochs) ≡ records listed epochs
+tables-text : (doppler : Bool) (listed : List AnyCode) (epochs : List (EpochSetView SignalEntry)) → flat_map (mixed_record_text doppler) (tables listed epochs) ≡ records doppler listed epochs
 unfolding tables records
-tables-text listed [] = refl
-tables-text listed (e ∷ below) =
-    flat_map-append mixed_record_text (tables listed below) (table_of listed e below ∷ [])
-    ∙ ap (λ (xs : List ℕ). xs ++ (record_of listed e below ++ [])) (tables-text listed below)
-    ∙ ap (λ (xs : List ℕ). records listed below ++ xs) (append-nil (record_of listed e below))
+tables-text doppler listed [] = refl
+tables-text doppler listed (e ∷ below) =
+    flat_map-append (mixed_record_text doppler) (tables listed below) (table_of listed e below ∷ [])
+    ∙ ap (λ (xs : List ℕ). xs ++ (record_of doppler listed e below ++ [])) (tables-text doppler listed below)
+    ∙ ap (λ (xs : List ℕ). records doppler listed below ++ xs) (append-nil (record_of doppler listed e below))
 
 -- ---- the first time
 
 -- an epoch has a record
-abbrev has_record : EpochTableView → Bool
-has_record e = nat_lt 0 (length (mixed_record_text e))
+abbrev has_record : Bool → EpochTableView → Bool
+has_record doppler e = nat_lt 0 (length (mixed_record_text doppler e))
 
 first_of : List EpochTableView → Option ℕ
 first_of [] = None
 first_of (e ∷ epochs) = Some e.time
 
-first-step : (o : Option ℕ) (xs : List EpochTableView) (e : EpochTableView) (text : List ℕ) → o ≡ first_of xs → mixed_record_text e ≡ text
-    → first_or o e.time text ≡ first_of (xs ++ filter has_record (e ∷ []))
+first-step : (doppler : Bool) (o : Option ℕ) (xs : List EpochTableView) (e : EpochTableView) (text : List ℕ) → o ≡ first_of xs → mixed_record_text doppler e ≡ text
+    → first_or o e.time text ≡ first_of (xs ++ filter (has_record doppler) (e ∷ []))
 unfolding first_of
-first-step o [] e [] h k = rw (h, k) refl
-first-step o [] e (x ∷ text) h k = let some : nat_lt 0 (suc (length text)) ≡ true = grind (arith, nat_tests) in rw (h, k, some) refl
-first-step o (y ∷ xs) e text h k = rw h refl
+first-step doppler o [] e [] h k = rw (h, k) refl
+first-step doppler o [] e (x ∷ text) h k = let some : nat_lt 0 (suc (length text)) ≡ true = grind (arith, nat_tests) in rw (h, k, some) refl
+first-step doppler o (y ∷ xs) e text h k = rw h refl
 
-first-same : (listed : List AnyCode) (epochs : List (EpochSetView SignalEntry)) → first_time listed epochs ≡ first_of (with_mixed_record (tables listed epochs))
+first-same : (doppler : Bool) (listed : List AnyCode) (epochs : List (EpochSetView SignalEntry)) → first_time doppler listed epochs ≡ first_of (with_mixed_record doppler (tables listed epochs))
 unfolding first_time tables first_of
-first-same listed [] = refl
-first-same listed (e ∷ below) =
-    first-step (first_time listed below) (with_mixed_record (tables listed below)) (table_of listed e below) (record_of listed e below) (first-same listed below) refl
-    ∙ ap first_of (sym (filter-append has_record (tables listed below) (table_of listed e below ∷ [])))
+first-same doppler listed [] = refl
+first-same doppler listed (e ∷ below) =
+    first-step doppler (first_time doppler listed below) (with_mixed_record doppler (tables listed below)) (table_of listed e below) (record_of doppler listed e below) (first-same doppler listed below) refl
+    ∙ ap first_of (sym (filter-append (has_record doppler) (tables listed below) (table_of listed e below ∷ [])))
 
 -- ---- the epochs are good
 
@@ -94,25 +93,25 @@ cell-strength cells s c h = first-strength (in_turn cells) s c (in-turn IsSignal
 
 -- ---- phases that have a meaning
 
-abbrev ShowsNoPhase : Option Cell → Type 0
-ShowsNoPhase o = IfSome o (λ c. c.phase_millicycles ≡ None)
+abbrev ShowsNoPhase : Option SignalEntry → Type 0
+ShowsNoPhase o = IfSome o (λ c. (c.cell.phase_millicycles ≡ None) × (c.doppler_millihertz ≡ pos 0))
 
-no-phase-if : (b : Bool) (c : Cell) (o : Option Cell) → (b ≡ true → c.phase_millicycles ≡ None) → ShowsNoPhase o → ShowsNoPhase (cond b (Some c) o)
+no-phase-if : (b : Bool) (c : SignalEntry) (o : Option SignalEntry) → (b ≡ true → (c.cell.phase_millicycles ≡ None) × (c.doppler_millihertz ≡ pos 0)) → ShowsNoPhase o → ShowsNoPhase (cond b (Some c) o)
 no-phase-if true c o h k = h refl
 no-phase-if false c o h k = k
 
 first-phase : (setup : SetupView) (cells : List SignalEntry) (s : ℕ) (c : AnyCode) → has_phases (form_of_head setup.head) s ≡ false → All (HasPhaseBy setup) cells → ShowsNoPhase (first_cell cells s c)
 first-phase setup [] s c none h = tt
 first-phase setup (e ∷ cells) s c none h =
-    no-phase-if (is_signal s c e) e.cell (first_cell cells s c)
+    no-phase-if (is_signal s c e) e (first_cell cells s c)
     (λ is.
     let same : e.satellite ≡ s = eqb-true e.satellite s (and_parts (e.satellite == s) (number_of e.code == number_of c) is).0 in
     All-head (HasPhaseBy setup) e cells h (subst (λ (n : ℕ). has_phases (form_of_head setup.head) n ≡ false) (sym same) none))
     (first-phase setup cells s c none (All-tail (HasPhaseBy setup) e cells h))
 
-observed-phase : (last : Option Track) (code : AnyCode) (epoch : ℕ) (o : Option Cell) → ShowsNoPhase o → HasNoPhase (or_nothing (observed_after last code epoch o))
-observed-phase last code epoch None h = refl
-observed-phase last code epoch (Some c) h = ap (λ (p : Option ℤ). rolled_or_none p (digits_since (rolling_frequency code) last (epoch_cell epoch c)).rolls) h
+observed-phase : (last : Option Track) (code : AnyCode) (epoch : ℕ) (o : Option SignalEntry) → ShowsNoPhase o → HasNoPhase (or_nothing (observed_after last code epoch o))
+observed-phase last code epoch None h = (refl, refl)
+observed-phase last code epoch (Some c) h = (ap (λ (p : Option ℤ). rolled_or_none p (digits_since (rolling_frequency code) last (epoch_cell epoch c.cell)).rolls) h.0, ap shift_or_none h.1)
 
 table-rows : (s : SetupView) (e : EpochSetView SignalEntry) (below : List (EpochSetView SignalEntry)) → IsGoodEpoch s e → All (IsRowOfHead s.head) (table_of s.head.listed e below).rows
 table-rows s e below good = all-rows (IsRowOfHead s.head) (observed_at e below) s.head.listed 221 (omega arith)
@@ -127,8 +126,10 @@ table-rows s e below good = all-rows (IsRowOfHead s.head) (observed_at e below) 
       phases = λ is untold.
           let none : has_phases (form_of_head s.head) n ≡ false = subst (λ (t : System). phases_in (form_of_head s.head) t (bit_at n) ≡ false) (sym is) untold in
           All-map WritesNoPhase row codes
-          (λ k d l. ap is_present (observed-phase (last_phase_of below n (get_or codes k d)) (get_or codes k d) e.epoch (cell_at e.cells n (get_or codes k d))
-          (first-phase s (in_turn e.cells) n (get_or codes k d) none (in-turn (HasPhaseBy s) e.cells good.phases))));
+          (λ k d l.
+          let shown = observed-phase (last_phase_of below n (get_or codes k d)) (get_or codes k d) e.epoch (cell_at e.cells n (get_or codes k d))
+          (first-phase s (in_turn e.cells) n (get_or codes k d) none (in-turn (HasPhaseBy s) e.cells good.phases)) in
+          (ap is_present shown.0, ap is_present shown.1));
     })
 
 table-good : (s : SetupView) (e : EpochSetView SignalEntry) (below : List (EpochSetView SignalEntry)) → IsGoodEpoch s e → IsEpochOfHead s.head (table_of s.head.listed e below)
@@ -176,12 +177,12 @@ starts near (e ∷ xs) = refl
 -- ---- the count of records
 
 -- one more epoch
-more-counted : (n count : ℕ) (xs : List EpochTableView) (e : EpochTableView) (text : List ℕ) → count ≡ length (with_mixed_record xs) → mixed_record_text e ≡ text
-    → length (with_mixed_record xs) ≤ n → suc n < 2 ^ 64 → one_more_if_any text count ≡ length (with_mixed_record xs ++ filter has_record (e ∷ []))
-more-counted n count xs e [] is none few within = rw none (is ∙ ap (λ (t : List EpochTableView). length t) (sym (append-nil (with_mixed_record xs))))
-more-counted n count xs e (x ∷ text) is some few within =
+more-counted : (doppler : Bool) (n count : ℕ) (xs : List EpochTableView) (e : EpochTableView) (text : List ℕ) → count ≡ length (with_mixed_record doppler xs) → mixed_record_text doppler e ≡ text
+    → length (with_mixed_record doppler xs) ≤ n → suc n < 2 ^ 64 → one_more_if_any text count ≡ length (with_mixed_record doppler xs ++ filter (has_record doppler) (e ∷ []))
+more-counted doppler n count xs e [] is none few within = rw none (is ∙ ap (λ (t : List EpochTableView). length t) (sym (append-nil (with_mixed_record doppler xs))))
+more-counted doppler n count xs e (x ∷ text) is some few within =
     let has : nat_lt 0 (suc (length text)) ≡ true = grind (arith, nat_tests) in
-    let more = length-append (with_mixed_record xs) (e ∷ []) in
+    let more = length-append (with_mixed_record doppler xs) (e ∷ []) in
     rw (some, has) (omega (arith, is, more, few, within))
 
 one-at-most : (test : EpochTableView → Bool) (e : EpochTableView) → length (filter test (e ∷ [])) ≤ 1
@@ -190,45 +191,45 @@ one-at-most test e = elim (cases_Bool (test e)) [
   | inr fails ↦ rw fails (omega arith)
 ]
 
-few-records : (listed : List AnyCode) (epochs : List (EpochSetView SignalEntry)) → length (with_mixed_record (tables listed epochs)) ≤ length epochs
+few-records : (doppler : Bool) (listed : List AnyCode) (epochs : List (EpochSetView SignalEntry)) → length (with_mixed_record doppler (tables listed epochs)) ≤ length epochs
 unfolding tables
-few-records listed [] = omega arith
-few-records listed (e ∷ below) =
-    let few = few-records listed below in
-    let joined = filter-append has_record (tables listed below) (table_of listed e below ∷ []) in
+few-records doppler listed [] = omega arith
+few-records doppler listed (e ∷ below) =
+    let few = few-records doppler listed below in
+    let joined = filter-append (has_record doppler) (tables listed below) (table_of listed e below ∷ []) in
     let size = ap (λ (t : List EpochTableView). length t) joined in
-    let sum = length-append (with_mixed_record (tables listed below)) (filter has_record (table_of listed e below ∷ [])) in
-    let one = one-at-most has_record (table_of listed e below) in
+    let sum = length-append (with_mixed_record doppler (tables listed below)) (filter (has_record doppler) (table_of listed e below ∷ [])) in
+    let one = one-at-most (has_record doppler) (table_of listed e below) in
     omega (arith, few, size, sum, one)
 
-records-are : (listed : List AnyCode) (epochs : List (EpochSetView SignalEntry)) → length epochs < 2 ^ 64 → record_count listed epochs ≡ length (with_mixed_record (tables listed epochs))
+records-are : (doppler : Bool) (listed : List AnyCode) (epochs : List (EpochSetView SignalEntry)) → length epochs < 2 ^ 64 → record_count doppler listed epochs ≡ length (with_mixed_record doppler (tables listed epochs))
 unfolding record_count tables
-records-are listed [] few = refl
-records-are listed (e ∷ below) few =
+records-are doppler listed [] few = refl
+records-are doppler listed (e ∷ below) few =
     let xs : List EpochTableView = tables listed below in
-    more-counted (length below) (record_count listed below) xs (table_of listed e below) (record_of listed e below) (records-are listed below (omega (arith, few))) refl (few-records listed below) few
-    ∙ ap (λ (t : List EpochTableView). length t) (sym (filter-append has_record xs (table_of listed e below ∷ [])))
+    more-counted doppler (length below) (record_count doppler listed below) xs (table_of listed e below) (record_of doppler listed e below) (records-are doppler listed below (omega (arith, few))) refl (few-records doppler listed below) few
+    ∙ ap (λ (t : List EpochTableView). length t) (sym (filter-append (has_record doppler) xs (table_of listed e below ∷ [])))
 
 -- ---- the table
 
 -- the file is the text of a table with as many records as are counted
 pub file-has_records : (s : SetupView) (site : PositionView) (epochs : List (EpochSetView SignalEntry)) → IsSetupView s → IsPositionView site → EpochsFall epochs → All (IsGoodEpoch s) epochs
-    → (t : MixedTable) × IsMixedTable t × (file_of s site epochs ≡ mixed_table_text t) × (length epochs < 2 ^ 64 → length t.epochs ≡ record_count s.head.listed epochs)
+    → (t : MixedTable) × IsMixedTable t × (file_of s site epochs ≡ mixed_table_text t) × (length epochs < 2 ^ 64 → length t.epochs ≡ record_count s.head.doppler s.head.listed epochs)
 file-has_records s site epochs good_setup good_site fall good =
     let xs : List EpochTableView = tables s.head.listed epochs in
-    let some : List EpochTableView = with_mixed_record xs in
+    let some : List EpochTableView = with_mixed_record s.head.doppler xs in
     let first : ℕ = unwrap_or (first_of some) s.near in
     let near : IsMoment s.near = let to = good_setup.1.to in omega arith in
     let all : All (IsEpochOfHead s.head) xs = all-tables (IsEpochOfHead s.head) s (table-good s) epochs good in
     let told : All (IsEpochOfHead (head_at s first)) xs = All-weaker (IsEpochOfHead s.head) (IsEpochOfHead (head_at s first)) (epoch-of-head s first) xs all in
-    let moment = first-moment s.head s.near some near (all-kept (IsEpochOfHead s.head) has_record xs all) in
+    let moment = first-moment s.head s.near some near (all-kept (IsEpochOfHead s.head) (has_record s.head.doppler) xs all) in
     let shown = mixed_file-is_shown (head_at s first) site first xs (head-good s first good_setup) good_site moment told (tables-rise s.head.listed epochs fall) (starts s.near some) in (
       shown_mixed_table (head_at s first) site first xs,
       shown.table,
-      ap (λ (o : Option ℕ). header_at s site (unwrap_or o s.near) ++ records s.head.listed epochs) (first-same s.head.listed epochs)
-          ∙ ap (λ (text : List ℕ). header_at s site first ++ text) (sym (tables-text s.head.listed epochs))
+      ap (λ (o : Option ℕ). header_at s site (unwrap_or o s.near) ++ records s.head.doppler s.head.listed epochs) (first-same s.head.doppler s.head.listed epochs)
+          ∙ ap (λ (text : List ℕ). header_at s site first ++ text) (sym (tables-text s.head.doppler s.head.listed epochs))
           ∙ shown.text,
-      λ few. length-map some shown_epoch ∙ sym (records-are s.head.listed epochs few),
+      λ few. length-map some (shown_epoch_in s.head.doppler) ∙ sym (records-are s.head.doppler s.head.listed epochs few),
     )
 
 pub file-is_table : FileIsTable

@@ -3,7 +3,6 @@ use Rattle.std.proofs.Common.{◌≡◌, ◌≢◌, ℕ, ◌<◌, ◌≤◌, [],
 use Rattle.std.specs.Prelude.{is_some}
 use Rattle.std.proofs.lemmas.Bool.{eq-eqb, ne_eqb}
 use Rattle.rtk_obs.specs.declared.track.Track.{Track}
-use Rattle.rtk_obs.specs.declared.cell.Cell.{Cell}
 use Rattle.rtk_obs.specs.declared.any_code.AnyCode.{AnyCode}
 use Rattle.rtk_obs.specs.declared.signal_cells.SignalEntry.{SignalEntry}
 use Rattle.rtk_obs.specs.AnyCode.{IsSignal, number_of, place_of, signal_place}
@@ -19,27 +18,27 @@ use Rattle.rtk_convert.proofs.PlacesLemmas.{by_eq, same_test, other_signal, same
 -- a cell of another satellite or code changes nothing for them
 pub cell-other : (xs : List SignalEntry) (e : SignalEntry) (s : ℕ) (c : AnyCode) → is_signal s c e ≡ false → first_cell (xs ++ e ∷ []) s c ≡ first_cell xs s c
 cell-other [] e s c h = rw h refl
-cell-other (x ∷ xs) e s c h = ap (λ (o : Option Cell). cond (is_signal s c x) (Some x.cell) o) (cell-other xs e s c h)
+cell-other (x ∷ xs) e s c h = ap (λ (o : Option SignalEntry). cond (is_signal s c x) (Some x) o) (cell-other xs e s c h)
 
-cell-step : (b : Bool) (x : Cell) (o p : Option Cell) (y : Cell) → (o ≡ Some y → p ≡ Some y) → cond b (Some x) o ≡ Some y → cond b (Some x) p ≡ Some y
+cell-step : (b : Bool) (x : SignalEntry) (o p : Option SignalEntry) (y : SignalEntry) → (o ≡ Some y → p ≡ Some y) → cond b (Some x) o ≡ Some y → cond b (Some x) p ≡ Some y
 cell-step true x o p y f h = h
 cell-step false x o p y f h = f h
 
 -- the first cell stays the first
-cell-kept : (xs : List SignalEntry) (e : SignalEntry) (s : ℕ) (c : AnyCode) (x : Cell) → first_cell xs s c ≡ Some x → first_cell (xs ++ e ∷ []) s c ≡ Some x
+cell-kept : (xs : List SignalEntry) (e : SignalEntry) (s : ℕ) (c : AnyCode) (x : SignalEntry) → first_cell xs s c ≡ Some x → first_cell (xs ++ e ∷ []) s c ≡ Some x
 cell-kept [] e s c x h = cc
-cell-kept (y ∷ xs) e s c x h = cell-step (is_signal s c y) y.cell (first_cell xs s c) (first_cell (xs ++ e ∷ []) s c) x (cell-kept xs e s c x) h
+cell-kept (y ∷ xs) e s c x h = cell-step (is_signal s c y) y (first_cell xs s c) (first_cell (xs ++ e ∷ []) s c) x (cell-kept xs e s c x) h
 
-cell-none : (b : Bool) (x : Cell) (o p : Option Cell) (y : Cell) → (o ≡ None → p ≡ Some y) → cond b (Some x) o ≡ None → cond b (Some x) p ≡ Some y
+cell-none : (b : Bool) (x : SignalEntry) (o p : Option SignalEntry) (y : SignalEntry) → (o ≡ None → p ≡ Some y) → cond b (Some x) o ≡ None → cond b (Some x) p ≡ Some y
 cell-none true x o p y f h = cc
 cell-none false x o p y f h = f h
 
 -- a first cell
-cell-new : (xs : List SignalEntry) (e : SignalEntry) (s : ℕ) (c : AnyCode) → is_signal s c e ≡ true → first_cell xs s c ≡ None → first_cell (xs ++ e ∷ []) s c ≡ Some e.cell
+cell-new : (xs : List SignalEntry) (e : SignalEntry) (s : ℕ) (c : AnyCode) → is_signal s c e ≡ true → first_cell xs s c ≡ None → first_cell (xs ++ e ∷ []) s c ≡ Some e
 cell-new [] e s c t h = rw t refl
-cell-new (y ∷ xs) e s c t h = cell-none (is_signal s c y) y.cell (first_cell xs s c) (first_cell (xs ++ e ∷ []) s c) e.cell (cell-new xs e s c t) h
+cell-new (y ∷ xs) e s c t h = cell-none (is_signal s c y) y (first_cell xs s c) (first_cell (xs ++ e ∷ []) s c) e (cell-new xs e s c t) h
 
-some-kept : (o p : Option Cell) → is_some o ≡ true → ((x : Cell) → o ≡ Some x → p ≡ Some x) → p ≡ o
+some-kept : (o p : Option SignalEntry) → is_some o ≡ true → ((x : SignalEntry) → o ≡ Some x → p ≡ Some x) → p ≡ o
 some-kept None p h f = cc
 some-kept (Some x) p h f = f x refl
 
@@ -68,10 +67,10 @@ pub taken-more : (old : List (Option Track)) (epoch : ℕ) (xs : List SignalEntr
     → ((s : ℕ) (c : AnyCode) → signal_place s c ≢ signal_place e.satellite e.code → track_at after s c ≡ track_at new s c)
     → AreTaken old epoch xs new → AreTaken old epoch (xs ++ e ∷ []) after
 taken-more old epoch xs new after e he none same others g s c hs =
-    let cell : first_cell (xs ++ e ∷ []) e.satellite e.code ≡ Some e.cell = cell-new xs e e.satellite e.code (same_test e.satellite (number_of e.code) e.satellite (number_of e.code) refl refl) none in
+    let cell : first_cell (xs ++ e ∷ []) e.satellite e.code ≡ Some e = cell-new xs e e.satellite e.code (same_test e.satellite (number_of e.code) e.satellite (number_of e.code) refl refl) none in
     let last : track_at new e.satellite e.code ≡ track_at old e.satellite e.code = g e.satellite e.code he ∙ ap (track_after (track_at old e.satellite e.code) e.code epoch) none in
     let here : track_at after e.satellite e.code ≡ track_after (track_at old e.satellite e.code) e.code epoch (first_cell (xs ++ e ∷ []) e.satellite e.code) =
-    same ∙ ap (λ (t : Option Track). track_after t e.code epoch (Some e.cell)) last ∙ ap (track_after (track_at old e.satellite e.code) e.code epoch) (sym cell) in
+    same ∙ ap (λ (t : Option Track). track_after t e.code epoch (Some e)) last ∙ ap (track_after (track_at old e.satellite e.code) e.code epoch) (sym cell) in
     by_eq (signal_place e.satellite e.code) (signal_place s c)
     (λ q. let p = same_signal e.satellite s e.code c he hs q in
     subst (λ (x : ℕ). track_at after x c ≡ track_after (track_at old x c) c epoch (first_cell (xs ++ e ∷ []) x c)) p.0
@@ -82,11 +81,11 @@ taken-more old epoch xs new after e he none same others g s c hs =
 pub shown-more : (old : List (Option Track)) (epoch : ℕ) (xs : List SignalEntry) (new : List (Option Track)) (e : SignalEntry) → IsSignal e.satellite e.code
     → first_cell xs e.satellite e.code ≡ None → AreTaken old epoch xs new → (c : AnyCode) → IsSignal e.satellite c
     → shown_by old epoch (xs ++ e ∷ []) e.satellite c
-    ≡ cond (is_at (place_of e.code) c) (Some (observed_with e.cell (digits_since (rolling_frequency e.code) (track_at new e.satellite e.code) (epoch_cell epoch e.cell)))) (shown_by old epoch xs e.satellite c)
+    ≡ cond (is_at (place_of e.code) c) (Some (observed_with e (digits_since (rolling_frequency e.code) (track_at new e.satellite e.code) (epoch_cell epoch e.cell)))) (shown_by old epoch xs e.satellite c)
 shown-more old epoch xs new e he none g c hc =
     let s : ℕ = e.satellite in
-    let o : Option Track → Observed = λ (t : Option Track). observed_with e.cell (digits_since (rolling_frequency e.code) t (epoch_cell epoch e.cell)) in
-    let cell : first_cell (xs ++ e ∷ []) s e.code ≡ Some e.cell = cell-new xs e s e.code (same_test s (number_of e.code) s (number_of e.code) refl refl) none in
+    let o : Option Track → Observed = λ (t : Option Track). observed_with e (digits_since (rolling_frequency e.code) t (epoch_cell epoch e.cell)) in
+    let cell : first_cell (xs ++ e ∷ []) s e.code ≡ Some e = cell-new xs e s e.code (same_test s (number_of e.code) s (number_of e.code) refl refl) none in
     let last : track_at new s e.code ≡ track_at old s e.code = g s e.code he ∙ ap (track_after (track_at old s e.code) e.code epoch) none in
     let here : shown_by old epoch (xs ++ e ∷ []) s e.code ≡ cond (is_at (place_of e.code) e.code) (Some (o (track_at new s e.code))) (shown_by old epoch xs s e.code) =
     ap (observed_after (track_at old s e.code) e.code epoch) cell ∙ ap (λ (t : Option Track). Some (o t)) (sym last)
@@ -97,13 +96,13 @@ shown-more old epoch xs new e he none g c hc =
     (λ ne. ap (observed_after (track_at old s c) c epoch) (cell-other xs e s c (other_signal s s e.code c ne))
     ∙ ap (λ (b : Bool). cond b (Some (o (track_at new s e.code))) (shown_by old epoch xs s c)) (sym (ne_eqb (place_of c) (place_of e.code) (λ q. ne (ap (λ (k : ℕ). (s - 1) * 16 + k) (sym q))))))
 
-none-rest : (b : Bool) (x : Cell) (o : Option Cell) → o ≢ None → cond b (Some x) o ≢ None
+none-rest : (b : Bool) (x : SignalEntry) (o : Option SignalEntry) → o ≢ None → cond b (Some x) o ≢ None
 none-rest true x o f h = cc
 none-rest false x o f h = f h
 
 not-none : (xs : List SignalEntry) (e : SignalEntry) (s : ℕ) (c : AnyCode) → is_signal s c e ≡ true → first_cell (xs ++ e ∷ []) s c ≢ None
-not-none [] e s c t h = let some : first_cell (e ∷ []) s c ≡ Some e.cell = rw t refl in cc
-not-none (y ∷ xs) e s c t h = none-rest (is_signal s c y) y.cell (first_cell (xs ++ e ∷ []) s c) (not-none xs e s c t) h
+not-none [] e s c t h = let some : first_cell (e ∷ []) s c ≡ Some e = rw t refl in cc
+not-none (y ∷ xs) e s c t h = none-rest (is_signal s c y) y (first_cell (xs ++ e ∷ []) s c) (not-none xs e s c t) h
 
 -- a code without a cell may have one, also after a cell
 pub may-more : (new after : List (Option Track)) (xs : List SignalEntry) (s epoch : ℕ) (e : SignalEntry)
@@ -118,7 +117,7 @@ may-more new after xs s epoch e others he may c hc none =
 
 -- ---- a whole epoch
 
-pub track-below : (o : Option Cell) (epoch : ℕ) (code : AnyCode) (below : List EpochCell)
+pub track-below : (o : Option SignalEntry) (epoch : ℕ) (code : AnyCode) (below : List EpochCell)
     → track_after (last_phase (rolling_frequency code) below) code epoch o ≡ last_phase (rolling_frequency code) (and_below epoch o below)
 track-below None epoch code below = refl
 track-below (Some c) epoch code below = refl
@@ -132,7 +131,7 @@ later-if true t last e h k = h
 later-if false t last e h k = k
 
 -- after an epoch, its phases are below each later one
-pub later-after : (last : Option Track) (code : AnyCode) (epoch later : ℕ) (o : Option Cell) → epoch < later → IsLater last epoch → IsLater (track_after last code epoch o) later
+pub later-after : (last : Option Track) (code : AnyCode) (epoch later : ℕ) (o : Option SignalEntry) → epoch < later → IsLater last epoch → IsLater (track_after last code epoch o) later
 later-after last code epoch later None h k = later-more last epoch later (omega arith) k
 later-after last code epoch later (Some c) h k =
-    later-if (has_phase (epoch_cell epoch c)) (track_of (rolling_frequency code) last (epoch_cell epoch c)) last later h (later-more last epoch later (omega arith) k)
+    later-if (has_phase (epoch_cell epoch c.cell)) (track_of (rolling_frequency code) last (epoch_cell epoch c.cell)) last later h (later-more last epoch later (omega arith) k)

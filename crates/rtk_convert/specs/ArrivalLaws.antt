@@ -36,7 +36,7 @@ SoFarBegins =
 -- once a closed epoch has a record the header stays
 abbrev pub HeaderIsFinal : Type 0
 HeaderIsFinal =
-    (s : SetupView) (a : Arrival) (before : List Arrival) (t : ℕ) → first_time s.head.listed (closed signals (cells_by s) s.window before) ≡ Some t
+    (s : SetupView) (a : Arrival) (before : List Arrival) (t : ℕ) → first_time s.head.doppler s.head.listed (closed signals (cells_by s) s.window before) ≡ Some t
     → header_of s (site_of_kept s.window (a ∷ before)) (kept signals (cells_by s) s.window (a ∷ before)) ≡ header_of s (site_of_kept s.window before) (kept signals (cells_by s) s.window before)
 
 abbrev pub and_if_arrived : Found → FrameClass → List Found → List Found

@@ -17,7 +17,7 @@ pub record ClosedEpochsView : Type 0 where
 
 -- these are the closed epochs, falling: each satellite and code has its last phase, the header is
 -- written once one of them has a record, and their records are counted
-pub record HasClosed (c : ClosedEpochsView) (listed : List AnyCode) (epochs : List (EpochSetView SignalEntry)) : Type 0 where
+pub record HasClosed (c : ClosedEpochsView) (doppler : Bool) (listed : List AnyCode) (epochs : List (EpochSetView SignalEntry)) : Type 0 where
   pub phases : HasLastPhases c.tracks epochs
-  pub is_header_out : c.is_header_out ≡ is_some (first_time listed epochs)
-  pub count : c.count ≡ record_count listed epochs
+  pub is_header_out : c.is_header_out ≡ is_some (first_time doppler listed epochs)
+  pub count : c.count ≡ record_count doppler listed epochs

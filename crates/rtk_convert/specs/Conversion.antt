@@ -57,7 +57,7 @@ HasRemarks s r found =
 -- are; it has the counts of the frames; and it knows what the frames tell for the last lines
 pub record RepresentsFound (s : ConversionView) (found : List Found) : Type 0 where
   pub kept : HoldsKept s.setup s.collector (arrivals found)
-  pub closed : HasClosed s.closed_epochs s.setup.head.listed (closed signals (cells_by s.setup) s.setup.window (arrivals found))
+  pub closed : HasClosed s.closed_epochs s.setup.head.doppler s.setup.head.listed (closed signals (cells_by s.setup) s.setup.window (arrivals found))
   pub counts : s.counts ≡ frame_counts s.setup found
   pub remarks : HasRemarks s.setup s.remarks found
 

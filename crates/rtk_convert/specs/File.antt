@@ -13,15 +13,15 @@ use Rattle.rtk_rinex.specs.MixedRecord.{mixed_record_text}
 use Rattle.rtk_convert.specs.Rows.{table_of}
 use Rattle.rtk_setup.specs.Setup.{SetupView}
 
--- the record of an epoch, given the epochs below it; empty if no listed observation is written (a
+-- the record of an epoch in a file with Doppler shifts or without them, given the epochs below it; empty if no listed observation is written (a
 -- phase may be rolled to 0 or outside the limits, so this depends on the epochs below)
-abbrev pub record_of : List AnyCode → EpochSetView SignalEntry → List (EpochSetView SignalEntry) → List ℕ
-record_of listed e below = mixed_record_text (table_of listed e below)
+abbrev pub record_of : Bool → List AnyCode → EpochSetView SignalEntry → List (EpochSetView SignalEntry) → List ℕ
+record_of doppler listed e below = mixed_record_text doppler (table_of listed e below)
 
 -- the records of all epochs, rising
-unfoldable pub records : List AnyCode → List (EpochSetView SignalEntry) → List ℕ
-records listed [] = []
-records listed (e ∷ below) = records listed below ++ record_of listed e below
+unfoldable pub records : Bool → List AnyCode → List (EpochSetView SignalEntry) → List ℕ
+records doppler listed [] = []
+records doppler listed (e ∷ below) = records doppler listed below ++ record_of doppler listed e below
 
 -- the first time after one more epoch: the one before, if there is one; else the time of this
 -- epoch, unless its record is empty
@@ -32,9 +32,9 @@ first_or None epoch (x ∷ text) = Some epoch
 
 -- formula
 -- the least epoch that has a record
-unfoldable pub first_time : List AnyCode → List (EpochSetView SignalEntry) → Option ℕ
-first_time listed [] = None
-first_time listed (e ∷ below) = first_or (first_time listed below) e.epoch (record_of listed e below)
+unfoldable pub first_time : Bool → List AnyCode → List (EpochSetView SignalEntry) → Option ℕ
+first_time doppler listed [] = None
+first_time doppler listed (e ∷ below) = first_or (first_time doppler listed below) e.epoch (record_of doppler listed e below)
 
 -- the last of the rows from 1 to n that has begun, or 0 if none has
 unfoldable pub begun_row : (ℕ → Bool) → ℕ → ℕ
@@ -63,18 +63,18 @@ header_at s site first = mixed_header_text (head_at s first) site first
 -- formula
 -- the header: its first time is the time of the first record; without a record it is the reference
 abbrev pub header_of : SetupView → PositionView → List (EpochSetView SignalEntry) → List ℕ
-header_of s site epochs = header_at s site (unwrap_or (first_time s.head.listed epochs) s.near)
+header_of s site epochs = header_at s site (unwrap_or (first_time s.head.doppler s.head.listed epochs) s.near)
 
 -- formula
 -- the file: the header, then the records of all epochs, rising
 abbrev pub file_of : SetupView → PositionView → List (EpochSetView SignalEntry) → List ℕ
-file_of s site epochs = header_of s site epochs ++ records s.head.listed epochs
+file_of s site epochs = header_of s site epochs ++ records s.head.doppler s.head.listed epochs
 
 abbrev pub one_more_if_any : List ℕ → ℕ → ℕ
 one_more_if_any [] n = n
 one_more_if_any (x ∷ text) n = count_after n
 
 -- how many epochs have a record; a count stays at its greatest value
-unfoldable pub record_count : List AnyCode → List (EpochSetView SignalEntry) → ℕ
-record_count listed [] = 0
-record_count listed (e ∷ below) = one_more_if_any (record_of listed e below) (record_count listed below)
+unfoldable pub record_count : Bool → List AnyCode → List (EpochSetView SignalEntry) → ℕ
+record_count doppler listed [] = 0
+record_count doppler listed (e ∷ below) = one_more_if_any (record_of doppler listed e below) (record_count doppler listed below)

@@ -1,5 +1,5 @@
 -- Laws on the file of a set.
-use Rattle.std.specs.Prelude.{◌≡◌, ℕ, false, List, None, All}
+use Rattle.std.specs.Prelude.{◌≡◌, ℕ, pos, false, List, None, All}
 use Rattle.rtk_obs.specs.declared.signal_cells.SignalEntry.{SignalEntry}
 use Rattle.rtk_obs.specs.SignalCells.{IsSignalInRange}
 use Rattle.rtk_collect.specs.EpochSet.{EpochSetView, EpochsFall}
@@ -10,9 +10,9 @@ use Rattle.rtk_rinex.specs.MixedTable.{MixedTable, IsMixedTable, mixed_table_tex
 use Rattle.rtk_setup.specs.Setup.{SetupView, IsSetupView}
 use Rattle.rtk_convert.specs.File.{file_of}
 
--- a cell of a satellite of GLONASS has no phase unless the head tells the channel of its slot
+-- a cell of a satellite of GLONASS has no phase and no Doppler shift unless the head tells the channel of its slot
 abbrev pub HasPhaseBy : SetupView → SignalEntry → Type 0
-HasPhaseBy s e = has_phases (form_of_head s.head) e.satellite ≡ false → e.cell.phase_millicycles ≡ None
+HasPhaseBy s e = has_phases (form_of_head s.head) e.satellite ≡ false → (e.cell.phase_millicycles ≡ None) × (e.doppler_millihertz ≡ pos 0)
 
 -- a moment, and cells with a code of the system of their satellite, a strength that messages give, and a phase
 -- that has a meaning

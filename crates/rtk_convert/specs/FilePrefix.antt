@@ -15,4 +15,4 @@ unless_empty (x ∷ xs) text = text
 -- closed epoch has a record; then the header of all epochs and the records of the closed ones
 abbrev pub so_far : SetupView → PositionView → List (EpochSetView SignalEntry) → List (EpochSetView SignalEntry) → List ℕ
 so_far s site all_epochs closed =
-    unless_empty (records s.head.listed closed) (header_of s site all_epochs ++ records s.head.listed closed)
+    unless_empty (records s.head.doppler s.head.listed closed) (header_of s site all_epochs ++ records s.head.doppler s.head.listed closed)

@@ -16,7 +16,7 @@ use Rattle.rtk_convert.specs.Slots.{is_without_channel, is_of_other_channel, any
 
 -- the counts of all found frames, and the count of the records of the file
 abbrev pub all_counts : SetupView → List Found → Counts
-all_counts s found = record (frame_counts s found) { epochs = record_count s.head.listed (kept signals (cells_by s) s.window (arrivals found)) }
+all_counts s found = record (frame_counts s found) { epochs = record_count s.head.doppler s.head.listed (kept signals (cells_by s) s.window (arrivals found)) }
 
 -- the letter of a listed system of which no message was taken, after a blank
 abbrev pub missing_letter : SetupView → List Found → System → List ℕ

@@ -45,17 +45,17 @@ ReportTellsCounts =
 -- ---- the count of records
 
 -- the records of epochs, rising; a record may be empty
-abbrev pub record_texts : List AnyCode → List (EpochSetView SignalEntry) → List (List ℕ)
-record_texts listed [] = []
-record_texts listed (e ∷ below) = record_texts listed below ++ record_of listed e below ∷ []
+abbrev pub record_texts : Bool → List AnyCode → List (EpochSetView SignalEntry) → List (List ℕ)
+record_texts doppler listed [] = []
+record_texts doppler listed (e ∷ below) = record_texts doppler listed below ++ record_of doppler listed e below ∷ []
 
 abbrev pub has_bytes : List ℕ → Bool
 has_bytes [] = false
 has_bytes (x ∷ text) = true
 
 -- these texts are the records of the file, and this many of them are not empty
-pub record AreRecordsOf (listed : List AnyCode) (epochs : List (EpochSetView SignalEntry)) (texts : List (List ℕ)) (count : ℕ) : Type 0 where
-  pub file : records listed epochs ≡ flat_map (λ text. text) texts
+pub record AreRecordsOf (doppler : Bool) (listed : List AnyCode) (epochs : List (EpochSetView SignalEntry)) (texts : List (List ℕ)) (count : ℕ) : Type 0 where
+  pub file : records doppler listed epochs ≡ flat_map (λ text. text) texts
   pub counted : count ≡ count_by has_bytes texts
 
 -- the count `epochs` is how many of the epochs that are kept have a record in the file, if a count can
@@ -63,7 +63,7 @@ pub record AreRecordsOf (listed : List AnyCode) (epochs : List (EpochSetView Sig
 abbrev pub EpochsAreRecords : Type 0
 EpochsAreRecords =
     (s : SetupView) (found : List Found) → length (kept signals (cells_by s) s.window (arrivals found)) < 2 ^ 64
-    → AreRecordsOf s.head.listed (kept signals (cells_by s) s.window (arrivals found)) (record_texts s.head.listed (kept signals (cells_by s) s.window (arrivals found))) (all_counts s found).epochs
+    → AreRecordsOf s.head.doppler s.head.listed (kept signals (cells_by s) s.window (arrivals found)) (record_texts s.head.doppler s.head.listed (kept signals (cells_by s) s.window (arrivals found))) (all_counts s found).epochs
 
 -- so many records does `check` find in the file of found frames, whatever their payloads
 abbrev pub EpochsAreOfTable : Type 0

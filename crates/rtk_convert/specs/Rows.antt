@@ -1,7 +1,8 @@
 -- The table of an epoch, given the epochs below it. Lists of epochs fall: the greatest stands
 -- first.
-use Rattle.std.specs.Prelude.{ℕ, zero, suc, Bool, false, ◌&&◌, ◌==◌, List, [], ◌∷◌, ◌++◌, map, filter, Option, Some, None, is_some, if◌then◌else◌, ℤ}
+use Rattle.std.specs.Prelude.{ℕ, zero, suc, Bool, false, ◌&&◌, ◌==◌, List, [], ◌∷◌, ◌++◌, map, filter, Option, Some, None, is_some, if◌then◌else◌, ℤ, pos}
 use Rattle.std.specs.List.{list_any}
+use Rattle.std.specs.Ordering.{int_eq}
 use Rattle.rtk_obs.specs.declared.any_code.AnyCode.{AnyCode}
 use Rattle.rtk_obs.specs.declared.cell.Cell.{Cell}
 use Rattle.rtk_obs.specs.declared.cell.CellSource.TheVariants.{Legacy, Msm}
@@ -30,18 +31,18 @@ abbrev pub is_signal : ℕ → AnyCode → SignalEntry → Bool
 is_signal satellite code e = (e.satellite == satellite) && (number_of e.code == number_of code)
 
 -- the first cell of a satellite and code
-abbrev pub first_cell : List SignalEntry → ℕ → AnyCode → Option Cell
+abbrev pub first_cell : List SignalEntry → ℕ → AnyCode → Option SignalEntry
 first_cell [] satellite code = None
-first_cell (e ∷ cells) satellite code = if is_signal satellite code e then Some e.cell else first_cell cells satellite code
+first_cell (e ∷ cells) satellite code = if is_signal satellite code e then Some e else first_cell cells satellite code
 
 -- the cell of a satellite and code at an epoch: the cell of an MSM, even one without any value,
 -- else the cell of a 1004 or a 1012
-abbrev pub cell_at : List SignalEntry → ℕ → AnyCode → Option Cell
+abbrev pub cell_at : List SignalEntry → ℕ → AnyCode → Option SignalEntry
 cell_at cells satellite code = first_cell (in_turn cells) satellite code
 
-abbrev pub and_below : ℕ → Option Cell → List EpochCell → List EpochCell
+abbrev pub and_below : ℕ → Option SignalEntry → List EpochCell → List EpochCell
 and_below epoch None below = below
-and_below epoch (Some cell) below = epoch_cell epoch cell ∷ below
+and_below epoch (Some e) below = epoch_cell epoch e.cell ∷ below
 
 -- the cells of a satellite and code at these epochs, whether the code is listed or not
 abbrev pub cells_at_epochs : List (EpochSetView SignalEntry) → ℕ → AnyCode → List EpochCell
@@ -62,15 +63,29 @@ abbrev pub rolled_or_none : Option ℤ → ℤ → Option ℤ
 rolled_or_none None rolls = None
 rolled_or_none (Some phase) rolls = rolled_phase phase rolls
 
--- a cell with its digits: its phase has 1500 cycles added for each roll
-abbrev pub observed_with : Cell → Digits → Observed
-observed_with c d =
-    record { range_mm = c.range_mm; phase_millicycles = rolled_or_none c.phase_millicycles d.rolls; strength_millidbhz = c.strength_millidbhz; slip = d.slip; half = d.half }
+-- a Doppler shift, of which 0 means none
+abbrev pub shift_or_none : ℤ → Option ℤ
+shift_or_none shift = if int_eq shift (pos 0) then None else Some shift
+
+-- the values of a cell with its Doppler shift and its digits: its phase has 1500 cycles added for each roll
+abbrev pub observed_by : Cell → ℤ → Digits → Observed
+observed_by c shift d =
+    record {
+      range_mm = c.range_mm;
+      phase_millicycles = rolled_or_none c.phase_millicycles d.rolls;
+      doppler_millihertz = shift_or_none shift;
+      strength_millidbhz = c.strength_millidbhz;
+      slip = d.slip;
+      half = d.half;
+    }
+
+abbrev pub observed_with : SignalEntry → Digits → Observed
+observed_with e d = observed_by e.cell e.doppler_millihertz d
 
 -- what the cell of a code shows at an epoch, after the last phase
-abbrev pub observed_after : Option Track → AnyCode → ℕ → Option Cell → Option Observed
+abbrev pub observed_after : Option Track → AnyCode → ℕ → Option SignalEntry → Option Observed
 observed_after last code epoch None = None
-observed_after last code epoch (Some c) = Some (observed_with c (digits_since (rolling_frequency code) last (epoch_cell epoch c)))
+observed_after last code epoch (Some e) = Some (observed_with e (digits_since (rolling_frequency code) last (epoch_cell epoch e.cell)))
 
 -- what a satellite and code show at an epoch, given the epochs below
 abbrev pub observed_at : EpochSetView SignalEntry → List (EpochSetView SignalEntry) → ℕ → AnyCode → Option Observed
@@ -80,7 +95,7 @@ observed_at e below satellite code = observed_after (last_phase_of below satelli
 
 -- what is observed, or a record without any value
 abbrev pub or_nothing : Option Observed → Observed
-or_nothing None = record { range_mm = None; phase_millicycles = None; strength_millidbhz = None; slip = false; half = false }
+or_nothing None = record { range_mm = None; phase_millicycles = None; doppler_millihertz = None; strength_millidbhz = None; slip = false; half = false }
 or_nothing (Some o) = o
 
 -- the listed codes of the system of a satellite, in their order

@@ -7,7 +7,7 @@ ghost use Rattle.rtk_convert.specs.Steps.ShownCells.{AllBelow};
 ghost use Rattle.rtk_convert.specs.ClosedEpochs.{HasClosed};
 ghost use Rattle.rtk_obs.specs.declared.any_code.AnyCode.{AnyCode};
 ghost use Rattle.rtk_rinex.specs.Header.{position_view};
-ghost use Rattle.std.specs.Prelude.{◌≡◌, ℕ, ◌<◌, [], List, false, map, IfOk};
+ghost use Rattle.std.specs.Prelude.{◌≡◌, ℕ, ◌<◌, [], List, Bool, false, map, IfOk};
 
 use crate::epoch_rows::push_rows;
 use crate::fault::ConvertFault;
@@ -60,7 +60,7 @@ pub(crate) fn new_room<E: FileEntry>(alloc: Global) -> Result<Box<ArrayVec<E, 64
 impl<E: FileEntry> ClosedEpochs<E> {
     /// Makes the state in which no epoch is closed.
     pub(crate) fn new(alloc: Global) -> Result<ClosedEpochs<E>, AllocError>
-        ensures follows { IfOk result (λ r. (listed : List AnyCode) → HasClosed r listed []) }
+        ensures follows { IfOk result (λ r. (doppler : Bool) (listed : List AnyCode) → HasClosed r doppler listed []) }
         ensures below { IfOk result (λ r. (epoch : ℕ) → AllBelow r.tracks epoch) }
     {
         Ok(ClosedEpochs {
@@ -97,13 +97,22 @@ impl<E: FileEntry> ClosedEpochs<E> {
         room: &mut ArrayVec<E, 64>,
         out: &mut O,
     ) -> Result<(), ConvertFault>
+        requires shows { E.Lines.CanShow setup.now.head.doppler }
         requires above { AllBelow self.old.tracks set.now.epoch }
         ensures closes { ClosesEpoch setup.now (position_view position.now) self.old (set_of E.signal_of set.now) result self.new
             (O.taken out.old) (O.taken out.new) }
         ensures failed { NamesFailedFile result (O.failures out.old) (O.failures out.new) }
     {
         let listed = setup.head().codes();
-        push_rows(&mut *self.phases, set, listed, &mut self.lines, room)?;
+        let doppler = setup.has_doppler();
+        push_rows(
+            &mut *self.phases,
+            set,
+            listed,
+            doppler,
+            &mut self.lines,
+            room,
+        )?;
         let epoch = set.epoch();
         self.lines.finish(epoch);
         let text = self.lines.text();
@@ -136,6 +145,7 @@ pub(crate) fn close_remaining<E: FileEntry, O: Sink>(
     room: &mut ArrayVec<E, 64>,
     out: &mut O,
 ) -> Result<(), ConvertFault>
+    requires shows { E.Lines.CanShow setup.now.head.doppler }
     requires above { AllAbove closed_epochs.old (map (set_of E.signal_of) left.old.sets) }
     ensures closes { ClosesRemaining setup.now (position_view position.now) closed_epochs.old (map (set_of E.signal_of) left.old.sets) result
         closed_epochs.new (O.taken out.old) (O.taken out.new) }

@@ -22,7 +22,7 @@ ghost use Rattle.rtk_rinex.specs.MixedHeader.{codes_of};
 ghost use Rattle.rtk_rinex.specs.declared.epoch_table.Observed.{Observed};
 ghost use Rattle.rtk_convert.specs.Epochs.{set_of};
 ghost use Rattle.rtk_convert.specs.LastPhases.{HasLastPhases, track_at};
-ghost use Rattle.rtk_convert.specs.Rows.{rolled_or_none, observed_with, or_nothing, table_of};
+ghost use Rattle.rtk_convert.specs.Rows.{rolled_or_none, shift_or_none, observed_by, or_nothing, table_of};
 ghost use Rattle.rtk_convert.specs.Steps.RowLines.{Keeps};
 ghost use Rattle.rtk_convert.specs.Steps.ShownCells.{AllBelow, MayStep, IsPlaceOf, IsLeastAt, HasCellsFrom, TellsSatellite, IsSetOfCodes, AreCellsTo, AreCodesBefore, AreCodesFrom, AreCodesTo, AreRowCodes, ShowsRow, ShowsSome, StepsOver, TakesCells, ArePlaces, HasFreeOf, IsFreeOf, with_place};
 
@@ -46,13 +46,25 @@ fn rolled_or_none(phase: Option<i64>, rolls: i64) -> Option<i64>
     }
 }
 
-// Returns what the file shows of a cell with these digits.
-fn observed(cell: &Cell, digits: Digits) -> Observed
-    ensures { result ≡ observed_with cell.now digits }
+// Returns a Doppler shift, or `None` for 0, which means none.
+fn shift_or_none(shift: i32) -> Option<i64>
+    ensures { result ≡ shift_or_none shift }
+{
+    if shift == 0 {
+        None
+    } else {
+        Some(i64::from(shift))
+    }
+}
+
+// Returns what the file shows of a cell with this Doppler shift and these digits.
+fn observed(cell: &Cell, shift: i32, digits: Digits) -> Observed
+    ensures { result ≡ observed_by cell.now shift digits }
 {
     Observed {
         range_mm: cell.range_mm,
         phase_millicycles: rolled_or_none(cell.phase_millicycles, digits.rolls),
+        doppler_millihertz: shift_or_none(shift),
         strength_millidbhz: cell.strength_millidbhz,
         slip: digits.slip,
         half: digits.half,
@@ -242,7 +254,7 @@ fn show_entry<E: FileEntry>(
 {
     E::cells_are_signals();
     let digits = entry.step(phases, form.epoch);
-    let shown = observed(entry.cell(), digits);
+    let shown = observed(entry.cell(), entry.doppler(), digits);
     put_listed(form, place, &shown, lines);
 }
 
@@ -376,7 +388,7 @@ fn fill_line<E: FileEntry>(
     }
 }
 
-/// Writes the rows of a closed epoch as lines of its record, and keeps the phases of its cells as the
+/// Writes the rows of a closed epoch as lines of its record, with Doppler shifts or without them, and keeps the phases of its cells as the
 /// last phases of their satellites and codes.
 ///
 /// A cell is compared with the last phase of its satellite and code, however old that is, also if
@@ -386,20 +398,22 @@ pub(crate) fn push_rows<E: FileEntry>(
     phases: &mut E::Phases,
     set: &GatheredSet<E>,
     listed: &[AnyCode],
+    doppler: bool,
     lines: &mut E::Lines,
     room: &mut ArrayVec<E, 64>,
 ) -> Result<(), AllocError>
     requires listed { IsMixedList listed.now }
+    requires shows { E.Lines.CanShow doppler }
     requires later { AllBelow (E.places phases.old) set.now.epoch }
     ensures lines { OnOk result ((below : List (EpochSetView SignalEntry)) → HasLastPhases (E.places phases.old) below
-        → E.Lines.HasRows lines.new (table_of listed.now (set_of E.signal_of set.now) below).rows) }
+        → E.Lines.HasRows lines.new doppler (table_of listed.now (set_of E.signal_of set.now) below).rows) }
     ensures phases { OnOk result ((below : List (EpochSetView SignalEntry)) → HasLastPhases (E.places phases.old) below
         → HasLastPhases (E.places phases.new) (set_of E.signal_of set.now ∷ below)) }
     ensures later { OnOk result ((later : ℕ) → set.now.epoch < later → AllBelow (E.places phases.new) later) }
 {
     E::cells_are_signals();
     E::Lines::blank_rows_are_left_out();
-    lines.restart();
+    lines.restart(doppler);
     let epoch = set.epoch();
     let msm = set.msm_cells();
     let legacy = set.legacy_left(room);

@@ -96,6 +96,7 @@ impl<E: FileEntry> Epochs<E> {
         out: &mut O,
         log: &mut L,
     ) -> Result<(), ConvertFault>
+        requires shows { E.Lines.CanShow setup.now.head.doppler }
         requires above { ClosesAbove self.old.closed (closed_by (outcome_of E.signal_of offer)) }
         ensures window { self.new.collector ≡ self.old.collector }
         ensures writes { WritesAnswer setup.now self.old (closed_by (outcome_of E.signal_of offer)) lines.now result self.new
@@ -120,6 +121,7 @@ impl<E: FileEntry> Epochs<E> {
         room: &mut ArrayVec<E, 64>,
         out: &mut O,
     ) -> Result<u64, ConvertFault>
+        requires shows { E.Lines.CanShow setup.now.head.doppler }
         requires places { self.collector.places ≡ setup.now.window }
         requires ahead { IsAhead self.collector self.closed }
         ensures ends { EndsEpochs setup.now self result (O.taken out.old) (O.taken out.new) }
@@ -190,9 +192,10 @@ impl Epochs<SignalEntry> {
         let (number, epoch) = (dated.number(), dated.epoch());
         let channels = setup.channels();
         let sbas = setup.takes_sbas();
+        let doppler = setup.has_doppler();
         let offer = self
             .collector
-            .offer_signals(dated, channels, sbas, &mut self.conflicts)?;
+            .offer_signals(dated, channels, sbas, doppler, &mut self.conflicts)?;
         let class = class_of(&offer);
         let conflicts = self.conflicts.as_slice();
         let lines = report::message_lines::<SignalEntry>(
@@ -261,6 +264,7 @@ impl AnyEpochs {
         setup: &Setup,
         out: &mut O,
     ) -> Result<u64, ConvertFault>
+        requires form { AreEpochsOf setup.now self }
         requires places { (epochs_in self).collector.places ≡ setup.now.window }
         requires ahead { IsAhead (epochs_in self).collector (epochs_in self).closed }
         ensures ends { EndsEpochs setup.now (epochs_in self) result (O.taken out.old) (O.taken out.new) }

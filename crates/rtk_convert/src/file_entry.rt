@@ -72,10 +72,11 @@ pub(crate) trait FileEntry: Entry {
     fn name(signal: Self::Signal) -> AnySatelliteCode
         ensures { result ≡ name_of signal };
 
-    /// Does nothing. Cells are as cells of any system: their values are the same, they rise in the same order,
+    /// Does nothing. Cells are as cells of any system: their values and Doppler shifts are the same, they rise in the same order,
     /// each in range is in range, of a satellite that can have a line, and the same are left beside others.
     fn cells_are_signals()
         ensures values { (e : Self) → Self.entries.cell e ≡ (signal_of e).cell }
+        ensures shifts { (e : Self) → Self.entries.doppler e ≡ (signal_of e).doppler_millihertz }
         ensures rise { (cells : List Self) → KeysRise Self.entries cells → KeysRise signals (map signal_of cells) }
         ensures range { (e : Self) → Self.InRange e → IsSignalInRange (signal_of e) }
         ensures lines { (e : Self) → Self.InRange e → (signal_of e).satellite ≤ Self.Lines.greatest }

@@ -1,11 +1,11 @@
 //! The text of a record, whose lines are written code by code.
 
-ghost use Rattle.std.specs.Prelude.{◌≡◌, ℕ, ◌≤◌, false, IsTrue, List, [], ◌∷◌, ◌++◌, replicate, slice_set, OnOk};
+ghost use Rattle.std.specs.Prelude.{◌≡◌, ℕ, ◌≤◌, Bool, true, false, IsTrue, List, [], ◌∷◌, ◌++◌, replicate, slice_set, OnOk};
 ghost use Rattle.rtk_obs.specs.SatelliteIndex.{IsSatelliteIndex};
 ghost use Rattle.rtk_rinex.specs.declared.epoch_table.Observed.{Observed};
 ghost use Rattle.rtk_rinex.specs.declared.epoch_table.SatelliteRow.{SatelliteRow};
 ghost use Rattle.rtk_rinex.specs.MixedRecord.{mixed_record_text};
-ghost use Rattle.rtk_rinex.specs.Record.{has_line, no_observation};
+ghost use Rattle.rtk_rinex.specs.Record.{has_line_in, no_observation};
 ghost use Rattle.rtk_rinex.specs.RecordLines.{IsFreeIn};
 ghost use Rattle.rtk_convert.specs.Steps.RowLines.{Keeps, HasRoom, HasFree};
 
@@ -15,11 +15,14 @@ use std::alloc::{AllocError, Global};
 
 /// The text of a record, whose lines are written code by code, in any order.
 pub(crate) trait RowLines: Drop + Sized {
-    /// The text has the lines of these rows.
-    ghost HasRows: { Self → List SatelliteRow → Type 0 };
+    /// The text has the lines of these rows, with Doppler shifts or without them.
+    ghost HasRows: { Self → Bool → List SatelliteRow → Type 0 };
 
     /// A line is open whose codes show this.
     ghost HasLine: { Self → List Observed → Type 0 };
+
+    /// The lines can show Doppler shifts, or they can show none.
+    ghost CanShow: { Bool → Type 0 };
 
     /// The greatest satellite that can have a line.
     ghost greatest: { ℕ };
@@ -27,13 +30,14 @@ pub(crate) trait RowLines: Drop + Sized {
     /// The text.
     ghost text_of: { Self → List ℕ };
 
-    /// Makes a text without rows. It takes no memory.
+    /// Makes a text without rows and without Doppler shifts. It takes no memory.
     fn new(alloc: Global) -> Self
-        ensures { HasRows result [] };
+        ensures { HasRows result false [] };
 
-    /// Begins another record, without rows.
-    fn restart(&mut self)
-        ensures { HasRows self.new [] };
+    /// Begins another record, without rows, with Doppler shifts or without them.
+    fn restart(&mut self, doppler: bool)
+        requires { CanShow doppler }
+        ensures { HasRows self.new doppler [] };
 
     /// Opens the line of a satellite with this number of codes, which show nothing yet.
     fn open_line(&mut self, codes: usize) -> Result<(), AllocError>
@@ -45,7 +49,7 @@ pub(crate) trait RowLines: Drop + Sized {
     /// Writes what a code shows at its place in the open line, in which it shows nothing yet.
     fn put_code(&mut self, place: usize, observed: &Observed)
         requires { HasFree HasLine self.old place }
-        ensures open { (row : List Observed) → HasLine self.old row → IsFreeIn row place
+        ensures open { (row : List Observed) → HasLine self.old row → IsFreeIn true row place
             → HasLine self.new (slice_set row place observed.now) }
         ensures rows { Keeps HasRows self.old self.new };
 
@@ -55,12 +59,13 @@ pub(crate) trait RowLines: Drop + Sized {
         requires within { satellite ≤ greatest }
         requires room { HasRoom HasRows greatest self.old }
         requires open { (row : List Observed) × HasLine self.old row }
-        ensures { (rows : List SatelliteRow) (observed : List Observed) → HasRows self.old rows → HasLine self.old observed
-            → HasRows self.new (rows ++ record { satellite = satellite; observed = record { items = observed } } ∷ []) };
+        ensures { (doppler : Bool) (rows : List SatelliteRow) (observed : List Observed) → HasRows self.old doppler rows → HasLine self.old observed
+            → HasRows self.new doppler (rows ++ record { satellite = satellite; observed = record { items = observed } } ∷ []) };
 
     /// Writes the epoch line before the lines if there are any. The text is the record then.
     fn finish(&mut self, time: GpsMs)
-        ensures text { (rows : List SatelliteRow) → HasRows self.old rows → text_of self.new ≡ mixed_record_text (record { time = time; rows = rows }) };
+        ensures text { (doppler : Bool) (rows : List SatelliteRow) → HasRows self.old doppler rows
+            → text_of self.new ≡ mixed_record_text doppler (record { time = time; rows = rows }) };
 
     /// Returns the text: after `finish` that of the record, or no bytes if no observation is written.
     fn text(&self) -> &[u8]
@@ -70,19 +75,22 @@ pub(crate) trait RowLines: Drop + Sized {
     fn has_gps_alone() -> bool
         ensures { IsTrue result → greatest ≤ 32 };
 
-    /// Does nothing. A row without a written observation has no line.
+    /// Does nothing. A row without a written observation, be it a Doppler shift, has no line.
     fn blank_rows_are_left_out()
-        ensures { (lines : Self) (rows : List SatelliteRow) (row : SatelliteRow) → has_line row ≡ false
-            → HasRows lines (rows ++ row ∷ []) → HasRows lines rows };
+        ensures { (lines : Self) (doppler : Bool) (rows : List SatelliteRow) (row : SatelliteRow) → has_line_in true row ≡ false
+            → HasRows lines doppler (rows ++ row ∷ []) → HasRows lines doppler rows };
 }
 
 impl RowLines for RecordLines {
     ghost use Rattle.rtk_rinex.specs.RecordLines.{HasOpenLine};
-    ghost use Rattle.rtk_convert.specs.Steps.RowLines.{HoldsGpsLines};
+    ghost use Rattle.std.specs.Prelude.{◌≡◌, false};
+    ghost use Rattle.rtk_convert.specs.Steps.RowLines.{HasGpsRows};
 
-    ghost HasRows = { HoldsGpsLines };
+    ghost HasRows = { HasGpsRows };
 
-    ghost HasLine = { HasOpenLine };
+    ghost HasLine = { HasOpenLine false };
+
+    ghost CanShow = { λ doppler. doppler ≡ false };
 
     ghost greatest = { 32 };
 
@@ -93,7 +101,7 @@ impl RowLines for RecordLines {
     }
 
     #[inline(always)]
-    fn restart(&mut self) {
+    fn restart(&mut self, _doppler: bool) {
         RecordLines::restart(self);
     }
 
@@ -130,23 +138,26 @@ impl RowLines for RecordLines {
 }
 
 impl RowLines for MixedRecordLines {
-    ghost use Rattle.rtk_rinex.specs.RecordLines.{HasOpenLine};
-    ghost use Rattle.rtk_rinex.specs.MixedRecord.{HoldsMixedLines};
+    ghost use Rattle.std.specs.Prelude.{Unit};
+    ghost use Rattle.rtk_rinex.specs.MixedRecord.{HasOpenMixedLine};
+    ghost use Rattle.rtk_convert.specs.Steps.RowLines.{HasMixedRows};
 
-    ghost HasRows = { HoldsMixedLines };
+    ghost HasRows = { HasMixedRows };
 
-    ghost HasLine = { HasOpenLine };
+    ghost HasLine = { HasOpenMixedLine };
+
+    ghost CanShow = { λ doppler. Unit {0} };
 
     ghost greatest = { 221 };
 
-    ghost text_of = { λ l. l.text };
+    ghost text_of = { λ l. l.lines.text };
 
     fn new(alloc: Global) -> MixedRecordLines {
         MixedRecordLines::new(alloc)
     }
 
-    fn restart(&mut self) {
-        MixedRecordLines::restart(self);
+    fn restart(&mut self, doppler: bool) {
+        MixedRecordLines::restart_with(self, doppler);
     }
 
     fn open_line(&mut self, codes: usize) -> Result<(), AllocError> {

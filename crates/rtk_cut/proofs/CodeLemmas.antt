@@ -7,8 +7,8 @@ use Rattle.std.proofs.lemmas.List.Elements.{All-head, All-tail, All-map}
 use Rattle.std.proofs.lemmas.List.FromFn.{fill_by_all, length-map-range_with_len}
 use Rattle.rtk_rinex.specs.declared.epoch_table.Observed.{Observed}
 use Rattle.rtk_rinex.specs.declared.epoch_table.SatelliteRow.{SatelliteRow}
-use Rattle.rtk_rinex.specs.Record.{IsStrengthOrNone, has_observation, has_line, no_observation}
-use Rattle.rtk_rinex.specs.Table.{IsLock, IsObserved, IsTableRow}
+use Rattle.rtk_rinex.specs.Record.{IsStrengthOrNone, is_shown, has_line_in, no_observation}
+use Rattle.rtk_rinex.specs.Table.{IsAbsentOrWritten, IsLock, IsObservedWithDoppler, IsObservedIn, IsTableRow}
 use Rattle.rtk_rinex.specs.MixedForm.{FormView}
 use Rattle.rtk_rinex.specs.MixedTable.{HasNoPhase, IsMixedRow}
 use Rattle.rtk_cut.specs.Cut.{code_at, with_slip, row_with_slips}
@@ -44,41 +44,56 @@ strength-kept false slip o is = rw is refl
 pub with_slip-strength : (slip : Bool) (o : Observed) → IsStrengthOrNone o.strength_millidbhz → IsStrengthOrNone (with_slip slip o).strength_millidbhz
 with_slip-strength slip o good = rw (strength-kept (is_some o.phase_millicycles) slip o refl) good
 
-observation-kept : (b slip : Bool) (o : Observed) → is_some o.phase_millicycles ≡ b → has_observation (with_slip slip o) ≡ has_observation o
-observation-kept true slip o is = rw is refl
-observation-kept false slip o is = rw is refl
+shown-kept : (doppler b slip : Bool) (o : Observed) → is_some o.phase_millicycles ≡ b → is_shown doppler (with_slip slip o) ≡ is_shown doppler o
+shown-kept false true slip o is = rw is refl
+shown-kept true true slip o is = rw is refl
+shown-kept doppler false slip o is = rw is refl
 
-pub with_slip-has_observation : (slip : Bool) (o : Observed) → has_observation (with_slip slip o) ≡ has_observation o
-with_slip-has_observation slip o = observation-kept (is_some o.phase_millicycles) slip o refl
+pub with_slip-is_shown : (doppler slip : Bool) (o : Observed) → is_shown doppler (with_slip slip o) ≡ is_shown doppler o
+with_slip-is_shown doppler slip o = shown-kept doppler (is_some o.phase_millicycles) slip o refl
 
 lock-some : (p : Option ℤ) (slip half slip' : Bool) → is_some p ≡ true → IsLock p slip half → IsLock p slip' half
 lock-some None slip half slip' is lock = cc
 lock-some (Some v) slip half slip' is lock = tt
 
-good-slip : (b slip : Bool) (o : Observed) → is_some o.phase_millicycles ≡ b → IsObserved o → IsObserved (with_slip slip o)
-good-slip true slip o is good = rw is (record { range = good.range; phase = good.phase; strength = good.strength; lock = lock-some o.phase_millicycles o.slip o.half slip is good.lock })
-good-slip false slip o is good = rw is good
+good-slip : (doppler b slip : Bool) (o : Observed) → is_some o.phase_millicycles ≡ b → IsObservedIn doppler o → IsObservedIn doppler (with_slip slip o)
+good-slip false true slip o is good =
+    rw is (record { range = good.range; phase = good.phase; strength = good.strength; lock = lock-some o.phase_millicycles o.slip o.half slip is good.lock; doppler = good.doppler })
+good-slip true true slip o is good =
+    rw is (record { range = good.range; phase = good.phase; strength = good.strength; lock = lock-some o.phase_millicycles o.slip o.half slip is good.lock; doppler = good.doppler })
+good-slip doppler false slip o is good = rw is good
 
-pub with_slip-good : (slip : Bool) (o : Observed) → IsObserved o → IsObserved (with_slip slip o)
-with_slip-good slip o good = good-slip (is_some o.phase_millicycles) slip o refl good
+pub with_slip-good : (doppler slip : Bool) (o : Observed) → IsObservedIn doppler o → IsObservedIn doppler (with_slip slip o)
+with_slip-good doppler slip o good = good-slip doppler (is_some o.phase_millicycles) slip o refl good
 
 no-lock : (p : Option ℤ) (slip half : Bool) → IsLock p slip half → is_some p ≡ false → slip ≡ false
 no-lock None slip half lock none = lock.0
 no-lock (Some v) slip half lock none = cc
 
 -- without a phase there is no slip
-pub no-slip : (o : Observed) → IsObserved o → is_some o.phase_millicycles ≡ false → o.slip ≡ false
+pub no-slip : (o : Observed) → IsObservedWithDoppler o → is_some o.phase_millicycles ≡ false → o.slip ≡ false
 no-slip o good none = no-lock o.phase_millicycles o.slip o.half good.lock none
+
+absent-written : (d : Option ℤ) → d ≡ None → IsAbsentOrWritten d
+absent-written None is = tt
+absent-written (Some v) is = cc
+
+-- a file with Doppler shifts can show all that a file can show
+pub observed-in_any : (doppler : Bool) (o : Observed) → IsObservedIn doppler o → IsObservedWithDoppler o
+observed-in_any false o good =
+    record { range = good.range; phase = good.phase; strength = good.strength; lock = good.lock; doppler = absent-written o.doppler_millihertz good.doppler }
+observed-in_any true o good = good
 
 -- ---- the codes
 
-pub none-good : IsObserved no_observation
-none-good = record { range = tt; phase = tt; strength = tt; lock = (refl, refl) }
+pub none-good : (doppler : Bool) → IsObservedIn doppler no_observation
+none-good false = record { range = tt; phase = tt; strength = tt; lock = (refl, refl); doppler = refl }
+none-good true = record { range = tt; phase = tt; strength = tt; lock = (refl, refl); doppler = tt }
 
-pub codes-good : (xs : List Observed) (c : ℕ) → All IsObserved xs → IsObserved (get_or xs c no_observation)
-codes-good [] c good = none-good
-codes-good (x ∷ xs) zero good = All-head IsObserved x xs good
-codes-good (x ∷ xs) (suc c) good = codes-good xs c (All-tail IsObserved x xs good)
+pub codes-good : (doppler : Bool) (xs : List Observed) (c : ℕ) → All (IsObservedIn doppler) xs → IsObservedIn doppler (get_or xs c no_observation)
+codes-good doppler [] c good = none-good doppler
+codes-good doppler (x ∷ xs) zero good = All-head (IsObservedIn doppler) x xs good
+codes-good doppler (x ∷ xs) (suc c) good = codes-good doppler xs c (All-tail (IsObservedIn doppler) x xs good)
 
 abbrev pub HasStrength : Observed → Type 0
 HasStrength o = IsStrengthOrNone o.strength_millidbhz
@@ -88,8 +103,8 @@ codes-strong [] c good = tt
 codes-strong (x ∷ xs) zero good = All-head HasStrength x xs good
 codes-strong (x ∷ xs) (suc c) good = codes-strong xs c (All-tail HasStrength x xs good)
 
-pub row-no_slip : (c : ℕ) (r : SatelliteRow) → All IsObserved r.observed.items → is_some (code_at c r).phase_millicycles ≡ false → (code_at c r).slip ≡ false
-row-no_slip c r good none = no-slip (code_at c r) (codes-good r.observed.items c good) none
+pub row-no_slip : (c : ℕ) (r : SatelliteRow) → All IsObservedWithDoppler r.observed.items → is_some (code_at c r).phase_millicycles ≡ false → (code_at c r).slip ≡ false
+row-no_slip c r good none = no-slip (code_at c r) (codes-good true r.observed.items c good) none
 
 -- past the last code there is nothing
 pub code-past : (c : ℕ) (r : SatelliteRow) → length r.observed.items ≤ c → code_at c r ≡ no_observation
@@ -98,15 +113,15 @@ code-past c r past = get_or_past r.observed.items c no_observation past
 pub codes-own : (xs : List Observed) → map (λ c. get_or xs c no_observation) (range_with_len 0 (length xs)) ≡ xs
 codes-own xs = sym (fill_by_all (λ c. get_or xs c no_observation) xs (length xs) no_observation refl (λ k lt. refl))
 
-any-kept : (slips : ℕ → Bool) (code : ℕ → Observed) (cs : List ℕ) → list_any has_observation (map (λ c. with_slip (slips c) (code c)) cs) ≡ list_any has_observation (map code cs)
-any-kept slips code [] = refl
-any-kept slips code (c ∷ cs) =
-    let here : has_observation (with_slip (slips c) (code c)) ≡ has_observation (code c) = with_slip-has_observation (slips c) (code c) in
-    ap (λ b. b || list_any has_observation (map (λ c. with_slip (slips c) (code c)) cs)) here ∙ ap (λ b. has_observation (code c) || b) (any-kept slips code cs)
+any-kept : (doppler : Bool) (slips : ℕ → Bool) (code : ℕ → Observed) (cs : List ℕ) → list_any (is_shown doppler) (map (λ c. with_slip (slips c) (code c)) cs) ≡ list_any (is_shown doppler) (map code cs)
+any-kept doppler slips code [] = refl
+any-kept doppler slips code (c ∷ cs) =
+    let here : is_shown doppler (with_slip (slips c) (code c)) ≡ is_shown doppler (code c) = with_slip-is_shown doppler (slips c) (code c) in
+    ap (λ b. b || list_any (is_shown doppler) (map (λ c. with_slip (slips c) (code c)) cs)) here ∙ ap (λ b. is_shown doppler (code c) || b) (any-kept doppler slips code cs)
 
-line-kept : (slips : ℕ → Bool) (r : SatelliteRow) → has_line (row_with_slips slips r) ≡ has_line r
-line-kept slips r =
-    any-kept slips (λ c. code_at c r) (range_with_len 0 (length r.observed.items)) ∙ ap (λ (os : List Observed). list_any has_observation os) (codes-own r.observed.items)
+line-kept : (doppler : Bool) (slips : ℕ → Bool) (r : SatelliteRow) → has_line_in doppler (row_with_slips slips r) ≡ has_line_in doppler r
+line-kept doppler slips r =
+    any-kept doppler slips (λ c. code_at c r) (range_with_len 0 (length r.observed.items)) ∙ ap (λ (os : List Observed). list_any (is_shown doppler) os) (codes-own r.observed.items)
 
 pub row-wide : (slips : ℕ → Bool) (r : SatelliteRow) → length (row_with_slips slips r).observed.items ≡ length r.observed.items
 row-wide slips r = length-map-range_with_len (λ c. with_slip (slips c) (code_at c r)) 0 (length r.observed.items)
@@ -117,8 +132,8 @@ row-all P slips r each =
     All-map P (λ c. with_slip (slips c) (code_at c r)) (range_with_len 0 (length r.observed.items))
     (λ k d lt. each (get_or (range_with_len 0 (length r.observed.items)) k d))
 
-pub row-observed : (slips : ℕ → Bool) (r : SatelliteRow) → All IsObserved r.observed.items → All IsObserved (row_with_slips slips r).observed.items
-row-observed slips r good = row-all IsObserved slips r (λ c. with_slip-good (slips c) (code_at c r) (codes-good r.observed.items c good))
+pub row-observed : (doppler : Bool) (slips : ℕ → Bool) (r : SatelliteRow) → All (IsObservedIn doppler) r.observed.items → All (IsObservedIn doppler) (row_with_slips slips r).observed.items
+row-observed doppler slips r good = row-all (IsObservedIn doppler) slips r (λ c. with_slip-good doppler (slips c) (code_at c r) (codes-good doppler r.observed.items c good))
 
 -- a satellite of a file with any slips is one of a file
 pub row-good : (slips : ℕ → Bool) (n : ℕ) (r : SatelliteRow) → IsTableRow n r → IsTableRow n (row_with_slips slips r)
@@ -126,12 +141,12 @@ row-good slips n r good =
     record {
       satellite = good.satellite;
       width = row-wide slips r ∙ good.width;
-      observed = row-observed slips r good.observed;
-      line = line-kept slips r ∙ good.line;
+      observed = row-observed false slips r good.observed;
+      line = line-kept false slips r ∙ good.line;
     }
 
 codes-without_phase : (xs : List Observed) (c : ℕ) → All HasNoPhase xs → HasNoPhase (get_or xs c no_observation)
-codes-without_phase [] c none = refl
+codes-without_phase [] c none = (refl, refl)
 codes-without_phase (x ∷ xs) zero none = All-head HasNoPhase x xs none
 codes-without_phase (x ∷ xs) (suc c) none = codes-without_phase xs c (All-tail HasNoPhase x xs none)
 
@@ -145,9 +160,9 @@ row-good_mixed slips f r good =
     record {
       satellite = good.satellite;
       width = row-wide slips r ∙ good.width;
-      observed = row-observed slips r good.observed;
+      observed = row-observed f.doppler slips r good.observed;
       phases = λ none. row-all HasNoPhase slips r (λ c. phase-kept (is_some (code_at c r).phase_millicycles) (slips c) (code_at c r) refl (codes-without_phase r.observed.items c (good.phases none)));
-      line = line-kept slips r ∙ good.line;
+      line = line-kept f.doppler slips r ∙ good.line;
     }
 
 -- its own slips change nothing

@@ -6,11 +6,12 @@ use Rattle.std.proofs.lemmas.List.Elements.{All-weaker}
 use Rattle.rtk_rinex.specs.declared.epoch_table.SatelliteRow.{SatelliteRow}
 use Rattle.rtk_rinex.specs.Record.{EpochTableView, IsSatelliteRow, HasWidth, record_text}
 use Rattle.rtk_rinex.specs.Records.{RecordsView, AreLeft, IsNextOf}
-use Rattle.rtk_rinex.specs.Table.{IsObserved, IsTableRow, IsTableEpoch}
+use Rattle.rtk_rinex.specs.Table.{IsObserved, IsObservedWithDoppler, IsTableRow, IsTableEpoch}
 use Rattle.rtk_cut.specs.Cut.{Step, cut_epoch}
 use Rattle.rtk_cut.specs.CutLaws.{IsFileEpoch}
 use Rattle.rtk_cut.specs.Steps.FileTexts.{IsNextIn}
 use Rattle.rtk_cut.specs.Steps.Pending.{mark_of, HaveMarks, MarksBecome, StandsForSlips, ClearsSlips, row_has_phase, row_with_marks}
+use Rattle.rtk_cut.proofs.CodeLemmas.{observed-in_any}
 use Rattle.rtk_cut.proofs.PendingLemmas.{shown, marks-within, epoch-shown}
 use Rattle.rtk_cut.proofs.MarkLemmas.{marks-width}
 
@@ -50,7 +51,11 @@ epoch-wide n e good = All-weaker (IsTableRow n) (λ (r : SatelliteRow). length r
 
 pub gps-epoch : (n : ℕ) (e : EpochTableView) → IsTableEpoch n e → IsFileEpoch e
 gps-epoch n e good =
-    record { observed = All-weaker (IsTableRow n) (λ (r : SatelliteRow). All IsObserved r.observed.items) (λ r row. row.observed) e.rows good.rows; rise = good.rise }
+    record {
+      observed = All-weaker (IsTableRow n) (λ (r : SatelliteRow). All IsObservedWithDoppler r.observed.items)
+          (λ r row. All-weaker IsObserved IsObservedWithDoppler (observed-in_any false) r.observed.items row.observed) e.rows good.rows;
+      rise = good.rise;
+    }
 
 -- what was made of an epoch that was read, by k codes, as many as the file has
 pub record IsMade (k n : ℕ) (marks marks' : List Bool) (epoch made : EpochTableView) (is_changed : Bool) : Type 0 where

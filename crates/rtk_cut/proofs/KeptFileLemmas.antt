@@ -4,9 +4,8 @@ use Rattle.std.specs.Prelude.{count_by, flat_map}
 use Rattle.std.specs.List.{filter, list_any}
 use Rattle.std.proofs.lemmas.List.Sums.{length-filter, count_by-le-length}
 use Rattle.rtk_rinex.specs.declared.epoch_table.SatelliteRow.{SatelliteRow}
-use Rattle.rtk_rinex.specs.Record.{EpochTableView, has_line}
-use Rattle.rtk_rinex.specs.RecordLines.{RecordLinesView}
-use Rattle.rtk_rinex.specs.MixedRecord.{HoldsMixedLines, mixed_record_text}
+use Rattle.rtk_rinex.specs.Record.{EpochTableView, has_line_in}
+use Rattle.rtk_rinex.specs.MixedRecord.{MixedLinesView, HoldsMixedLines, mixed_record_text}
 use Rattle.rtk_rinex.specs.MixedRecords.{MixedRecordsView, AreMixedLeft, IsNextRecordOf, MixedRowsView, AreRowsLeft, IsNextRowOf}
 use Rattle.rtk_cut.specs.declared.kept_systems.KeptSystems.{KeptSystems}
 use Rattle.rtk_cut.specs.Cut.{first_of_part}
@@ -62,13 +61,13 @@ pub record HasKeptRows (ks : KeptSystems) (all : List SatelliteRow) (rows : Mixe
   pub are : made ++ filter (λ r. keeps_row ks r) left ≡ filter (λ r. keeps_row ks r) all
 
 -- their lines are written
-pub record HasKeptLines (ks : KeptSystems) (read rows : MixedRowsView) (lines : RecordLinesView) : Type 0 where
+pub record HasKeptLines (ks : KeptSystems) (read rows : MixedRowsView) (lines : MixedLinesView) : Type 0 where
   pub made : List SatelliteRow
   pub holds : HoldsMixedLines lines made
   pub room : length made + rows.count ≤ 221
   pub so_far : (e : EpochTableView) → IsRecordIn read e → HasKeptRows ks e.rows rows made
 
-pub lines-none : (ks : KeptSystems) (read rows : MixedRowsView) (lines : RecordLinesView) → HoldsMixedLines lines [] → rows ≡ read → rows.count ≤ 221 → HasKeptLines ks read rows lines
+pub lines-none : (ks : KeptSystems) (read rows : MixedRowsView) (lines : MixedLinesView) → HoldsMixedLines lines [] → rows ≡ read → rows.count ≤ 221 → HasKeptLines ks read rows lines
 lines-none ks read rows lines holds is few = record {
   made = [];
   holds = holds;
@@ -77,11 +76,12 @@ lines-none ks read rows lines holds is few = record {
 }
 
 -- a line more has room
-pub lines-room : (ks : KeptSystems) (read rows : MixedRowsView) (lines : RecordLinesView) (count : ℕ) → HasKeptLines ks read rows lines → rows.count ≡ suc count → lines.count < 221
+pub lines-room : (ks : KeptSystems) (read rows : MixedRowsView) (lines : MixedLinesView) (count : ℕ) → HasKeptLines ks read rows lines → rows.count ≡ suc count → lines.lines.count < 221
 lines-room ks read rows lines count so_far is =
-    let lined : lines.count ≡ length (filter has_line so_far.made) = so_far.holds.count in
-    let counted : length (filter has_line so_far.made) ≡ count_by has_line so_far.made = length-filter has_line so_far.made in
-    let few : count_by has_line so_far.made ≤ length so_far.made = count_by-le-length has_line so_far.made in
+    let p : SatelliteRow → Bool = has_line_in lines.doppler in
+    let lined : lines.lines.count ≡ length (filter p so_far.made) = so_far.holds.count in
+    let counted : length (filter p so_far.made) ≡ count_by p so_far.made = length-filter p so_far.made in
+    let few : count_by p so_far.made ≤ length so_far.made = count_by-le-length p so_far.made in
     let room = so_far.room in
     omega (arith, lined, counted, few, room, is)
 
@@ -101,7 +101,7 @@ rows-off ks all (r ∷ rest) made row rows' next off are =
     record { left = rest; are_left = next.1; are = ap (λ xs. made ++ xs) (sym (filter-false p r rest (ap p (sym next.0) ∙ off))) ∙ are }
 
 -- the row that was read is kept, and its line is written
-pub lines-more : (ks : KeptSystems) (read rows rows' : MixedRowsView) (lines lines' : RecordLinesView) (row : SatelliteRow) → HasKeptLines ks read rows lines
+pub lines-more : (ks : KeptSystems) (read rows rows' : MixedRowsView) (lines lines' : MixedLinesView) (row : SatelliteRow) → HasKeptLines ks read rows lines
     → ((xs : List SatelliteRow) → AreRowsLeft rows xs → IsNextRowOf xs row rows') → rows.count ≡ suc rows'.count → keeps_row ks row ≡ true
     → ((xs : List SatelliteRow) → HoldsMixedLines lines xs → HoldsMixedLines lines' (xs ++ row ∷ [])) → HasKeptLines ks read rows' lines'
 lines-more ks read rows rows' lines lines' row so_far next count on pushes =
@@ -117,7 +117,7 @@ lines-more ks read rows rows' lines lines' row so_far next count on pushes =
     }
 
 -- it is not
-pub lines-past : (ks : KeptSystems) (read rows rows' : MixedRowsView) (lines : RecordLinesView) (row : SatelliteRow) → HasKeptLines ks read rows lines
+pub lines-past : (ks : KeptSystems) (read rows rows' : MixedRowsView) (lines : MixedLinesView) (row : SatelliteRow) → HasKeptLines ks read rows lines
     → ((xs : List SatelliteRow) → AreRowsLeft rows xs → IsNextRowOf xs row rows') → rows.count ≡ suc rows'.count → keeps_row ks row ≡ false → HasKeptLines ks read rows' lines
 lines-past ks read rows rows' lines row so_far next count off =
     let room = so_far.room in
@@ -190,48 +190,51 @@ first-all ks otherwise all rest so_far none =
 
 -- ---- their texts
 
-abbrev pub kept_text : KeptSystems → List EpochTableView → List ℕ
-kept_text ks es = flat_map mixed_record_text (kept_epochs ks es)
+abbrev pub kept_text : Bool → KeptSystems → List EpochTableView → List ℕ
+kept_text doppler ks es = flat_map (mixed_record_text doppler) (kept_epochs ks es)
 
 -- an epoch without such a satellite has no text
-no-text : (ks : KeptSystems) (e : EpochTableView) → keeps_some ks e ≡ false → mixed_record_text (kept_epoch ks e) ≡ []
+no-text : (doppler : Bool) (ks : KeptSystems) (e : EpochTableView) → keeps_some ks e ≡ false → mixed_record_text doppler (kept_epoch ks e) ≡ []
 unfolding mixed_record_text
-no-text ks e none = ap (λ (rows : List SatelliteRow). mixed_record_text (record { time = e.time; rows = rows })) (none-left (λ r. keeps_row ks r) e.rows none)
+no-text doppler ks e none = ap (λ (rows : List SatelliteRow). mixed_record_text doppler (record { time = e.time; rows = rows })) (none-left (λ r. keeps_row ks r) e.rows none)
 
-text-if : (ks : KeptSystems) (e : EpochTableView) (es : List EpochTableView) (b : Bool) → keeps_some ks e ≡ b → kept_text ks (e ∷ es) ≡ mixed_record_text (kept_epoch ks e) ++ kept_text ks es
-text-if ks e es true some =
-    ap (λ (xs : List EpochTableView). flat_map mixed_record_text (map (λ e. kept_epoch ks e) xs)) (filter-true (λ e. keeps_some ks e) e es some)
-text-if ks e es false none =
-    ap (λ (xs : List EpochTableView). flat_map mixed_record_text (map (λ e. kept_epoch ks e) xs)) (filter-false (λ e. keeps_some ks e) e es none)
-    ∙ ap (λ (xs : List ℕ). xs ++ kept_text ks es) (sym (no-text ks e none))
+text-if : (doppler : Bool) (ks : KeptSystems) (e : EpochTableView) (es : List EpochTableView) (b : Bool) → keeps_some ks e ≡ b
+    → kept_text doppler ks (e ∷ es) ≡ mixed_record_text doppler (kept_epoch ks e) ++ kept_text doppler ks es
+text-if doppler ks e es true some =
+    ap (λ (xs : List EpochTableView). flat_map (mixed_record_text doppler) (map (λ e. kept_epoch ks e) xs)) (filter-true (λ e. keeps_some ks e) e es some)
+text-if doppler ks e es false none =
+    ap (λ (xs : List EpochTableView). flat_map (mixed_record_text doppler) (map (λ e. kept_epoch ks e) xs)) (filter-false (λ e. keeps_some ks e) e es none)
+    ∙ ap (λ (xs : List ℕ). xs ++ kept_text doppler ks es) (sym (no-text doppler ks e none))
 
 -- what is written and what is left make the text of all
-pub record HasPutRecords (ks : KeptSystems) (all : List EpochTableView) (rest : MixedRecordsView) (before now : List ℕ) : Type 0 where
+pub record HasPutRecords (doppler : Bool) (ks : KeptSystems) (all : List EpochTableView) (rest : MixedRecordsView) (before now : List ℕ) : Type 0 where
   pub left : List EpochTableView
   pub are_left : AreMixedLeft rest left
-  pub put : now ++ kept_text ks left ≡ before ++ kept_text ks all
+  pub put : now ++ kept_text doppler ks left ≡ before ++ kept_text doppler ks all
 
-pub put-none : (ks : KeptSystems) (all : List EpochTableView) (rest : MixedRecordsView) (before : List ℕ) → AreMixedLeft rest all → HasPutRecords ks all rest before before
-put-none ks all rest before are = record { left = all; are_left = are; put = refl }
+pub put-none : (doppler : Bool) (ks : KeptSystems) (all : List EpochTableView) (rest : MixedRecordsView) (before : List ℕ) → AreMixedLeft rest all → HasPutRecords doppler ks all rest before before
+put-none doppler ks all rest before are = record { left = all; are_left = are; put = refl }
 
-put-next : (ks : KeptSystems) (all left : List EpochTableView) (rest' : MixedRecordsView) (read : MixedRowsView) (before now now' : List ℕ) → IsNextIn (AreMixedLeft rest') (IsRecordIn read) left
-    → ((e : EpochTableView) → IsRecordIn read e → now' ≡ now ++ mixed_record_text (kept_epoch ks e)) → now ++ kept_text ks left ≡ before ++ kept_text ks all → HasPutRecords ks all rest' before now'
-put-next ks all [] rest' read before now now' next wrote put = absurd next
-put-next ks all (e ∷ es) rest' read before now now' next wrote put = record {
+put-next : (doppler : Bool) (ks : KeptSystems) (all left : List EpochTableView) (rest' : MixedRecordsView) (read : MixedRowsView) (before now now' : List ℕ) → IsNextIn (AreMixedLeft rest') (IsRecordIn read) left
+    → ((e : EpochTableView) → IsRecordIn read e → now' ≡ now ++ mixed_record_text doppler (kept_epoch ks e)) → now ++ kept_text doppler ks left ≡ before ++ kept_text doppler ks all
+    → HasPutRecords doppler ks all rest' before now'
+put-next doppler ks all [] rest' read before now now' next wrote put = absurd next
+put-next doppler ks all (e ∷ es) rest' read before now now' next wrote put = record {
   left = es;
   are_left = next.1;
-  put = ap (λ (xs : List ℕ). xs ++ kept_text ks es) (wrote e next.0)
-      ∙ append_assoc now (mixed_record_text (kept_epoch ks e)) (kept_text ks es)
-      ∙ ap (λ (xs : List ℕ). now ++ xs) (sym (text-if ks e es (keeps_some ks e) refl)) ∙ put;
+  put = ap (λ (xs : List ℕ). xs ++ kept_text doppler ks es) (wrote e next.0)
+      ∙ append_assoc now (mixed_record_text doppler (kept_epoch ks e)) (kept_text doppler ks es)
+      ∙ ap (λ (xs : List ℕ). now ++ xs) (sym (text-if doppler ks e es (keeps_some ks e) refl)) ∙ put;
 }
 
-pub put-more : (ks : KeptSystems) (all : List EpochTableView) (rest rest' : MixedRecordsView) (read : MixedRowsView) (before now now' : List ℕ) → HasPutRecords ks all rest before now
-    → ((es : List EpochTableView) → AreMixedLeft rest es → IsNextRecordOf es read rest') → ((e : EpochTableView) → IsRecordIn read e → now' ≡ now ++ mixed_record_text (kept_epoch ks e))
-    → HasPutRecords ks all rest' before now'
-put-more ks all rest rest' read before now now' so_far next wrote =
-    put-next ks all so_far.left rest' read before now now' (read-in rest rest' read so_far.left so_far.are_left next) wrote so_far.put
+pub put-more : (doppler : Bool) (ks : KeptSystems) (all : List EpochTableView) (rest rest' : MixedRecordsView) (read : MixedRowsView) (before now now' : List ℕ) → HasPutRecords doppler ks all rest before now
+    → ((es : List EpochTableView) → AreMixedLeft rest es → IsNextRecordOf es read rest') → read.form.doppler ≡ doppler
+    → ((e : EpochTableView) → IsRecordIn read e → now' ≡ now ++ mixed_record_text read.form.doppler (kept_epoch ks e)) → HasPutRecords doppler ks all rest' before now'
+put-more doppler ks all rest rest' read before now now' so_far next form wrote =
+    put-next doppler ks all so_far.left rest' read before now now' (read-in rest rest' read so_far.left so_far.are_left next)
+    (λ e is. wrote e is ∙ ap (λ (d : Bool). now ++ mixed_record_text d (kept_epoch ks e)) form) so_far.put
 
-pub put-all : (ks : KeptSystems) (all : List EpochTableView) (rest : MixedRecordsView) (before now : List ℕ) → HasPutRecords ks all rest before now → ((es : List EpochTableView) → AreMixedLeft rest es → es ≡ [])
-    → now ≡ before ++ kept_text ks all
-put-all ks all rest before now so_far none =
-    sym (append-nil now) ∙ ap (λ (es : List EpochTableView). now ++ kept_text ks es) (sym (none so_far.left so_far.are_left)) ∙ so_far.put
+pub put-all : (doppler : Bool) (ks : KeptSystems) (all : List EpochTableView) (rest : MixedRecordsView) (before now : List ℕ) → HasPutRecords doppler ks all rest before now
+    → ((es : List EpochTableView) → AreMixedLeft rest es → es ≡ []) → now ≡ before ++ kept_text doppler ks all
+put-all doppler ks all rest before now so_far none =
+    sym (append-nil now) ∙ ap (λ (es : List EpochTableView). now ++ kept_text doppler ks es) (sym (none so_far.left so_far.are_left)) ∙ so_far.put

@@ -1,6 +1,6 @@
 -- The rows of a record of any systems, read one after another: how they change marks, and what they show.
 use Rattle.std.proofs.Common.{◌≡◌, ◌<◌, ◌≤◌, ◌+◌, ℕ, suc, Bool, true, false, not, ◌&&◌, ◌||◌, eqb, ltb, Option, Some, None, Result, Ok, Err, List, [], ◌∷◌, ◌++◌, map, length, get_or, take, drop, length-append, length-drop, take-append-drop, append-nil, refl, sym, ap, subst, ◌∙◌, arith}
-use Rattle.std.specs.Prelude.{All, IfOk, MatchOption, is_some, count_by}
+use Rattle.std.specs.Prelude.{All, IfOk, IfSome, MatchOption, is_some, count_by}
 use Rattle.std.specs.List.{filter, list_any}
 use Rattle.std.proofs.Math.Seq.{drop-cons}
 use Rattle.std.proofs.lemmas.Bool.{ltb-false}
@@ -10,20 +10,19 @@ use Rattle.std.proofs.lemmas.List.Folds.{list_any_more}
 use Rattle.std.proofs.lemmas.List.Sums.{length-filter, count_by-le-length}
 use Rattle.rtk_rinex.specs.declared.epoch_table.Observed.{Observed}
 use Rattle.rtk_rinex.specs.declared.epoch_table.SatelliteRow.{SatelliteRow}
-use Rattle.rtk_rinex.specs.Record.{EpochTableView, no_observation, has_line}
-use Rattle.rtk_rinex.specs.Table.{IsObserved}
+use Rattle.rtk_rinex.specs.Record.{EpochTableView, no_observation, has_line_in}
+use Rattle.rtk_rinex.specs.Table.{IsObservedWithDoppler, IsObservedIn}
 use Rattle.rtk_rinex.specs.MixedForm.{FormView}
 use Rattle.rtk_rinex.specs.MixedTable.{IsMixedRow, IsMixedEpoch}
-use Rattle.rtk_rinex.specs.RecordLines.{RecordLinesView}
-use Rattle.rtk_rinex.specs.MixedRecord.{HoldsMixedLines, mixed_record_text}
+use Rattle.rtk_rinex.specs.MixedRecord.{MixedLinesView, HoldsMixedLines, mixed_record_text}
 use Rattle.rtk_rinex.specs.MixedRecords.{MixedRecordsView, AreMixedLeft, IsNextRecordOf, MixedRowsView, AreRowsLeft, IsNextRowOf}
 use Rattle.rtk_cut.specs.Cut.{code_at}
 use Rattle.rtk_cut.specs.CutLaws.{IsFileEpoch}
 use Rattle.rtk_cut.specs.Steps.FileTexts.{IsNextIn}
 use Rattle.rtk_cut.specs.Steps.Pending.{mark_of, HasMarks, HaveMarks, MarksBecome, row_has_slip, row_has_phase, codes_with_marks, row_with_marks, row_with_own_marks, epoch_with_own_marks}
-use Rattle.rtk_cut.specs.Steps.MixedFile.{IsRecordIn}
+use Rattle.rtk_cut.specs.Steps.MixedFile.{IsRecordIn, IsRecordWith, AreLeftIn}
 use Rattle.rtk_cut.proofs.TestLemmas.{and-nothing, and-all}
-use Rattle.rtk_cut.proofs.CodeLemmas.{code-past}
+use Rattle.rtk_cut.proofs.CodeLemmas.{code-past, observed-in_any}
 use Rattle.rtk_cut.proofs.RowLemmas.{Rise, none-before}
 use Rattle.rtk_cut.proofs.MarkLemmas.{rows-noted, codes-same, map-more, row-kept}
 
@@ -38,9 +37,25 @@ pub next-answers : (r r' : MixedRecordsView) (answer : Option MixedRowsView) (ep
 next-answers r r' None epochs left next = next
 next-answers r r' (Some rows) epochs left next = next-in r r' rows epochs left next
 
+with-in : (doppler : Bool) (r r' : MixedRecordsView) (rows : MixedRowsView) (epochs : List EpochTableView) → r'.form ≡ r.form → rows.form ≡ r.form → r.form.doppler ≡ doppler
+    → IsNextIn (AreMixedLeft r') (IsRecordIn rows) epochs → IsNextIn (AreLeftIn doppler r') (IsRecordWith doppler rows) epochs
+with-in doppler r r' rows [] left own is next = absurd next
+with-in doppler r r' rows (e ∷ es) left own is next =
+    ((next.0, ap (λ (f : FormView). f.doppler) own ∙ is), (next.1, ap (λ (f : FormView). f.doppler) left ∙ is))
+
+-- the same of a file with Doppler shifts, or without them
+pub next-with : (doppler : Bool) (r r' : MixedRecordsView) (answer : Option MixedRowsView) (epochs : List EpochTableView) → r'.form ≡ r.form → IfSome answer (λ rows. rows.form ≡ r.form) → AreLeftIn doppler r epochs
+    → MatchOption answer (epochs ≡ []) (λ rows. IsNextRecordOf epochs rows r') → MatchOption answer (epochs ≡ []) (λ rows. IsNextIn (AreLeftIn doppler r') (IsRecordWith doppler rows) epochs)
+next-with doppler r r' None epochs same own left next = next
+next-with doppler r r' (Some rows) epochs same own left next = with-in doppler r r' rows epochs same own left.1 (next-in r r' rows epochs left.0 next)
+
 pub mixed-epoch : (form : FormView) (e : EpochTableView) → IsMixedEpoch form e → IsFileEpoch e
 mixed-epoch form e good =
-    record { observed = All-weaker (IsMixedRow form) (λ (r : SatelliteRow). All IsObserved r.observed.items) (λ r row. row.observed) e.rows good.rows; rise = good.rise }
+    record {
+      observed = All-weaker (IsMixedRow form) (λ (r : SatelliteRow). All IsObservedWithDoppler r.observed.items)
+          (λ r row. All-weaker (IsObservedIn form.doppler) IsObservedWithDoppler (observed-in_any form.doppler) r.observed.items row.observed) e.rows good.rows;
+      rise = good.rise;
+    }
 
 -- ---- rows of any systems
 
@@ -218,13 +233,13 @@ pub record HasMadeRows (old marks : List Bool) (all : List SatelliteRow) (rows :
   pub are : made ≡ map (row_with_own_marks old) (take at all)
 
 -- their lines are written
-pub record HasMadeLines (old marks : List Bool) (read rows : MixedRowsView) (lines : RecordLinesView) : Type 0 where
+pub record HasMadeLines (old marks : List Bool) (read rows : MixedRowsView) (lines : MixedLinesView) : Type 0 where
   pub made : List SatelliteRow
   pub holds : HoldsMixedLines lines made
   pub room : length made + rows.count ≤ 221
   pub so_far : (e : EpochTableView) → IsRecordIn read e → HasMadeRows old marks e.rows rows made
 
-pub made-none : (marks : List Bool) (read rows : MixedRowsView) (lines : RecordLinesView) → HoldsMixedLines lines [] → rows ≡ read → rows.count ≤ 221 → HasMadeLines marks marks read rows lines
+pub made-none : (marks : List Bool) (read rows : MixedRowsView) (lines : MixedLinesView) → HoldsMixedLines lines [] → rows ≡ read → rows.count ≤ 221 → HasMadeLines marks marks read rows lines
 made-none marks read rows lines holds is few = record {
   made = [];
   holds = holds;
@@ -233,15 +248,16 @@ made-none marks read rows lines holds is few = record {
 }
 
 -- a line more has room
-pub made-room : (old marks : List Bool) (read rows : MixedRowsView) (lines : RecordLinesView) (count : ℕ) → HasMadeLines old marks read rows lines → rows.count ≡ suc count → lines.count < 221
+pub made-room : (old marks : List Bool) (read rows : MixedRowsView) (lines : MixedLinesView) (count : ℕ) → HasMadeLines old marks read rows lines → rows.count ≡ suc count → lines.lines.count < 221
 made-room old marks read rows lines count so_far is =
-    let lined : lines.count ≡ length (filter has_line so_far.made) = so_far.holds.count in
-    let counted : length (filter has_line so_far.made) ≡ count_by has_line so_far.made = length-filter has_line so_far.made in
-    let few : count_by has_line so_far.made ≤ length so_far.made = count_by-le-length has_line so_far.made in
+    let p : SatelliteRow → Bool = has_line_in lines.doppler in
+    let lined : lines.lines.count ≡ length (filter p so_far.made) = so_far.holds.count in
+    let counted : length (filter p so_far.made) ≡ count_by p so_far.made = length-filter p so_far.made in
+    let few : count_by p so_far.made ≤ length so_far.made = count_by-le-length p so_far.made in
     let room = so_far.room in
     omega (arith, lined, counted, few, room, is)
 
-pub made-more : (old marks marks' : List Bool) (read rows rows' : MixedRowsView) (lines lines' : RecordLinesView) (row : SatelliteRow) (n : ℕ) (shown : List Observed) (is_changed : Bool) → HasMadeLines old marks read rows lines
+pub made-more : (old marks marks' : List Bool) (read rows rows' : MixedRowsView) (lines lines' : MixedLinesView) (row : SatelliteRow) (n : ℕ) (shown : List Observed) (is_changed : Bool) → HasMadeLines old marks read rows lines
     → ((xs : List SatelliteRow) → AreRowsLeft rows xs → IsNextRowOf xs row rows') → rows.count ≡ suc rows'.count → ShowsRow marks marks' row n shown is_changed
     → ((xs : List SatelliteRow) → HoldsMixedLines lines xs → HoldsMixedLines lines' (xs ++ record { satellite = row.satellite; observed = record { items = shown } } ∷ []))
     → HasMadeLines old marks' read rows' lines'
@@ -278,7 +294,8 @@ pub own-cleared : (old : List Bool) (e : EpochTableView) → map (row_with_own_m
 own-cleared old e same = ap (λ (xs : List SatelliteRow). record { time = e.time; rows = xs }) same
 
 -- a text that was made of a record with marks is that of the epoch with them
-pub ok-shown : {V E : Type 0} (items : V → List ℕ) (r : Result V E) (read : MixedRowsView) (marks : List Bool) → IfOk r (λ v. (e : EpochTableView) → IsRecordIn read e → items v ≡ mixed_record_text (epoch_with_own_marks marks e))
-    → IfOk r (λ v. (e : EpochTableView) → ((x : EpochTableView) × IsRecordIn read x × (e ≡ epoch_with_own_marks marks x)) → items v ≡ mixed_record_text e)
-ok-shown items (Ok v) read marks ok = λ e is. ok is.0 is.1 ∙ ap mixed_record_text (sym is.2)
-ok-shown items (Err x) read marks ok = tt
+pub ok-shown : {V E : Type 0} (items : V → List ℕ) (r : Result V E) (read : MixedRowsView) (marks : List Bool) (doppler : Bool) → IfOk r (λ v. (e : EpochTableView) → IsRecordIn read e → items v ≡ mixed_record_text read.form.doppler (epoch_with_own_marks marks e))
+    → IfOk r (λ v. (e : EpochTableView) → ((x : EpochTableView) × IsRecordWith doppler read x × (e ≡ epoch_with_own_marks marks x)) → items v ≡ mixed_record_text doppler e)
+ok-shown items (Ok v) read marks doppler ok = λ e is.
+    ok is.0 is.1.0 ∙ ap (λ (d : Bool). mixed_record_text d (epoch_with_own_marks marks is.0)) is.1.1 ∙ ap (mixed_record_text doppler) (sym is.2)
+ok-shown items (Err x) read marks doppler ok = tt

@@ -9,7 +9,7 @@ use Rattle.std.proofs.lemmas.List.Folds.{list_any_none}
 use Rattle.rtk_rinex.specs.declared.epoch_table.Observed.{Observed}
 use Rattle.rtk_rinex.specs.declared.epoch_table.SatelliteRow.{SatelliteRow}
 use Rattle.rtk_rinex.specs.Record.{HasWidth}
-use Rattle.rtk_rinex.specs.Table.{IsObserved}
+use Rattle.rtk_rinex.specs.Table.{IsObservedWithDoppler}
 use Rattle.rtk_cut.specs.Cut.{code_at}
 use Rattle.rtk_cut.specs.Steps.Pending.{row_has_slip, row_has_phase}
 use Rattle.rtk_cut.proofs.TestLemmas.{differ-and, same-and, or-nothing, and-nothing, and-all, pairs-head, pairs-tail}
@@ -60,13 +60,13 @@ slip-needs-phase false phase slip x y here rest none = rest none
 
 -- what each code of each row shows can be shown by a file
 abbrev pub ShowObserved : List SatelliteRow → Type 0
-ShowObserved rows = All (λ r. All IsObserved r.observed.items) rows
+ShowObserved rows = All (λ r. All IsObservedWithDoppler r.observed.items) rows
 
 -- where no row has this phase, none has its slip
 pub rows-no_slip : (s c : ℕ) (rows : List SatelliteRow) → ShowObserved rows → list_any (row_has_phase s c) rows ≡ false → list_any (row_has_slip s c) rows ≡ false
 rows-no_slip s c [] good none = refl
 rows-no_slip s c (r ∷ rows) good none =
-    let P : SatelliteRow → Type 0 = λ x. All IsObserved x.observed.items in
+    let P : SatelliteRow → Type 0 = λ x. All IsObservedWithDoppler x.observed.items in
     slip-needs-phase (eqb r.satellite s) (is_some (code_at c r).phase_millicycles) (code_at c r).slip (list_any (row_has_phase s c) rows) (list_any (row_has_slip s c) rows)
     (row-no_slip c r (All-head P r rows good)) (rows-no_slip s c rows (All-tail P r rows good)) none
 

@@ -9,7 +9,7 @@ use Rattle.std.proofs.lemmas.Option.{slice_get_within, slice_get-get_or, get_or_
 use Rattle.rtk_rinex.specs.declared.epoch_table.Observed.{Observed}
 use Rattle.rtk_rinex.specs.declared.epoch_table.SatelliteRow.{SatelliteRow}
 use Rattle.rtk_rinex.specs.Record.{EpochTableView, no_observation}
-use Rattle.rtk_rinex.specs.Table.{IsObserved}
+use Rattle.rtk_rinex.specs.Table.{IsObservedWithDoppler}
 use Rattle.rtk_cut.specs.Cut.{Step, code_at, has_phase_of, has_slip_of, has_slipped_since, with_slip, row_with_slips, cut_epoch}
 use Rattle.rtk_cut.specs.CutLaws.{IsFileEpoch, Observes, ShowsPhase, ShowsSlip, without_slip, row_without_slips, without_slips}
 use Rattle.rtk_cut.proofs.AnyLemmas.{any-weaker, any-where, any-map, any-unmap}
@@ -50,10 +50,10 @@ pub slip-shown : (s c : ℕ) (e : EpochTableView) → ShowsSlip s c e → has_sl
 slip-shown s c e shows = any-seen (λ o. o.slip) s c shows.0 e shows.1 shows.2
 
 -- an observation of a file is good
-pub observes-good : (s c : ℕ) (o : Observed) (e : EpochTableView) → IsFileEpoch e → Observes s c o e → IsObserved o
+pub observes-good : (s c : ℕ) (o : Observed) (e : EpochTableView) → IsFileEpoch e → Observes s c o e → IsObservedWithDoppler o
 observes-good s c o e good a =
-    let w = any-where (λ r. All IsObserved r.observed.items) (λ r. (r.satellite ≡ s) × (slice_get r.observed.items c ≡ Some o)) e.rows good.observed a in
-    subst IsObserved (get_or_from_slice_get w.0.observed.items c o no_observation w.2.1) (codes-good w.0.observed.items c w.1)
+    let w = any-where (λ r. All IsObservedWithDoppler r.observed.items) (λ r. (r.satellite ≡ s) × (slice_get r.observed.items c ≡ Some o)) e.rows good.observed a in
+    subst IsObservedWithDoppler (get_or_from_slice_get w.0.observed.items c o no_observation w.2.1) (codes-good true w.0.observed.items c w.1)
 
 -- ---- what the part shows of it
 

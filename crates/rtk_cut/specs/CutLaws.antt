@@ -6,7 +6,7 @@ use Rattle.rtk_rinex.specs.declared.epoch_table.Observed.{Observed}
 use Rattle.rtk_rinex.specs.declared.epoch_table.SatelliteRow.{SatelliteRow}
 use Rattle.rtk_obs.specs.Reading.{IsMoment}
 use Rattle.rtk_rinex.specs.Record.{EpochTableView}
-use Rattle.rtk_rinex.specs.Table.{WellFormedTable, IsWellFormedTable, IsObserved, table_text}
+use Rattle.rtk_rinex.specs.Table.{WellFormedTable, IsWellFormedTable, IsObservedWithDoppler, table_text}
 use Rattle.rtk_rinex.specs.MixedTable.{MixedTable, IsMixedTable, mixed_table_text}
 use Rattle.rtk_cut.specs.declared.part.Part.{Part}
 use Rattle.rtk_cut.specs.Cut.{near_of, is_near_step, is_in_span, cut_of_epochs, cut_of, mixed_cut_of}
@@ -30,7 +30,7 @@ part_of from until every = record { from = from; until = until; every = every }
 
 -- each satellite stands once, and each code shows what a code of a file can show
 pub record IsFileEpoch (e : EpochTableView) : Type 0 where
-  pub observed : All (λ r. All IsObserved r.observed.items) e.rows
+  pub observed : All (λ r. All IsObservedWithDoppler r.observed.items) e.rows
   pub rise : AllPairs (λ a b. a.satellite < b.satellite) e.rows
 
 -- such epochs, whose moments rise

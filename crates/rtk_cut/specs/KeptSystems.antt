@@ -36,7 +36,7 @@ kept_glonass ks g = if ks.glonass then g else None
 
 -- a head with the codes of these systems alone
 abbrev pub kept_head : KeptSystems → MixedHeadView → MixedHeadView
-kept_head ks h = record { marker = h.marker; listed = kept_codes ks h.listed; glonass = kept_glonass ks h.glonass; made = h.made }
+kept_head ks h = record { marker = h.marker; listed = kept_codes ks h.listed; glonass = kept_glonass ks h.glonass; made = h.made; doppler = h.doppler }
 
 -- ---- the records
 

@@ -51,11 +51,11 @@ fn put_kept_record(
     read: &MixedRows<'_>,
 ) -> Result<(), AllocError>
     ensures { OnOk result ((e : EpochTableView) → IsRecordIn read.now e
-        → text.new.items ≡ text.old.items ++ mixed_record_text (kept_epoch kept e)) }
+        → text.new.items ≡ text.old.items ++ mixed_record_text read.now.form.doppler (kept_epoch kept e)) }
 {
     let mut rows = read.again();
     let mut observed = ArrayVec::new();
-    lines.restart();
+    lines.restart_with(read.has_doppler());
     while let Some(satellite) = rows.next_row(&mut observed) {
         if kept.keeps(satellite.system()) {
             lines.push_row(satellite, observed.as_slice())?;
@@ -74,7 +74,7 @@ fn put_kept_records(
     records: MixedRecords<'_>,
 ) -> Result<(), AllocError>
     ensures { OnOk result ((epochs : List EpochTableView) → AreMixedLeft records.entry epochs
-        → text.new.items ≡ text.old.items ++ flat_map mixed_record_text (kept_epochs kept epochs)) }
+        → text.new.items ≡ text.old.items ++ flat_map (mixed_record_text records.entry.form.doppler) (kept_epochs kept epochs)) }
 {
     let mut lines = MixedRecordLines::new(alloc);
     let mut rest = records;

@@ -51,6 +51,9 @@ pub(crate) fn kept_head(kept: KeptSystems, head: &MixedHead) -> Option<MixedHead
     let Ok(narrow) = MixedHead::new(marker, codes.as_slice(), glonass, made) else {
         unreachable!()
     };
+    if head.has_doppler() {
+        return Some(narrow.with_doppler());
+    }
     Some(narrow)
 }
 

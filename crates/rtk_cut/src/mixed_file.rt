@@ -78,12 +78,13 @@ fn text_with_marks(
 ) -> Result<Vec<u8>, AllocError>
     requires { length marks.old ≡ 3552 }
     ensures { IfOk result (λ text. (e : EpochTableView) → IsRecordIn read.now e
-        → text.items ≡ mixed_record_text (epoch_with_own_marks marks.old e)) }
+        → text.items ≡ mixed_record_text read.now.form.doppler (epoch_with_own_marks marks.old e)) }
 {
     let mut rows = read.again();
     let mut row = SatelliteRow::default();
     let mut shown = [Observed::default(); 16];
     let mut lines = MixedRecordLines::new(alloc);
+    lines.restart_with(read.has_doppler());
     while let Some(satellite) = rows.next_row(&mut row.observed) {
         row.satellite = satellite.index();
         let codes = &mut shown[..row.observed.len()];
@@ -113,9 +114,8 @@ impl<'a> EpochFile for MixedFile<'a> {
     ghost use Rattle.std.specs.Prelude.{◌≡◌, length};
     ghost use Rattle.rtk_rinex.specs.Header.{position_view};
     ghost use Rattle.rtk_rinex.specs.Record.{EpochTableView};
-    ghost use Rattle.rtk_rinex.specs.MixedRecords.{AreMixedLeft};
     ghost use Rattle.rtk_cut.specs.Steps.FileTexts.{mixed_texts};
-    ghost use Rattle.rtk_cut.specs.Steps.MixedFile.{IsRecordIn};
+    ghost use Rattle.rtk_cut.specs.Steps.MixedFile.{AreLeftIn, IsRecordWith};
     ghost use Rattle.rtk_cut.specs.Steps.Pending.{epoch_with_own_marks};
 
     type Record = MixedRows<'a>;
@@ -124,15 +124,15 @@ impl<'a> EpochFile for MixedFile<'a> {
 
     ghost marks = { λ f. f.marks };
 
-    ghost AreLeft = { λ f epochs. AreMixedLeft f.records epochs };
+    ghost AreLeft = { λ f epochs. AreLeftIn f.heading.head.doppler f.records epochs };
 
     ghost size = { λ f. length f.records.text };
 
-    ghost IsRecordOf = { λ f rows e. IsRecordIn rows e };
+    ghost IsRecordOf = { λ f rows e. IsRecordWith f.heading.head.doppler rows e };
 
     ghost HasShown = { λ f. Unit {0} };
 
-    ghost IsShownAs = { λ f rows e. (own : EpochTableView) × IsRecordIn rows own × (e ≡ epoch_with_own_marks f.marks_before own) };
+    ghost IsShownAs = { λ f rows e. (own : EpochTableView) × IsRecordWith f.heading.head.doppler rows own × (e ≡ epoch_with_own_marks f.marks_before own) };
 
     fn next(&mut self) -> Option<MixedRows<'a>> {
         self.records.next()

@@ -54,9 +54,9 @@ mixed_parts_of t =
       marker = t.head.marker;
       made = reading_of t.head.made;
       site = t.site;
-      rest = (by_system system_types_lines t.head.listed ++ unit_line ++ first_line (reading_of t.first) ++ by_system phase_shift_line t.head.listed
+      rest = (by_system (system_types_lines t.head.doppler) t.head.listed ++ unit_line ++ first_line (reading_of t.first) ++ by_system phase_shift_line t.head.listed
           ++ glonass_lines t.head.glonass ++ header_line [] (codes "END OF HEADER"))
-          ++ flat_map mixed_record_text t.epochs;
+          ++ flat_map (mixed_record_text t.head.doppler) t.epochs;
     }
 
 -- if the plain text is that of parts, the text is that of these parts with the label and with these lines

@@ -32,7 +32,7 @@ pub records-stay : RecordsStay
 records-stay l t = record { records = flat_map record_text t.epochs; plain = refl; labelled = refl }
 
 mixed-records : MixedRecordsStay
-mixed-records l t = record { records = flat_map mixed_record_text t.epochs; plain = refl; labelled = refl }
+mixed-records l t = record { records = flat_map (mixed_record_text t.head.doppler) t.epochs; plain = refl; labelled = refl }
 
 glue_front : (a n m x : List ℕ) → ((a ++ n) ++ m) ++ x ≡ a ++ (n ++ (m ++ x))
 glue_front a n m x = simp append_assoc

@@ -1,5 +1,5 @@
 -- The line behind those that a label changes is no time line, in files of GPS and of any systems.
-use Rattle.std.proofs.Common.{◌≡◌, ◌<◌, ◌≤◌, ℕ, ◌*◌, ◌==◌, Bool, List, [], ◌∷◌, ◌++◌, length, take, drop, codes, decimal, sym, arith, refl, append_assoc, length-append, subst}
+use Rattle.std.proofs.Common.{◌≡◌, ◌<◌, ◌≤◌, ℕ, ◌*◌, ◌==◌, Bool, true, false, List, [], ◌∷◌, ◌++◌, length, take, drop, codes, decimal, sym, arith, refl, append_assoc, length-append, subst}
 use Rattle.std.specs.Prelude.{flat_map, count_by}
 use Rattle.std.proofs.lemmas.Fmt.{length-decimal-le}
 use Rattle.std.proofs.lemmas.List.{length-take}
@@ -8,7 +8,7 @@ use Rattle.rtk_obs.specs.declared.any_code.AnyCode.{AnyCode}
 use Rattle.rtk_rinex.specs.Columns.{left, right}
 use Rattle.rtk_rinex.specs.Header.{header_line, types, types_label, first_types_line, continuation_line, last_lines, unit_line, first_line}
 use Rattle.rtk_rinex.specs.MixedHead.{letter}
-use Rattle.rtk_rinex.specs.MixedHeader.{codes_of, types_text, system_types_lines, by_system, phase_shift_line, glonass_lines}
+use Rattle.rtk_rinex.specs.MixedHeader.{codes_of, types_count, types_text, system_types_lines, by_system, phase_shift_line, glonass_lines}
 use Rattle.rtk_obs.specs.Reading.{reading_of}
 use Rattle.rtk_rinex.specs.Record.{record_text}
 use Rattle.rtk_rinex.specs.MixedRecord.{mixed_record_text}
@@ -59,19 +59,24 @@ gps-next t good =
 
 -- ---- a file of any systems
 
-glue_four : (h a b d more : List ℕ) → (((h ++ a) ++ b) ++ d) ++ more ≡ h ++ (a ++ (b ++ (d ++ more)))
-glue_four h a b d more = simp append_assoc
+glue_five : (h a b d f more : List ℕ) → ((((h ++ a) ++ b) ++ d) ++ f) ++ more ≡ h ++ (a ++ (b ++ (d ++ (f ++ more))))
+glue_five h a b d f more = simp append_assoc
 
-system-next : (system : ℕ) (cs : List AnyCode) (more : List ℕ) → length cs ≤ 69 → HasNoTimeLine more → HasNoTimeLine (system_types_lines system cs ++ more)
-system-next system [] more few lacks = lacks
-system-next system (c ∷ cs) more few lacks =
+few-types : (doppler : Bool) (n : ℕ) → n ≤ 69 → types_count doppler * n < 1000
+few-types false n h = omega arith
+few-types true n h = omega arith
+
+system-next : (doppler : Bool) (system : ℕ) (cs : List AnyCode) (more : List ℕ) → length cs ≤ 69 → HasNoTimeLine more → HasNoTimeLine (system_types_lines doppler system cs ++ more)
+system-next doppler system [] more few lacks = lacks
+system-next doppler system (c ∷ cs) more few lacks =
     let n : ℕ = length (c ∷ cs) in
-    let text : List ℕ = types_text (c ∷ cs) in
+    let text : List ℕ = types_text doppler (c ∷ cs) in
     let a : List ℕ = continuation_line (drop 52 text) in
     let b : List ℕ = continuation_line (drop 104 text) in
     let d : List ℕ = continuation_line (drop 156 text) in
-    subst HasNoTimeLine (sym (glue_four (header_line ((system ∷ codes "  ") ++ right 3 (decimal (3 * n)) ++ take 52 text) types_label) a b d more))
-    (types-next (system ∷ codes "  ") text (a ++ (b ++ (d ++ more))) (3 * n) refl (omega (arith, few)))
+    let f : List ℕ = continuation_line (drop 208 text) in
+    subst HasNoTimeLine (sym (glue_five (header_line ((system ∷ codes "  ") ++ right 3 (decimal (types_count doppler * n)) ++ take 52 text) types_label) a b d f more))
+    (types-next (system ∷ codes "  ") text (a ++ (b ++ (d ++ (f ++ more)))) (types_count doppler * n) refl (few-types doppler n few))
 
 few-codes : (system : ℕ) (listed : List AnyCode) → length (codes_of system listed) ≤ length listed
 few-codes system listed =
@@ -79,14 +84,14 @@ few-codes system listed =
     let size : length (codes_of system listed) ≡ count_by p listed = length-filter p listed in
     omega (arith, size, count_by-le-length p listed)
 
-systems-next : (listed : List AnyCode) (systems more : List ℕ) → length listed ≤ 69 → HasNoTimeLine more
-    → HasNoTimeLine (flat_map (λ system. system_types_lines system (codes_of system listed)) systems ++ more)
-systems-next listed [] more few lacks = lacks
-systems-next listed (s ∷ ss) more few lacks =
-    let here : List ℕ = system_types_lines s (codes_of s listed) in
-    let others : List ℕ = flat_map (λ system. system_types_lines system (codes_of system listed)) ss in
+systems-next : (doppler : Bool) (listed : List AnyCode) (systems more : List ℕ) → length listed ≤ 69 → HasNoTimeLine more
+    → HasNoTimeLine (flat_map (λ system. system_types_lines doppler system (codes_of system listed)) systems ++ more)
+systems-next doppler listed [] more few lacks = lacks
+systems-next doppler listed (s ∷ ss) more few lacks =
+    let here : List ℕ = system_types_lines doppler s (codes_of s listed) in
+    let others : List ℕ = flat_map (λ system. system_types_lines doppler system (codes_of system listed)) ss in
     subst HasNoTimeLine (sym (append_assoc here others more))
-    (system-next s (codes_of s listed) (others ++ more) (omega (arith, few, few-codes s listed)) (systems-next listed ss more few lacks))
+    (system-next doppler s (codes_of s listed) (others ++ more) (omega (arith, few, few-codes s listed)) (systems-next doppler listed ss more few lacks))
 
 glue_mixed : (x u f q g e r : List ℕ) → (((((x ++ u) ++ f) ++ q) ++ g) ++ e) ++ r ≡ x ++ (u ++ (f ++ (q ++ (g ++ (e ++ r)))))
 glue_mixed x u f q g e r = simp append_assoc
@@ -98,9 +103,9 @@ mixed-next t good =
     let q : List ℕ = by_system phase_shift_line listed in
     let g : List ℕ = glonass_lines t.head.glonass in
     let e : List ℕ = header_line [] (codes "END OF HEADER") in
-    let r : List ℕ = flat_map mixed_record_text t.epochs in
+    let r : List ℕ = flat_map (mixed_record_text t.head.doppler) t.epochs in
     let behind : List ℕ = f ++ (q ++ (g ++ (e ++ r))) in
     let few : length listed ≤ 69 = good.head.listed.count.1 in
-    subst HasNoTimeLine (sym (glue_mixed (by_system system_types_lines listed) unit_line f q g e r))
-    (systems-next listed (codes "GRECJSI") (unit_line ++ behind) few
+    subst HasNoTimeLine (sym (glue_mixed (by_system (system_types_lines t.head.doppler) listed) unit_line f q g e r))
+    (systems-next t.head.doppler listed (codes "GRECJSI") (unit_line ++ behind) few
     (no-time (codes "DBHZ") (codes "SIGNAL STRENGTH UNIT") behind (omega arith) (omega arith) unit-first))

@@ -125,7 +125,7 @@ unfolding labelled_mixed_header mixed_header_text
 blank_mixed_header h s first =
     let made = reading_of h.made in
     let letter : ℕ = version_letter h.listed in
-    let x : List ℕ = by_system system_types_lines h.listed in
+    let x : List ℕ = by_system (system_types_lines h.doppler) h.listed in
     let u : List ℕ = unit_line in
     let f : List ℕ = first_line (reading_of first) in
     let q : List ℕ = by_system phase_shift_line h.listed in
@@ -138,7 +138,7 @@ blank_mixed_header h s first =
     (place_line s) (height_line s.height) x u f q g e)
 
 pub blank_mixed_text : (t : MixedTable) → labelled_mixed_text blank_label t ≡ mixed_table_text t
-blank_mixed_text t = ap (λ (header : List ℕ). header ++ flat_map mixed_record_text t.epochs) (blank_mixed_header t.head t.site t.first)
+blank_mixed_text t = ap (λ (header : List ℕ). header ++ flat_map (mixed_record_text t.head.doppler) t.epochs) (blank_mixed_header t.head t.site t.first)
 
 -- ---- the parts
 
@@ -161,8 +161,8 @@ pub mixed_label_parts : (l : LabelView) (t : MixedTable) → labelled_mixed_text
 unfolding labelled_mixed_header
 mixed_label_parts l t =
     glue_mixed_parts (top_lines (version_letter t.head.listed) l.run_by t.head.marker (reading_of t.head.made)) (marker_number_line l.marker_number) (middle_lines l t.site)
-    (by_system system_types_lines t.head.listed) unit_line (first_line (reading_of t.first)) (by_system phase_shift_line t.head.listed) (glonass_lines t.head.glonass)
-    (header_line [] (codes "END OF HEADER")) (flat_map mixed_record_text t.epochs)
+    (by_system (system_types_lines t.head.doppler) t.head.listed) unit_line (first_line (reading_of t.first)) (by_system phase_shift_line t.head.listed) (glonass_lines t.head.glonass)
+    (header_line [] (codes "END OF HEADER")) (flat_map (mixed_record_text t.head.doppler) t.epochs)
 
 pub mixed_plain_parts : (t : MixedTable) → mixed_table_text t ≡ text_of_parts blank_label (mixed_parts_of t)
 mixed_plain_parts t = sym (blank_mixed_text t) ∙ mixed_label_parts blank_label t
@@ -191,8 +191,8 @@ parts-good t good = record { marker = good.head.0; site = good.site; more = long
 
 pub mixed_long-after : (t : MixedTable) → 81 ≤ length (mixed_parts_of t).rest
 mixed_long-after t =
-    ends-more (by_system system_types_lines t.head.listed ++ unit_line ++ first_line (reading_of t.first) ++ by_system phase_shift_line t.head.listed ++ glonass_lines t.head.glonass)
-    (header_line [] (codes "END OF HEADER")) (flat_map mixed_record_text t.epochs) length-end
+    ends-more (by_system (system_types_lines t.head.doppler) t.head.listed ++ unit_line ++ first_line (reading_of t.first) ++ by_system phase_shift_line t.head.listed ++ glonass_lines t.head.glonass)
+    (header_line [] (codes "END OF HEADER")) (flat_map (mixed_record_text t.head.doppler) t.epochs) length-end
 
 pub mixed_parts-good : (t : MixedTable) → IsMixedTable t → AreFileParts (mixed_parts_of t)
 mixed_parts-good t good = record { marker = good.head.marker; site = good.site; more = mixed_long-after t }

@@ -132,7 +132,7 @@ labelled_mixed_header l h s first =
     top_lines (version_letter h.listed) l.run_by h.marker (reading_of h.made)
     ++ marker_number_line l.marker_number
     ++ middle_lines l s
-    ++ by_system system_types_lines h.listed
+    ++ by_system (system_types_lines h.doppler) h.listed
     ++ unit_line
     ++ first_line (reading_of first)
     ++ by_system phase_shift_line h.listed
@@ -141,7 +141,7 @@ labelled_mixed_header l h s first =
 
 -- the text of a table with a label
 abbrev pub labelled_mixed_text : LabelView → MixedTable → List ℕ
-labelled_mixed_text l t = labelled_mixed_header l t.head t.site t.first ++ flat_map mixed_record_text t.epochs
+labelled_mixed_text l t = labelled_mixed_header l t.head t.site t.first ++ flat_map (mixed_record_text t.head.doppler) t.epochs
 
 -- the same with further lines after those that the label changes
 abbrev pub labelled_mixed_with : List ℕ → LabelView → MixedTable → List ℕ

@@ -30,5 +30,6 @@ mod GlonassEntryLemmas
 mod NormalFieldLemmas
 mod SbasLemmas
 mod SignalEntryLemmas
+mod DopplerLemmas
 mod LeapLemmas
 mod ClockLemmas

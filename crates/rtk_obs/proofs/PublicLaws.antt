@@ -22,3 +22,5 @@ pub use Rattle.rtk_obs.proofs.ClockLemmas.{is_clock, clock-of-1012}
 pub use Rattle.rtk_obs.proofs.SbasLemmas.{sbas-own, sbas-range, sbas-differ, sbas-kind, plain-1004}
 -- the clauses of `normal_field_laws`: twice, marks and cells
 pub use Rattle.rtk_obs.proofs.NormalFieldLemmas.{normal-twice, normal-marks, normal-cells}
+-- the clauses of `doppler_laws`: codes, range, differ, kind and plain
+pub use Rattle.rtk_obs.proofs.DopplerLemmas.{doppler-own, doppler-range, doppler-differ, doppler-kind, plain-entries}

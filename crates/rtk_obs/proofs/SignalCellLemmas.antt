@@ -1,5 +1,5 @@
 -- The entries of the cells of a message of any system.
-use Rattle.std.proofs.Common.{◌≡◌, ℕ, zero, suc, ◌+◌, ◌<◌, ◌≤◌, [], ◌∷◌, ◌++◌, List, length, take, set, map, Option, Some, None, true, false, Bool, cond, refl, sym, ap, ◌∙◌, arith, ℤ}
+use Rattle.std.proofs.Common.{◌≡◌, ℕ, zero, suc, ◌+◌, ◌<◌, ◌≤◌, [], ◌∷◌, ◌++◌, List, length, take, set, map, Option, Some, None, true, false, Bool, cond, refl, sym, ap, ◌∙◌, arith, ℤ, pos}
 use Rattle.std.proofs.lemmas.List.{append-nil, map-append}
 use Rattle.std.proofs.lemmas.Bool.Decides.{nat_tests}
 use Rattle.rtk_message.specs.declared.msm1074.Msm1074.{Msm1074}
@@ -56,12 +56,12 @@ not-set e es none = record { some = λ t. not-true t; none = λ t. none }
 module _ (channels : List (Option ℤ)) (m : Msm) (k place signal : ℕ) where
   pub entry-there : (row : SignalRow) (code : AnyCode) (cell : Cell) → IsRowOfMsm channels m place row → code_in m.system signal ≡ Some code
       → cell ≡ cell_on m k place (frequency_at (carrier_of code) row.channel)
-      → signal_entry channels m k (slot_of place signal) ≡ record { satellite = row.satellite; code = code; cell = cell } ∷ []
+      → signal_entry channels m k (slot_of place signal) ≡ record { satellite = row.satellite; code = code; doppler_millihertz = pos 0; cell = cell } ∷ []
   entry-there row code cell is c e =
       ap (λ (i : Option ℕ). entry_if m k place (channel_in m.system channels (bit_of_row m place) (field_of_row m place)) i (code_in m.system signal)) is.satellite
       ∙ ap (λ (o : Option AnyCode). entry_if m k place (channel_in m.system channels (bit_of_row m place) (field_of_row m place)) (Some row.satellite) o) c
-      ∙ ap (λ (x : Option ℤ). record { satellite = row.satellite; code = code; cell = cell_on m k place (frequency_at (carrier_of code) x) } ∷ []) (sym is.channel)
-      ∙ ap (λ (x : Cell). record { satellite = row.satellite; code = code; cell = x } ∷ []) (sym e)
+      ∙ ap (λ (x : Option ℤ). record { satellite = row.satellite; code = code; doppler_millihertz = pos 0; cell = cell_on m k place (frequency_at (carrier_of code) x) } ∷ []) (sym is.channel)
+      ∙ ap (λ (x : Cell). record { satellite = row.satellite; code = code; doppler_millihertz = pos 0; cell = x } ∷ []) (sym e)
 
   pub entry-absent : (row : SignalRow) → IsRowOfMsm channels m place row → code_in m.system signal ≡ None → signal_entry channels m k (slot_of place signal) ≡ []
   entry-absent row is none =
@@ -83,14 +83,14 @@ not-gps n high = grind (arith, nat_tests)
 module _ (m : Msm1074) (k place signal : ℕ) where
   pub gps-entry-there : (row : SignalRow) (code : Code) (cell : Cell) → IsRowOf1074 m place row → code_of_signal signal ≡ Some code
       → cell ≡ cell_of_1074 m k place (band_of code)
-      → entry_of_1074 m k (slot_of place signal) ≡ record { satellite = row.satellite; code = code_of_gps code; cell = cell } ∷ []
+      → entry_of_1074 m k (slot_of place signal) ≡ record { satellite = row.satellite; code = code_of_gps code; doppler_millihertz = pos 0; cell = cell } ∷ []
   gps-entry-there row code cell is c e =
       let s : Slot = slot_of place signal in
       ap (λ (b : Bool). map signal_of (cond b (coded_entry (cell_of_1074 m k place) (satellite_in (satellites_of m.header) s) (code_of_signal signal)) []))
       (ap is_satellite (sym is.satellite) ∙ is.gps)
       ∙ ap (λ (o : Option Code). map signal_of (coded_entry (cell_of_1074 m k place) (satellite_in (satellites_of m.header) s) o)) c
-      ∙ ap (λ (n : ℕ). record { satellite = n; code = code_of_gps code; cell = cell_of_1074 m k place (band_of code) } ∷ []) (sym is.satellite)
-      ∙ ap (λ (x : Cell). record { satellite = row.satellite; code = code_of_gps code; cell = x } ∷ []) (sym e)
+      ∙ ap (λ (n : ℕ). record { satellite = n; code = code_of_gps code; doppler_millihertz = pos 0; cell = cell_of_1074 m k place (band_of code) } ∷ []) (sym is.satellite)
+      ∙ ap (λ (x : Cell). record { satellite = row.satellite; code = code_of_gps code; doppler_millihertz = pos 0; cell = x } ∷ []) (sym e)
 
   pub gps-entry-absent : (row : SignalRow) → IsRowOf1074 m place row → code_of_signal signal ≡ None → entry_of_1074 m k (slot_of place signal) ≡ []
   gps-entry-absent row is none =

@@ -135,11 +135,11 @@ glonass_l2_cell s frequency = record {
 
 abbrev pub glonass_l1_entry : GlonassSatellite → Option ℤ → ℕ → AnyCode → SignalEntry
 glonass_l1_entry s channel satellite code =
-    record { satellite = satellite; code = code; cell = glonass_l1_cell s (frequency_at (carrier_of code) channel) }
+    record { satellite = satellite; code = code; doppler_millihertz = pos 0; cell = glonass_l1_cell s (frequency_at (carrier_of code) channel) }
 
 abbrev pub glonass_l2_entry : GlonassSatellite → Option ℤ → ℕ → AnyCode → SignalEntry
 glonass_l2_entry s channel satellite code =
-    record { satellite = satellite; code = code; cell = glonass_l2_cell s (frequency_at (carrier_of code) channel) }
+    record { satellite = satellite; code = code; doppler_millihertz = pos 0; cell = glonass_l2_cell s (frequency_at (carrier_of code) channel) }
 
 -- the entry of L2, if its code gives one
 abbrev pub glonass_l2_entries : GlonassSatellite → Option ℤ → ℕ → Option AnyCode → List SignalEntry

@@ -24,6 +24,7 @@ pub mod Steps
 pub mod MsmCells
 pub mod SignalCells
 pub mod SbasCells
+pub mod Doppler
 pub mod MessageCells
 pub mod Slip
 pub mod Rollover

@@ -181,8 +181,8 @@ cells_of_1074 m = msm_entries m.header m.cell_mask (cell_of_1074 m)
 
 -- formula
 -- the k-th cell of an MSM other than 1074, on a carrier whose frequency in Hz is known or not: DF397, DF398,
--- DF400 to DF403 or DF405 to DF408, and DF420. The range rates (DF399, DF404) are not used, and the
--- extended satellite information alone for the channel of a satellite of GLONASS (DF419).
+-- DF400 to DF403 or DF405 to DF408, and DF420. The range rates (DF399, DF404) give no part of it, and the
+-- extended satellite information alone the channel of a satellite of GLONASS (DF419).
 abbrev pub cell_on : Msm → ℕ → ℕ → Option ℕ → Cell
 cell_on m k row frequency = record {
   range_mm = range_of_kind m.kind (rough_at m.rough_ms m.rough_fraction row) (slice_index_or m.fine_range k (pos 0));

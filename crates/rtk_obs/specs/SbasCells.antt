@@ -1,7 +1,7 @@
 -- The cells of the satellites of SBAS in a 1004. Their fields of L2 are zeros without an invalid mark, so L1 alone
 -- gives a cell (this project's rule).
 -- Source: RTCM 10403.3, DF009 and message 1004
-use Rattle.std.specs.Prelude.{ℕ, ◌-◌, Bool, ◌&&◌, nat_le, List, [], ◌∷◌, map, Option, Some, None, if◌then◌else◌, ℤ}
+use Rattle.std.specs.Prelude.{ℕ, ◌-◌, Bool, ◌&&◌, nat_le, List, [], ◌∷◌, map, Option, Some, None, if◌then◌else◌, ℤ, pos}
 use Rattle.std.specs.List.{flat_map}
 use Rattle.rtk_message.specs.declared.any_message.AnyMessage.{AnyMessage}
 use Rattle.rtk_message.specs.declared.any_message.AnyMessage.TheVariants as any
@@ -23,7 +23,7 @@ is_sbas_number n = nat_le 40 n && nat_le n 58
 -- the entry of a satellite of SBAS
 abbrev pub sbas_entry_if : Satellite → Option ℕ → List SignalEntry
 sbas_entry_if s None = []
-sbas_entry_if s (Some satellite) = record { satellite = satellite; code = S1C; cell = l1_cell_of s } ∷ []
+sbas_entry_if s (Some satellite) = record { satellite = satellite; code = S1C; doppler_millihertz = pos 0; cell = l1_cell_of s } ∷ []
 
 -- formula
 -- the entries of a satellite of a 1004: two of a satellite of GPS, and one of a satellite of SBAS, whose mask bit

@@ -59,7 +59,7 @@ abbrev pub entry_if : Msm → ℕ → ℕ → Option ℤ → Option ℕ → Opti
 entry_if m k row channel None code = []
 entry_if m k row channel (Some satellite) None = []
 entry_if m k row channel (Some satellite) (Some code) =
-    record { satellite = satellite; code = code; cell = cell_on m k row (frequency_at (carrier_of code) channel) } ∷ []
+    record { satellite = satellite; code = code; doppler_millihertz = pos 0; cell = cell_on m k row (frequency_at (carrier_of code) channel) } ∷ []
 
 -- the entry of the k-th cell: of which satellite and signal it is, its row and the signal identifier
 -- (DF395) say
@@ -77,7 +77,7 @@ AreDifferentEntries a b = a.satellite ≡ b.satellite → a.code ≢ b.code
 
 -- a cell of GPS as one of any system
 abbrev pub signal_of : CellEntry → SignalEntry
-signal_of e = record { satellite = e.satellite; code = code_of_gps e.code; cell = e.cell }
+signal_of e = record { satellite = e.satellite; code = code_of_gps e.code; doppler_millihertz = pos 0; cell = e.cell }
 
 -- the entries of a message, in its order: those of an MSM other than 1074, of a 1012, or of the cells of GPS
 abbrev pub entries_of : List (Option ℤ) → AnyMessage → List SignalEntry

@@ -164,6 +164,7 @@ fn l1_entry(satellite: &GlonassSatellite, channels: &Channels, index: SatelliteI
     SignalEntry {
         satellite: index,
         code,
+        doppler_millihertz: 0,
         cell: l1_cell(satellite, l1_length(satellite), frequency),
     }
 }
@@ -183,6 +184,7 @@ fn l2_entry(
     SignalEntry {
         satellite: index,
         code,
+        doppler_millihertz: 0,
         cell: l2_cell(satellite, l1_length(satellite), frequency),
     }
 }

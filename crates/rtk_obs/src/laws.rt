@@ -50,6 +50,8 @@ ghost use Rattle.rtk_obs.specs.PositionFields.{HasFields};
 ghost use Rattle.rtk_obs.specs.Cell.{IsSatellite, IsInRange, AreDistinct};
 ghost use Rattle.rtk_obs.specs.LegacyCells.{cells_of_1004};
 ghost use Rattle.rtk_obs.specs.SbasCells.{is_sbas_number, signals_of_1004, entries_with_sbas};
+ghost use Rattle.rtk_obs.specs.Doppler.{doppler_entries, entries_with_doppler, without_doppler};
+ghost use Rattle.rtk_obs.specs.declared.signal_cells.SignalEntry.{SignalEntry};
 ghost use Rattle.rtk_obs.specs.GlonassCells.{glonass_channel, normal_satellite, entries_of_1012};
 ghost use Rattle.rtk_obs.specs.MsmCells.{cells_of_1074, cells_of_msm};
 ghost use Rattle.rtk_obs.specs.MessageCells.{cells_of, AreOfOneKind};
@@ -279,4 +281,18 @@ pub fn sbas_laws()
     ensures kind { (channels : List (Option ℤ)) (m : AnyMessage) → EntriesAreOfOneKind (entries_with_sbas channels m) }
     ensures plain { (satellites : List Satellite) → All (λ s. is_sbas_number s.satellite ≡ false) satellites
         → signals_of_1004 satellites ≡ map signal_of (cells_of_1004 satellites) }
+{}
+
+/// What `entry_laws` says of the entries of a message holds also of those with Doppler shifts, if it holds of the entries
+/// of the messages that have none. Those of an MSM are its entries, but for the shifts.
+pub fn doppler_laws()
+    ensures codes { (plain : AnyMessage → List SignalEntry) (channels : List (Option ℤ)) (m : AnyMessage)
+        → All (λ e. any.IsSignal e.satellite e.code) (plain m) → All (λ e. any.IsSignal e.satellite e.code) (entries_with_doppler plain channels m) }
+    ensures range { (plain : AnyMessage → List SignalEntry) (channels : List (Option ℤ)) (m : AnyMessage) → IsValid m
+        → All IsSignalInRange (plain m) → All IsSignalInRange (entries_with_doppler plain channels m) }
+    ensures differ { (plain : AnyMessage → List SignalEntry) (channels : List (Option ℤ)) (m : AnyMessage) → IsValid m
+        → AllPairs AreDifferentEntries (plain m) → AllPairs AreDifferentEntries (entries_with_doppler plain channels m) }
+    ensures kind { (plain : AnyMessage → List SignalEntry) (channels : List (Option ℤ)) (m : AnyMessage)
+        → EntriesAreOfOneKind (plain m) → EntriesAreOfOneKind (entries_with_doppler plain channels m) }
+    ensures plain { (channels : List (Option ℤ)) (m : Msm) → signal_entries channels m ≡ map without_doppler (doppler_entries channels m) }
 {}

@@ -43,6 +43,8 @@ mod civil_text;
 mod clocks;
 mod code;
 mod dating;
+mod doppler;
+mod doppler_cells;
 mod glonass_cells;
 mod glonass_time;
 mod laws;
@@ -79,13 +81,14 @@ pub use civil_text::{put_civil, put_clock, put_date, three_digits, two_digits};
 pub use clocks::date_clock;
 pub use code::{ALL_CODES, Band, Code};
 pub use dating::{HALF_WEEK_MS, WEEK_MS, date};
+pub use doppler_cells::put_doppler_entries;
 pub use glonass_cells::{entries_1012, put_entries_1012};
 pub use glonass_time::GlonassTime;
 pub use laws::{
     any_code_laws, cell_laws, cells_are_distinct, cells_are_in_range, civil_laws, clock_laws,
-    code_laws, date_in_day_is_unique, date_is_unique, entry_laws, leap_laws, moment_laws,
-    normal_field_laws, one_reading, places_are_distinct, position_laws, rounded_is_unique,
-    satellite_laws, sbas_laws, signal_laws, track_laws, tracks_laws,
+    code_laws, date_in_day_is_unique, date_is_unique, doppler_laws, entry_laws, leap_laws,
+    moment_laws, normal_field_laws, one_reading, places_are_distinct, position_laws,
+    rounded_is_unique, satellite_laws, sbas_laws, signal_laws, track_laws, tracks_laws,
 };
 pub use leap_seconds::leap_seconds_at;
 pub use legacy_cells::{cells_1004, put_cells_1004};

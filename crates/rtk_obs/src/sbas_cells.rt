@@ -76,6 +76,7 @@ fn put_sbas(found: &mut ArrayVec<SignalEntry, 64>, satellite: &Satellite)
     found.push(SignalEntry {
         satellite: index,
         code: AnyCode::S1C,
+        doppler_millihertz: 0,
         cell: l1_cell(satellite),
     });
 }

@@ -29,6 +29,10 @@ use rtk_message::{Message, Msm, Msm1074, MsmHeader, System};
 pub struct SignalEntry {
     pub satellite: SatelliteIndex,
     pub code: AnyCode,
+    /// The Doppler shift in thousandths of a Hz, positive while the satellite comes nearer. It is 0, which RINEX
+    /// shows as no value, if the message tells none or it is not asked for.
+    // It lies in the padding before the cell, so an entry has 64 bytes.
+    pub doppler_millihertz: i32,
     /// The values. A phase of GLONASS is missing if its slot has no channel, or if the message tells another
     /// one.
     pub cell: Cell,
@@ -46,6 +50,7 @@ impl SignalEntry {
         SignalEntry {
             satellite,
             code: AnyCode::of_gps(entry.code),
+            doppler_millihertz: 0,
             cell: entry.cell,
         }
     }
@@ -67,8 +72,8 @@ fn unless_other(field: u8, channel: Option<Channel>) -> Option<Channel>
     }
 }
 
-// Returns the channel of a satellite, of which the message tells the mask bit and this field (DF419).
-fn channel_in(system: System, channels: &Channels, bit: u8, field: u8) -> Option<Channel>
+/// Returns the channel of a satellite, of which the message tells the mask bit and this field (DF419).
+pub(crate) fn channel_in(system: System, channels: &Channels, bit: u8, field: u8) -> Option<Channel>
     requires { 1 ≤ bit }
     ensures { result ≡ channel_in system channels.now bit field }
 {
@@ -78,8 +83,8 @@ fn channel_in(system: System, channels: &Channels, bit: u8, field: u8) -> Option
     }
 }
 
-// Returns the field of the satellite of a row (DF419), or `NO_CHANNEL` in a kind without it.
-fn field_of_row(message: &Msm, row: usize) -> u8
+/// Returns the field of the satellite of a row (DF419), or the one that tells no channel in a kind without it.
+pub(crate) fn field_of_row(message: &Msm, row: usize) -> u8
     ensures { result ≡ field_of_row message.now row }
 {
     match message.extended.as_slice().get(row) {
@@ -134,6 +139,7 @@ impl<'a> SignalsOfMsm for OnChannels<'a> {
                 self.message.rough_fraction.as_slice()[place],
             ),
             channel: channel_in(self.message.system, self.channels, bit, field),
+            rough_rate: None,
         })
     }
 
@@ -144,6 +150,7 @@ impl<'a> SignalsOfMsm for OnChannels<'a> {
         };
         entry.satellite = row.satellite;
         entry.code = code;
+        entry.doppler_millihertz = 0;
         let frequency = code.carrier().frequency(row.channel);
         set_values(self.message, &mut entry.cell, cell, row.rough, frequency);
         true
@@ -189,6 +196,7 @@ impl SignalsOfMsm for Msm1074 {
                 self.rough_fraction.as_slice()[place],
             ),
             channel: None,
+            rough_rate: None,
         })
     }
 
@@ -199,6 +207,7 @@ impl SignalsOfMsm for Msm1074 {
         };
         entry.satellite = row.satellite;
         entry.code = AnyCode::of_gps(code);
+        entry.doppler_millihertz = 0;
         self.set_cell(&mut entry.cell, cell, row.rough, code);
         true
     }

@@ -27,6 +27,8 @@ pub(crate) struct SignalRow {
     pub(crate) rough: Option<i64>,
     /// The frequency channel by which phases are made, if it is known.
     pub(crate) channel: Option<Channel>,
+    /// The rough range rate in m/s, if it is asked for and valid.
+    pub(crate) rough_rate: Option<i16>,
 }
 
 /// An MSM whose cells are set one by one, each as one of any system.

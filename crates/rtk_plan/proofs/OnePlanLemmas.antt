@@ -116,12 +116,12 @@ one-1012 ss given station seconds first a b is also =
     ∙ ap (λ (x : DatedSpan). near_with_1012 ss station is.2.2.0 cs also.0 x.from x.until) span
     ∙ ap (λ (n : ℕ). near_with_1012 ss station n cs also.0 also.2.0.from also.2.0.until) leap ∙ sym also.2.2.2
 
-abbrev setup_with : ℕ → ℕ → List ℕ → List AnyCode → Option GlonassView → ℕ → ℕ → SystemKinds → Option ℕ → Bool → SetupView
-setup_with station near marker listed glonass made window kinds leap_seconds takes_1012 =
+abbrev setup_with : ℕ → ℕ → List ℕ → List AnyCode → Option GlonassView → ℕ → Bool → ℕ → SystemKinds → Option ℕ → Bool → SetupView
+setup_with station near marker listed glonass made doppler window kinds leap_seconds takes_1012 =
     record {
       station = station;
       near = near;
-      head = record { marker = marker; listed = listed; glonass = glonass; made = made };
+      head = record { marker = marker; listed = listed; glonass = glonass; made = made; doppler = doppler };
       window = window;
       kinds = kinds;
       leap_seconds = leap_seconds;
@@ -158,6 +158,7 @@ one-setup ss links w made s t is also =
     ∙ ap (λ (cs : List AnyCode). kinds_listed (kinds_found w.msm ss links t.station) cs) listed ∙ sym also.kinds in
     let marker : s.head.marker ≡ t.head.marker = is.marker ∙ ap (λ (n : ℕ). marker_chosen w.marker n) station ∙ sym also.marker in
     let made_at : s.head.made ≡ t.head.made = is.made_at ∙ sym also.made_at in
+    let doppler : s.head.doppler ≡ t.head.doppler = is.doppler ∙ sym also.doppler in
     let window : s.window ≡ t.window = is.window ∙ sym also.window in
     let takes : s.takes_1012 ≡ t.takes_1012 =
     is.with_1012 ∙ ap (λ (n : ℕ). converts_1012 ss n s.head.listed is.other) station
@@ -175,16 +176,17 @@ one-setup ss links w made s t is also =
     (subst (λ (n : ℕ). IsGlonassFound ss n (taken_pair (kinds_found w.msm ss links n) t.takes_1012) t.head.listed w.channels t.leap_seconds t.near t.head.glonass) (sym station) also.glonass)))) in
     let glonass : s.head.glonass ≡ t.head.glonass =
     one-glonass ss s.station (taken_pair found s.takes_1012) s.head.listed w.channels s.leap_seconds s.near s.head.glonass t.head.glonass is.glonass told in
-    ap (λ (n : ℕ). setup_with n s.near s.head.marker s.head.listed s.head.glonass s.head.made s.window s.kinds s.leap_seconds s.takes_1012) station
-    ∙ ap (λ (n : ℕ). setup_with t.station n s.head.marker s.head.listed s.head.glonass s.head.made s.window s.kinds s.leap_seconds s.takes_1012) near
-    ∙ ap (λ (name : List ℕ). setup_with t.station t.near name s.head.listed s.head.glonass s.head.made s.window s.kinds s.leap_seconds s.takes_1012) marker
-    ∙ ap (λ (codes : List AnyCode). setup_with t.station t.near t.head.marker codes s.head.glonass s.head.made s.window s.kinds s.leap_seconds s.takes_1012) listed
-    ∙ ap (λ (g : Option GlonassView). setup_with t.station t.near t.head.marker t.head.listed g s.head.made s.window s.kinds s.leap_seconds s.takes_1012) glonass
-    ∙ ap (λ (n : ℕ). setup_with t.station t.near t.head.marker t.head.listed t.head.glonass n s.window s.kinds s.leap_seconds s.takes_1012) made_at
-    ∙ ap (λ (n : ℕ). setup_with t.station t.near t.head.marker t.head.listed t.head.glonass t.head.made n s.kinds s.leap_seconds s.takes_1012) window
-    ∙ ap (λ (ks : SystemKinds). setup_with t.station t.near t.head.marker t.head.listed t.head.glonass t.head.made t.window ks s.leap_seconds s.takes_1012) kinds
-    ∙ ap (λ (leap : Option ℕ). setup_with t.station t.near t.head.marker t.head.listed t.head.glonass t.head.made t.window t.kinds leap s.takes_1012) leap_seconds
-    ∙ ap (λ (is_asked : Bool). setup_with t.station t.near t.head.marker t.head.listed t.head.glonass t.head.made t.window t.kinds t.leap_seconds is_asked) takes
+    ap (λ (n : ℕ). setup_with n s.near s.head.marker s.head.listed s.head.glonass s.head.made s.head.doppler s.window s.kinds s.leap_seconds s.takes_1012) station
+    ∙ ap (λ (n : ℕ). setup_with t.station n s.head.marker s.head.listed s.head.glonass s.head.made s.head.doppler s.window s.kinds s.leap_seconds s.takes_1012) near
+    ∙ ap (λ (name : List ℕ). setup_with t.station t.near name s.head.listed s.head.glonass s.head.made s.head.doppler s.window s.kinds s.leap_seconds s.takes_1012) marker
+    ∙ ap (λ (codes : List AnyCode). setup_with t.station t.near t.head.marker codes s.head.glonass s.head.made s.head.doppler s.window s.kinds s.leap_seconds s.takes_1012) listed
+    ∙ ap (λ (g : Option GlonassView). setup_with t.station t.near t.head.marker t.head.listed g s.head.made s.head.doppler s.window s.kinds s.leap_seconds s.takes_1012) glonass
+    ∙ ap (λ (n : ℕ). setup_with t.station t.near t.head.marker t.head.listed t.head.glonass n s.head.doppler s.window s.kinds s.leap_seconds s.takes_1012) made_at
+    ∙ ap (λ (b : Bool). setup_with t.station t.near t.head.marker t.head.listed t.head.glonass t.head.made b s.window s.kinds s.leap_seconds s.takes_1012) doppler
+    ∙ ap (λ (n : ℕ). setup_with t.station t.near t.head.marker t.head.listed t.head.glonass t.head.made t.head.doppler n s.kinds s.leap_seconds s.takes_1012) window
+    ∙ ap (λ (ks : SystemKinds). setup_with t.station t.near t.head.marker t.head.listed t.head.glonass t.head.made t.head.doppler t.window ks s.leap_seconds s.takes_1012) kinds
+    ∙ ap (λ (leap : Option ℕ). setup_with t.station t.near t.head.marker t.head.listed t.head.glonass t.head.made t.head.doppler t.window t.kinds leap s.takes_1012) leap_seconds
+    ∙ ap (λ (is_asked : Bool). setup_with t.station t.near t.head.marker t.head.listed t.head.glonass t.head.made t.head.doppler t.window t.kinds t.leap_seconds is_asked) takes
 
 pub one-plan : OnePlan
 one-plan ss w made as_given s t links others skipped left strays strayed is also =

@@ -1,17 +1,19 @@
 -- Why captures have no plan.
-use Rattle.std.proofs.Common.{◌≡◌, ℕ, Bool, List, inr, [], None, Result, IsErrAnd, IfErr, Option, sym, subst}
+use Rattle.std.proofs.Common.{◌≡◌, ◌∙◌, ℕ, Bool, List, inr, [], None, Result, Err, IsErrAnd, IfErr, Option, sym, ap, subst}
 use Rattle.std.proofs.lemmas.Result.{err_from_is_err_and}
+use Rattle.rtk_obs.specs.declared.any_code.AnyCode.{AnyCode}
+use Rattle.rtk_setup.specs.declared.system_kinds.SystemKinds.{SystemKinds}
 use Rattle.rtk_survey.specs.declared.survey.CaptureSurvey.{CaptureSurvey}
 use Rattle.rtk_captures.specs.CaptureCauses.{IfRefused}
-use Rattle.rtk_plan.specs.Causes.{FindsNoCode, IsSetupCause, IsCaptureCause, IsCauseOf}
+use Rattle.rtk_plan.specs.Causes.{FindsNoCode, LacksRates, IsRatesCause, IsSetupCause, IsCaptureCause, IsCauseOf}
 use Rattle.rtk_captures.specs.Dating.{captures_of}
 use Rattle.rtk_captures.specs.declared.station_capture.StationCapture.{StationCapture}
-use Rattle.rtk_plan.specs.Plan.{IsChosenStation, kinds_found, AreSystemsTaken, AreLeapSecondsOf, IsNear1012, codes_taken_from}
+use Rattle.rtk_plan.specs.Plan.{IsChosenStation, kinds_found, AreSystemsTaken, AreCodesChosen, AreLeapSecondsOf, IsNear1012, codes_taken_from}
 use Rattle.rtk_systems.specs.Values.{codes_in_captures}
 use Rattle.rtk_captures.specs.declared.refusal.PlanFault.{PlanFault}
 use Rattle.rtk_captures.specs.declared.refusal.PlanFault.TheVariants.{Refused, OutOfMemory}
 use Rattle.rtk_captures.specs.declared.refusal.Refusal.{Refusal}
-use Rattle.rtk_captures.specs.declared.refusal.Refusal.TheVariants.{NoFrame, NoObservation, NoStation, SeveralStations, NoCode}
+use Rattle.rtk_captures.specs.declared.refusal.Refusal.TheVariants.{NoFrame, NoObservation, NoStation, SeveralStations, NoCode, NoRates}
 use Rattle.rtk_systems.specs.declared.system_flags.SystemFlags.{SystemFlags}
 use Rattle.rtk_systems.specs.declared.values.TakenMessages.{TakenMessages}
 use Rattle.rtk_plan.specs.declared.wanted.Wanted.{Wanted}
@@ -28,6 +30,10 @@ exit-also IsCause IsOther told r exits also refused =
     let p = err_from_is_err_and r exits in
     rw p.1 (subst (IfRefused IsOther) (sym p.2) (refused-also IsCause IsOther told also refused))
 
+-- an answer that is a refusal with its cause
+pub is-refused : {T : Type 0} (IsCause : Refusal → Type 0) (fault : PlanFault) (r : Result T PlanFault) → r ≡ Err fault → IfRefused IsCause fault → IfErr r (IfRefused IsCause)
+is-refused {T} IsCause fault r is cause = subst (λ (x : Result T PlanFault). IfErr x (IfRefused IsCause)) (sym is) cause
+
 -- no code of these systems is found
 pub no-code-of : (ss : List CaptureSurvey) (w : Wanted) (station : ℕ) (seconds : Option ℕ) (near : ℕ) (taken : TakenMessages) (systems : SystemFlags) → AreSystemsTaken ss station w.systems seconds near systems
     → (refusal : Refusal) → (refusal ≡ NoCode) × (w.codes ≡ None) × (codes_in_captures ss station systems taken ≡ [])
@@ -41,6 +47,26 @@ pub no-code-found : (ss : List CaptureSurvey) (links : List (List ℕ)) (w : Wan
 no-code-found ss links w station seconds near other taken same are dated refusal (is, none, found) =
     subst (λ (r : Refusal). IsSetupCause ss links w station near r) (sym is)
     (none, (seconds, are, (other, dated, subst (λ (m : TakenMessages). FindsNoCode ss m w station seconds near) same found)))
+
+-- a listed system has no rates in the messages that are taken
+pub no-rates-found : (ss : List CaptureSurvey) (links : List (List ℕ)) (w : Wanted) (station : ℕ) (seconds : Option ℕ) (near : ℕ) (other : Option ℕ) (kinds : SystemKinds) (listed : List AnyCode)
+    → kinds ≡ kinds_found w.msm ss links station → AreLeapSecondsOf ss w station near seconds → IsNear1012 ss w.near station seconds near other
+    → AreCodesChosen w ss station seconds near (codes_taken_from kinds other) listed
+    → (refusal : Refusal) → IsRatesCause w.doppler kinds listed refusal → IsSetupCause ss links w station near refusal
+no-rates-found ss links w station seconds near other kinds listed same are dated chosen (NoRates letter) lacks = (
+  seconds,
+  are,
+  (
+    other,
+    dated,
+    (
+      listed,
+      subst (λ (ks : SystemKinds). AreCodesChosen w ss station seconds near (codes_taken_from ks other) listed) same chosen,
+      subst (λ (ks : SystemKinds). LacksRates w.doppler ks listed letter) same lacks,
+    ),
+  ),
+)
+no-rates-found ss links w station seconds near other kinds listed same are dated chosen refusal lacks = absurd lacks
 
 chosen-by : (ss : List CaptureSurvey) (w : Wanted) (skip_empty as_given : Bool) (station : ℕ) → IsChosenStation ss w.station station
     → (refusal : Refusal) → IsCaptureCause ss w skip_empty as_given station (captures_of ss station) refusal → IsCauseOf ss w skip_empty as_given refusal

@@ -2,6 +2,7 @@
 use Rattle.std.proofs.Common.{◌≡◌, ◌∙◌, ℕ, Bool, true, false, List, Option, None, Some, sym, ap, subst}
 use Rattle.std.specs.Prelude.{IfSome}
 use Rattle.rtk_obs.specs.declared.any_code.AnyCode.{AnyCode}
+use Rattle.rtk_setup.specs.Rates.{without_rates}
 use Rattle.rtk_setup.specs.Setup.{SetupView}
 use Rattle.rtk_setup.specs.declared.system_kinds.SystemKinds.{SystemKinds}
 use Rattle.rtk_survey.specs.declared.survey.CaptureSurvey.{CaptureSurvey}
@@ -21,8 +22,9 @@ pub is-setup : (ss : List CaptureSurvey) (links : List (List ℕ)) (w : Wanted) 
     → IsNearOf w.near (captures_of ss station) first → IsNear1012 ss w.near station seconds first other → IsChosenStation ss w.station station
     → kinds ≡ kinds_found w.msm ss links station → AreCodesChosen w ss station seconds first (codes_taken_from kinds other) listed
     → AreLeapSecondsOf ss w station first seconds → takes ≡ converts_1012 ss station listed other → near ≡ near_chosen takes first other
+    → without_rates w.doppler kinds listed ≡ None
     → HasSetupParts ss w made station near (record { kinds = kinds; obs1012 = takes }) listed seconds s → IsSetupFor ss links w made s
-is-setup ss links w made station first other seconds kinds listed takes near s near_of dated chosen same codes leap converts moment is =
+is-setup ss links w made station first other seconds kinds listed takes near s near_of dated chosen same codes leap converts moment rates is =
     let found = kinds_found w.msm ss links station in
     record {
       first = first;
@@ -58,6 +60,11 @@ is-setup ss links w made station first other seconds kinds listed takes near s n
           is.takes_is ∙ converts ∙ ap (λ (n : ℕ). converts_1012 ss n listed other) (sym is.station_is)
           ∙ ap (λ (cs : List AnyCode). converts_1012 ss s.station cs other) (sym is.listed_are);
       near_by = is.near_is ∙ moment ∙ ap (λ (b : Bool). near_chosen b first other) (sym is.takes_is);
+      doppler = is.doppler_is;
+      rates =
+          ap (λ (n : ℕ). without_rates w.doppler (kinds_found w.msm ss links n) s.head.listed) is.station_is
+          ∙ ap (λ (cs : List AnyCode). without_rates w.doppler found cs) is.listed_are
+          ∙ ap (λ (ks : SystemKinds). without_rates w.doppler ks listed) (sym same) ∙ rates;
     }
 
 chosen-in-reach : (given : Option ℕ) (cs : List StationCapture) (takes : Bool) (first : ℕ) (other : Option ℕ) → IsInReach given cs first → IfSome other (IsInReach given cs)

@@ -1,17 +1,22 @@
 -- Why captures have no plan: what holds of them and of the words if a refusal comes (this project's rule).
-use Rattle.std.specs.Prelude.{◌≡◌, ◌<◌, ◌==◌, ℕ, Bool, true, false, not, ◌⊎◌, List, [], length, Option, None}
+use Rattle.std.specs.Prelude.{◌≡◌, ◌<◌, ◌==◌, ℕ, Bool, true, false, not, ◌⊎◌, List, [], length, Option, None, Some}
 use Rattle.std.specs.List.{list_any}
+use Rattle.rtk_message.specs.declared.system.System.{System}
+use Rattle.rtk_obs.specs.declared.any_code.AnyCode.{AnyCode}
 use Rattle.rtk_obs.specs.Dating.{IsReference}
+use Rattle.rtk_obs.specs.SatelliteIndex.{letter_of}
+use Rattle.rtk_setup.specs.Rates.{without_rates}
+use Rattle.rtk_setup.specs.declared.system_kinds.SystemKinds.{SystemKinds}
 use Rattle.rtk_survey.specs.declared.survey.CaptureSurvey.{CaptureSurvey}
 use Rattle.rtk_captures.specs.declared.station_capture.StationCapture.{StationCapture}
 use Rattle.rtk_captures.specs.Linking.{AreLinksOf}
-use Rattle.rtk_plan.specs.Plan.{IsChosenStation, kinds_found, AreSystemsTaken, AreLeapSecondsOf, IsNear1012, codes_taken_from}
+use Rattle.rtk_plan.specs.Plan.{IsChosenStation, kinds_found, AreSystemsTaken, AreCodesChosen, AreLeapSecondsOf, IsNear1012, codes_taken_from}
 use Rattle.rtk_captures.specs.Dating.{captures_of, IsNearOf}
 use Rattle.rtk_captures.specs.Positions.{some_are_far}
 use Rattle.rtk_systems.specs.Values.{codes_in_captures}
 use Rattle.rtk_systems.specs.declared.system_flags.SystemFlags.{SystemFlags}
 use Rattle.rtk_captures.specs.declared.refusal.Refusal.{Refusal}
-use Rattle.rtk_captures.specs.declared.refusal.Refusal.TheVariants.{NoFrame, NoObservation, NoStation, SeveralStations, Empty, OutsideDates, NoCode, TooManyLinks, PositionsDiffer}
+use Rattle.rtk_captures.specs.declared.refusal.Refusal.TheVariants.{NoFrame, NoObservation, NoStation, SeveralStations, Empty, OutsideDates, NoCode, NoRates, TooManyLinks, PositionsDiffer}
 use Rattle.rtk_systems.specs.declared.values.TakenMessages.{TakenMessages}
 use Rattle.rtk_plan.specs.declared.wanted.Wanted.{Wanted}
 use Rattle.rtk_captures.specs.CaptureCauses.{IsStationCause, IsEmptyCause, IsDatingCause}
@@ -34,9 +39,31 @@ HasNoCode ss links w station near =
 abbrev pub HasNoCodeNear : List CaptureSurvey → List (List ℕ) → Wanted → ℕ → List StationCapture → Type 0
 HasNoCodeNear ss links w station cs = (near : ℕ) × IsNearOf w.near cs near × HasNoCode ss links w station near
 
+-- the MSM of a listed system has no range rates, and Doppler shifts are asked for; the first such system has this letter
+abbrev pub LacksRates : Bool → SystemKinds → List AnyCode → ℕ → Type 0
+LacksRates is_asked ks listed letter = (s : System) × (without_rates is_asked ks listed ≡ Some s) × (letter ≡ letter_of s)
+
+-- that is why a setup of these kinds and codes is refused
+abbrev pub IsRatesCause : Bool → SystemKinds → List AnyCode → Refusal → Type 0
+IsRatesCause is_asked ks listed (NoRates letter) = LacksRates is_asked ks listed letter
+IsRatesCause is_asked ks listed refusal = ⊥
+
+-- the MSM of these links has no range rates of a system of this letter, of which a code is named or found near this moment
+abbrev pub HasNoRates : List CaptureSurvey → List (List ℕ) → Wanted → ℕ → ℕ → ℕ → Type 0
+HasNoRates ss links w station letter near =
+    (seconds : Option ℕ) × AreLeapSecondsOf ss w station near seconds
+    × ((other : Option ℕ) × IsNear1012 ss w.near station seconds near other
+    × ((listed : List AnyCode) × AreCodesChosen w ss station seconds near (codes_taken_from (kinds_found w.msm ss links station) other) listed
+    × LacksRates w.doppler (kinds_found w.msm ss links station) listed letter))
+
+-- the same near the moment near which captures are dated
+abbrev pub HasNoRatesNear : List CaptureSurvey → List (List ℕ) → Wanted → ℕ → ℕ → List StationCapture → Type 0
+HasNoRatesNear ss links w station letter cs = (near : ℕ) × IsNearOf w.near cs near × HasNoRates ss links w station letter near
+
 abbrev pub IsSetupCause : List CaptureSurvey → List (List ℕ) → Wanted → ℕ → ℕ → Refusal → Type 0
 IsSetupCause ss links w station near NoCode = HasNoCode ss links w station near
 IsSetupCause ss links w station near OutsideDates = ¬ (IsReference near)
+IsSetupCause ss links w station near (NoRates letter) = HasNoRates ss links w station letter near
 IsSetupCause ss links w station near other = ⊥
 
 -- ---- all of them
@@ -50,6 +77,8 @@ abbrev pub IsCaptureCause : List CaptureSurvey → Wanted → Bool → Bool → 
 IsCaptureCause ss w skip_empty as_given station cs (Empty n) = IsEmptyCause station cs skip_empty (Empty n)
 IsCaptureCause ss w skip_empty as_given station cs NoCode =
     (links : List (List ℕ)) × AreLinksOf as_given w.near cs links × HasNoCodeNear ss links w station cs
+IsCaptureCause ss w skip_empty as_given station cs (NoRates letter) =
+    (links : List (List ℕ)) × AreLinksOf as_given w.near cs links × HasNoRatesNear ss links w station letter cs
 IsCaptureCause ss w skip_empty as_given station cs TooManyLinks =
     (links : List (List ℕ)) × AreLinksOf as_given w.near cs links × (16 < length links)
 IsCaptureCause ss w skip_empty as_given station cs PositionsDiffer = (as_given ≡ false) × (some_are_far cs ≡ true)

@@ -29,7 +29,7 @@ use Rattle.rtk_plan.specs.LeapLines.{other_leap_lines}
 use Rattle.rtk_plan.specs.Plan.{taken_messages}
 use Rattle.rtk_survey.specs.Surveys.{places_of}
 use Rattle.rtk_captures.specs.Lists.{date_line, to_come_line, undated_line, stray_line, capture_line, name_line}
-use Rattle.rtk_systems.specs.MessageLines.{obs_1004_line, msm_lines, doppler_line, sbas_line, all_unread}
+use Rattle.rtk_systems.specs.MessageLines.{obs_1004_line, msm_lines, doppler_line_unless, sbas_line, all_unread}
 use Rattle.rtk_captures.specs.Positions.{no_position_line}
 use Rattle.rtk_plan.specs.Reported.{late_of}
 use Rattle.rtk_captures.specs.SpanLine.{span_line}
@@ -225,11 +225,11 @@ epochs_lines_of names cs link = flat_map (epochs_line_at names cs) link
 abbrev pub epochs_lines : List (Bor (List ℕ)) → List StationCapture → List (List ℕ) → List ℕ
 epochs_lines names cs links = flat_map (epochs_lines_of names cs) links
 
--- the observations of a station that are not taken, if these messages are; the flags say whether 1004 are, and
--- satellites of SBAS in them, and whether 1012 are left out since they can't be dated
-unfoldable pub not_taken_by : Accepted → Bool → Bool → Bool → List CaptureSurvey → ℕ → List ℕ
-not_taken_by taken has_1004 has_sbas is_long ss station =
-    obs_1004_line has_1004 ss station ++ msm_lines taken ss station ++ doppler_line taken ss station ++ sbas_line has_sbas ss station
+-- the observations of a station that are not taken, if these messages are; the flags say whether 1004 are, satellites of
+-- SBAS in them, and Doppler shifts, and whether 1012 are left out since they can't be dated
+unfoldable pub not_taken_by : Accepted → Bool → Bool → Bool → Bool → List CaptureSurvey → ℕ → List ℕ
+not_taken_by taken has_1004 has_sbas has_doppler is_long ss station =
+    obs_1004_line has_1004 ss station ++ msm_lines taken ss station ++ doppler_line_unless has_doppler taken ss station ++ sbas_line has_sbas ss station
     ++ all_unread is_long taken ss
 
 -- GLONASS is asked for and a 1012 of the station has a value, but there is no moment near which 1012 are dated right
@@ -238,7 +238,7 @@ leaves_long ss plan = plan.asked.glonass && (not plan.has_near_1012 && is_1012_g
 
 -- those that a conversion does not take; 1012 may be left out since they can't be dated
 abbrev pub not_taken : List CaptureSurvey → Bool → SetupView → List ℕ
-not_taken ss is_long s = not_taken_by (taken_by s) (takes_1004 s) (lists_system s.head.listed Sbas) is_long ss s.station
+not_taken ss is_long s = not_taken_by (taken_by s) (takes_1004 s) (lists_system s.head.listed Sbas) s.head.doppler is_long ss s.station
 
 unfoldable pub lines_behind_late : List (Bor (List ℕ)) → List CaptureSurvey → Plan → List ℕ
 lines_behind_late names ss plan =

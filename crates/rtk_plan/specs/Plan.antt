@@ -5,6 +5,7 @@ use Rattle.rtk_message.specs.declared.msm_kind.MsmKind.{MsmKind}
 use Rattle.rtk_obs.specs.declared.any_code.AnyCode.{AnyCode}
 use Rattle.rtk_obs.specs.CivilText.{last_digits}
 use Rattle.rtk_rinex.specs.MixedHead.{has_glonass}
+use Rattle.rtk_setup.specs.Rates.{without_rates}
 use Rattle.rtk_setup.specs.Setup.{SetupView, all_of}
 use Rattle.rtk_setup.specs.declared.system_kinds.SystemKinds.{SystemKinds}
 use Rattle.rtk_survey.specs.declared.survey.CaptureSurvey.{CaptureSurvey}
@@ -139,3 +140,5 @@ pub record IsSetupFor (ss : List CaptureSurvey) (links : List (List ℕ)) (w : W
   pub leap_seconds : AreLeapSecondsOf ss w s.station first s.leap_seconds
   pub with_1012 : s.takes_1012 ≡ converts_1012 ss s.station s.head.listed other
   pub near_by : s.near ≡ near_chosen s.takes_1012 first other
+  pub doppler : s.head.doppler ≡ w.doppler
+  pub rates : without_rates w.doppler (kinds_found w.msm ss links s.station) s.head.listed ≡ None

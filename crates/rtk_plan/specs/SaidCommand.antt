@@ -58,11 +58,16 @@ leap_words (Some n) = leap_option n
 abbrev pub words_of_1012 : Bool → List ℕ
 words_of_1012 is_asked = if is_asked then codes " --with-1012" else []
 
+-- the option of Doppler shifts, if they are asked for
+abbrev pub words_of_doppler : Bool → List ℕ
+words_of_doppler is_asked = if is_asked then codes " --doppler" else []
+
 -- formula
 -- the command with its options
 unfoldable pub convert_words : SetupView → List ℕ
 convert_words s =
     station_words s ++ marker_words s.head ++ value_words s ++ glonass_words s.head.glonass ++ leap_words s.leap_seconds ++ words_of_1012 s.takes_1012
+    ++ words_of_doppler s.head.doppler
 
 -- formula
 -- names of files, each after a blank

@@ -198,13 +198,14 @@ fn put_not_taken(
     taken: Accepted,
     has_1004: bool,
     has_sbas: bool,
+    has_doppler: bool,
     is_long: bool,
 ) -> Result<(), AllocError>
-    ensures { OnOk result (lines.new.items ≡ lines.old.items ++ spec.not_taken_by taken has_1004 has_sbas is_long surveys.now station) }
+    ensures { OnOk result (lines.new.items ≡ lines.old.items ++ spec.not_taken_by taken has_1004 has_sbas has_doppler is_long surveys.now station) }
 {
     put_obs_1004(lines, surveys, station, has_1004)?;
     put_msms(lines, surveys, station, taken)?;
-    put_doppler(lines, surveys, station, taken)?;
+    put_doppler(lines, surveys, station, taken, has_doppler)?;
     put_sbas(lines, surveys, station, has_sbas)?;
     put_unread(lines, surveys, is_long, taken)?;
     Ok(())
@@ -229,6 +230,7 @@ fn put_not_taken_in(
     let taken = setup.accepted();
     let has_1004 = setup.takes_1004();
     let has_sbas = setup.takes_sbas();
+    let has_doppler = setup.has_doppler();
     put_not_taken(
         lines,
         surveys,
@@ -236,6 +238,7 @@ fn put_not_taken_in(
         taken,
         has_1004,
         has_sbas,
+        has_doppler,
         is_long,
     )?;
     Ok(())

@@ -58,6 +58,7 @@
 //!         channels: None,
 //!         leap_seconds: None,
 //!         near: Some(near),
+//!         doppler: false,
 //!         marker: None,
 //!         window,
 //!     };

@@ -113,6 +113,15 @@ fn put_words_of_1012(line: &mut Vec<u8>, is_asked: bool) -> Result<(), AllocErro
     Ok(())
 }
 
+fn put_words_of_doppler(line: &mut Vec<u8>, is_asked: bool) -> Result<(), AllocError>
+    ensures { OnOk result (line.new.items ≡ line.old.items ++ spec.words_of_doppler is_asked) }
+{
+    if is_asked {
+        line.extend_from_slice(b" --doppler")?;
+    }
+    Ok(())
+}
+
 // Appends the command with its options.
 #[tactic(auto, unfolding(crate::specs::SaidCommand::convert_words))]
 fn put_convert_words(line: &mut Vec<u8>, setup: &Setup) -> Result<(), AllocError>
@@ -124,6 +133,7 @@ fn put_convert_words(line: &mut Vec<u8>, setup: &Setup) -> Result<(), AllocError
     put_glonass_words(line, setup.head().glonass())?;
     put_leap_words(line, setup.leap_seconds())?;
     put_words_of_1012(line, setup.takes_1012())?;
+    put_words_of_doppler(line, setup.has_doppler())?;
     Ok(())
 }
 

@@ -1,11 +1,13 @@
 //! What the conversion of a station is told: the MSM and the codes of each system, and the head of the file.
 
-ghost use Rattle.std.specs.Prelude.{◌≡◌, ◌<◌, ◌≤◌, None, [], false, IfOk, IfErr, IfSome};
+ghost use Rattle.std.specs.Prelude.{◌≡◌, ◌<◌, ◌≤◌, None, [], false, OnOk, IfOk, IfErr, IfSome};
 ghost use Rattle.std.specs.Option.{ForSome};
 ghost use Rattle.rtk_obs.specs.CivilText.{last_digits};
+ghost use Rattle.rtk_obs.specs.SatelliteIndex.{letter_of};
 ghost use Rattle.rtk_rinex.specs.MixedHead.{IsGlonassView, IsMixedList, TellsGlonass, has_glonass};
+ghost use Rattle.rtk_setup.specs.Rates.{without_rates};
 ghost use Rattle.rtk_captures.specs.CaptureCauses.{IfRefused};
-ghost use Rattle.rtk_plan.specs.Causes.{FindsNoCode, IsSetupCause};
+ghost use Rattle.rtk_plan.specs.Causes.{FindsNoCode, IsRatesCause, IsSetupCause};
 ghost use Rattle.rtk_survey.specs.Surveys.{places_of};
 ghost use Rattle.rtk_plan.specs.Plan.{IsChosenStation, kinds_found, AreSystemsTaken, AreCodesChosen, AreLeapSecondsOf, systems_asked, marker_chosen, converts_1012, near_chosen, taken_messages, IsNear1012, IsSetupFor};
 ghost use Rattle.rtk_captures.specs.Dating.{captures_of, IsInReach, IsNearOf};
@@ -21,7 +23,7 @@ use rtk_captures::{PlanFault, Refusal, refused};
 use rtk_message::{MsmKind, System};
 use rtk_obs::{AnyCode, Channels, GpsMs};
 use rtk_rinex::{CreationTime, Glonass, Marker, MixedHead};
-use rtk_setup::{LeapSeconds, Reference, Setup, Station, SystemKinds, Window};
+use rtk_setup::{LeapSeconds, Reference, Setup, Station, SystemKinds, Window, without_rates};
 use rtk_survey::CaptureSurvey;
 use rtk_systems::{
     SystemFlags, TakenMessages, channels_found, channels_joined, codes_in_captures, is_1012_given,
@@ -214,15 +216,16 @@ fn head_of(
     codes: &[AnyCode],
     glonass: Option<Glonass>,
     made: CreationTime,
+    doppler: bool,
 ) -> MixedHead
     requires good { IsMixedList codes.now }
     requires due { TellsGlonass codes.now glonass }
-    ensures { result ≡ record { marker = marker; listed = codes.now; glonass = glonass; made = made } }
+    ensures { result ≡ record { marker = marker; listed = codes.now; glonass = glonass; made = made; doppler = doppler } }
 {
     let Ok(head) = MixedHead::new(marker, codes, glonass, made) else {
         unreachable!();
     };
-    head
+    head.with_doppler_if(doppler)
 }
 
 // ---- the MSM
@@ -317,7 +320,8 @@ fn setup_with(
     let channels = &wanted.channels;
     let moment = near.moment();
     let glonass = glonass_found(surveys, number, taken, listed, channels, seconds, moment);
-    let head = head_of(marker_of(number, &wanted.marker), listed, glonass, made);
+    let marker = marker_of(number, &wanted.marker);
+    let head = head_of(marker, listed, glonass, made, wanted.doppler);
     let (kinds, takes_1012) = (taken.kinds, taken.obs1012);
     setup_of(
         station,
@@ -328,6 +332,42 @@ fn setup_with(
         seconds,
         takes_1012,
     )
+}
+
+// ---- Doppler shifts
+
+// The letter of a system in names of RINEX.
+fn letter_of(system: System) -> char
+    ensures { result ≡ letter_of system }
+{
+    match system {
+        System::Gps => 'G',
+        System::Glonass => 'R',
+        System::Galileo => 'E',
+        System::Beidou => 'C',
+        System::Qzss => 'J',
+        System::Sbas => 'S',
+        System::Navic => 'I',
+    }
+}
+
+// Has the MSM of each listed system range rates, if Doppler shifts are asked for?
+fn demand_rates(
+    alloc: Global,
+    is_asked: bool,
+    kinds: SystemKinds,
+    listed: &[AnyCode],
+) -> Result<(), PlanFault>
+    ensures rates { OnOk result (without_rates is_asked kinds listed.now ≡ None) }
+    ensures refused { IfErr result (IfRefused (IsRatesCause is_asked kinds listed.now)) }
+{
+    match without_rates(is_asked, kinds, listed) {
+        Some(system) => {
+            let letter = letter_of(system);
+            refused(Refusal::NoRates { letter }, Vec::new(alloc))
+        }
+        None => Ok(()),
+    }
 }
 
 // ---- 1012
@@ -398,6 +438,7 @@ pub(crate) fn setup_near(
     };
     let reference = near_chosen(obs1012, first, other);
     let converted = TakenMessages { kinds, obs1012 };
+    demand_rates(alloc, wanted.doppler, kinds, listed)?;
     Ok(setup_with(
         surveys, wanted, made, of_station, reference, converted, listed, seconds,
     ))

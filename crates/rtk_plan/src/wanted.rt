@@ -27,6 +27,8 @@ pub struct Wanted {
     pub marker: Option<Marker>,
     /// How many epochs are kept open.
     pub window: Window,
+    /// The file shows Doppler shifts.
+    pub doppler: bool,
 
     ghost codes_fit: { ForSome codes (λ codes. IsMixedList codes.items) },
 }

@@ -58,13 +58,13 @@ return-is interval place before s os o known kept same is marked_known marked =
 
 -- ---- what is not observed
 
-abbrev counts_with : Bool → ℕ → ℕ → ℕ → ℕ → ℕ → ℕ → ℕ → ℕ → Option ℕ → Option ℕ → CodeCounts
-counts_with seen a b c r d e f g least greatest =
-    record { seen = seen; phases = a; ranges = b; slips = c; returns = r; rises = d; halves = e; strengths = f; strength_sum = g; least = least; greatest = greatest }
+abbrev counts_with : Bool → ℕ → ℕ → ℕ → ℕ → ℕ → ℕ → ℕ → ℕ → ℕ → Option ℕ → Option ℕ → CodeCounts
+counts_with seen a b c r d e h f g least greatest =
+    record { seen = seen; phases = a; ranges = b; slips = c; returns = r; rises = d; halves = e; shifts = h; strengths = f; strength_sum = g; least = least; greatest = greatest }
 
-same-counts : (seen : Bool) (a b c r d e f g a2 b2 c2 r2 d2 e2 f2 g2 : ℕ) (least greatest : Option ℕ) → a ≡ a2 → b ≡ b2 → c ≡ c2 → r ≡ r2 → d ≡ d2 → e ≡ e2 → f ≡ f2 → g ≡ g2
-    → counts_with seen a b c r d e f g least greatest ≡ counts_with seen a2 b2 c2 r2 d2 e2 f2 g2 least greatest
-same-counts seen a b c r d e f g a2 b2 c2 r2 d2 e2 f2 g2 least greatest ea eb ec er ed ee ef eg = cc
+same-counts : (seen : Bool) (a b c r d e h f g a2 b2 c2 r2 d2 e2 h2 f2 g2 : ℕ) (least greatest : Option ℕ) → a ≡ a2 → b ≡ b2 → c ≡ c2 → r ≡ r2 → d ≡ d2 → e ≡ e2 → h ≡ h2 → f ≡ f2 → g ≡ g2
+    → counts_with seen a b c r d e h f g least greatest ≡ counts_with seen a2 b2 c2 r2 d2 e2 h2 f2 g2 least greatest
+same-counts seen a b c r d e h f g a2 b2 c2 r2 d2 e2 h2 f2 g2 least greatest ea eb ec er ed ee eh ef eg = cc
 
 plus-none : (test : Noted → Bool) (ns : List Noted) → plus (tally test ns) 0 ≡ tally test ns
 plus-none test [] = refl
@@ -77,13 +77,14 @@ total-none (n ∷ ns) = omega arith
 -- it changes no count
 pub nothing-more : (ns : List Noted) (known kept : Bool) → counts_of (record { observed = no_observation; known = known; kept = kept } ∷ ns) ≡ counts_of ns
 nothing-more ns known kept =
-    same-counts (list_any (λ n. is_observed n.observed) ns) _ _ _ _ _ _ _ _ _ _ _ _ _ _ _ _ (least_strength ns) (greatest_strength ns)
+    same-counts (list_any (λ n. is_observed n.observed) ns) _ _ _ _ _ _ _ _ _ _ _ _ _ _ _ _ _ _ (least_strength ns) (greatest_strength ns)
     (plus-none (λ n. is_some n.observed.phase_millicycles) ns)
     (plus-none (λ n. is_some n.observed.range_mm && not (is_some n.observed.phase_millicycles)) ns)
     (plus-none (λ n. n.observed.slip && n.kept) ns)
     (plus-none (λ n. n.observed.slip && (n.known && not n.kept)) ns)
     (plus-none (λ n. n.observed.slip && not n.known) ns)
     (plus-none (λ n. n.observed.half) ns)
+    (plus-none (λ n. is_some n.observed.doppler_millihertz) ns)
     (plus-none (λ n. is_some n.observed.strength_millidbhz) ns)
     (total-none ns)
 

@@ -294,6 +294,7 @@ totals-are-sums = record {
   returns = total-is (λ n. n.counts.returns) (refl, λ total own. refl);
   rises = total-is (λ n. n.counts.rises) (refl, λ total own. refl);
   halves = total-is (λ n. n.counts.halves) (refl, λ total own. refl);
+  shifts = total-is (λ n. n.counts.shifts) (refl, λ total own. refl);
   strengths = total-is (λ n. n.counts.strengths) (refl, λ total own. refl);
   strength_sum = total-is (λ n. n.counts.strength_sum) (refl, λ total own. refl);
 }

@@ -22,9 +22,9 @@ noted_of interval place [] = []
 noted_of interval place (s ∷ before) =
     record { observed = shown_at place s.observed; known = is_known interval place before s; kept = is_kept interval place before s } ∷ noted_of interval place before
 
--- the code has a range, a phase or a strength
+-- the code has a range, a phase, a Doppler shift or a strength
 abbrev pub is_observed : Observed → Bool
-is_observed o = is_some o.range_mm || (is_some o.phase_millicycles || is_some o.strength_millidbhz)
+is_observed o = is_some o.range_mm || (is_some o.phase_millicycles || (is_some o.doppler_millihertz || is_some o.strength_millidbhz))
 
 abbrev pub least_strength : List Noted → Option ℕ
 least_strength [] = None
@@ -50,7 +50,7 @@ strength_total (n ∷ before) = plus (strength_total before) (unwrap_or n.observ
 
 -- formula
 -- the counts of what came of a code: its phases; its ranges without a phase; bit 0 of its digits, at the
--- first phase in a pass (rises), at the first one after an outage (returns) and elsewhere (slips); bit 1 (half cycles); its strengths
+-- first phase in a pass (rises), at the first one after an outage (returns) and elsewhere (slips); bit 1 (half cycles); its Doppler shifts; its strengths
 abbrev pub counts_of : List Noted → CodeCounts
 counts_of ns =
     record {
@@ -61,6 +61,7 @@ counts_of ns =
       returns = tally (λ n. n.observed.slip && (n.known && not n.kept)) ns;
       rises = tally (λ n. n.observed.slip && not n.known) ns;
       halves = tally (λ n. n.observed.half) ns;
+      shifts = tally (λ n. is_some n.observed.doppler_millihertz) ns;
       strengths = tally (λ n. is_some n.observed.strength_millidbhz) ns;
       strength_sum = strength_total ns;
       least = least_strength ns;

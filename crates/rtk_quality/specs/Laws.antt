@@ -99,6 +99,7 @@ pub record TotalsAreSums : Type 0 where
   pub returns : IsTotal (λ n. n.counts.returns)
   pub rises : IsTotal (λ n. n.counts.rises)
   pub halves : IsTotal (λ n. n.counts.halves)
+  pub shifts : IsTotal (λ n. n.counts.shifts)
   pub strengths : IsTotal (λ n. n.counts.strengths)
   pub strength_sum : IsTotal (λ n. n.counts.strength_sum)
 

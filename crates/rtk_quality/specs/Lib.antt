@@ -21,6 +21,7 @@ pub mod Records
 pub mod Rows
 pub mod Runs
 pub mod SatellitePasses
+pub mod Shifts
 pub mod Standing
 pub mod Steps
 pub mod StationText

@@ -36,6 +36,7 @@ together a b =
       returns = plus a.returns b.returns;
       rises = plus a.rises b.rises;
       halves = plus a.halves b.halves;
+      shifts = plus a.shifts b.shifts;
       strengths = plus a.strengths b.strengths;
       strength_sum = plus a.strength_sum b.strength_sum;
       least = lesser a.least b.least;

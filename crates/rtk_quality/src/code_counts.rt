@@ -9,7 +9,7 @@ use rtk_tracking::{greater, lesser};
 /// What came of a code: counts, and the least and the greatest strength in thousandths of a dB-Hz.
 #[derive(Clone, Copy)]
 pub(crate) struct CodeCounts {
-    /// Some epoch has a range, a phase or a strength.
+    /// Some epoch has a range, a phase, a Doppler shift or a strength.
     pub(crate) seen: bool,
     pub(crate) phases: u64,
     /// Ranges without a phase.
@@ -19,6 +19,8 @@ pub(crate) struct CodeCounts {
     pub(crate) rises: u64,
     /// Half cycles.
     pub(crate) halves: u64,
+    /// Doppler shifts.
+    pub(crate) shifts: u64,
     pub(crate) strengths: u64,
     pub(crate) strength_sum: u64,
     pub(crate) least: Option<u32>,
@@ -37,6 +39,7 @@ fn is_observed(observed: &Observed) -> bool
 {
     observed.range_mm.is_some()
         || observed.phase_millicycles.is_some()
+        || observed.doppler_millihertz.is_some()
         || observed.strength_millidbhz.is_some()
 }
 
@@ -53,6 +56,7 @@ impl CodeCounts {
             returns: 0,
             rises: 0,
             halves: 0,
+            shifts: 0,
             strengths: 0,
             strength_sum: 0,
             least: None,
@@ -75,6 +79,7 @@ impl CodeCounts {
         self.returns = one_more(self.returns, observed.slip && known && !kept);
         self.rises = one_more(self.rises, observed.slip && !known);
         self.halves = one_more(self.halves, observed.half);
+        self.shifts = one_more(self.shifts, observed.doppler_millihertz.is_some());
         self.strengths = one_more(self.strengths, strength.is_some());
         self.strength_sum = self
             .strength_sum

@@ -36,6 +36,7 @@ fn together(one: &CodeCounts, other: &CodeCounts) -> CodeCounts
         returns: one.returns.saturating_add(other.returns),
         rises: one.rises.saturating_add(other.rises),
         halves: one.halves.saturating_add(other.halves),
+        shifts: one.shifts.saturating_add(other.shifts),
         strengths: one.strengths.saturating_add(other.strengths),
         strength_sum: one.strength_sum.saturating_add(other.strength_sum),
         least: lesser(one.least, other.least),

@@ -78,6 +78,7 @@ mod runs;
 mod satellite_counts;
 mod satellites;
 mod sections;
+mod shifts;
 mod station;
 mod station_lines;
 mod strengths;

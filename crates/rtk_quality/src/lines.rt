@@ -184,9 +184,9 @@ pub(crate) fn put_satellite_name(
     put_name(text, form, b"\"satellite\":\"", &satellite_name(satellite))
 }
 
-// Appends a code without a satellite: two characters are one of GPS, and three begin with the letter of the system.
+/// Appends a code without a satellite: two characters are one of GPS, and three begin with the letter of the system.
 #[tactic(auto, unfolding(crate::specs::LineText::title_text))]
-fn put_title(text: &mut Vec<u8>, form: Form, code: AnyCode) -> Result<(), AllocError>
+pub(crate) fn put_title(text: &mut Vec<u8>, form: Form, code: AnyCode) -> Result<(), AllocError>
     ensures { OnOk result (text.new.items ≡ text.old.items ++ title_text form code) }
 {
     match code.system() {

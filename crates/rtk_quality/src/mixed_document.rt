@@ -1,7 +1,6 @@
 //! The numbers of a file of any systems.
 
 ghost use Rattle.std.specs.Prelude.{◌≡◌, ◌≤◌, ◌++◌, ℕ, List, length, Option, IfOk, OnOk};
-ghost use Rattle.rtk_rinex.specs.MixedHead.{IsMixedList};
 ghost use Rattle.rtk_rinex.specs.MixedTable.{MixedTable, IsMixedTable, mixed_table_text};
 ghost use Rattle.rtk_rinex.specs.Record.{EpochTableView};
 ghost use Rattle.rtk_tracking.specs.Epochs.{newest_first};
@@ -18,11 +17,12 @@ use crate::lines::put_count;
 use crate::lists::{begin_list, end_list};
 use crate::pass_sums::PassSums;
 use crate::record_counts::{RecordCounts, unit_ms};
+use crate::shifts::put_shifts_if;
 use crate::station::put_gaps;
 use crate::system_counts::{codes_of_system, count_system, letter_of};
 use rtk_message::System;
 use rtk_obs::{AnyCode, Civil, GpsMs, civil};
-use rtk_rinex::MixedTextTable;
+use rtk_rinex::{MixedHead, MixedTextTable};
 use rtk_tracking::mixed_interval;
 use std::alloc::{AllocError, Global};
 
@@ -73,6 +73,7 @@ fn put_totals(
 fn put_counted(
     alloc: Global,
     text: &mut Vec<u8>,
+    has_shifts: bool,
     form: Form,
     system: System,
     codes: &[AnyCode],
@@ -81,7 +82,7 @@ fn put_counted(
     requires few { length codes.now ≤ 16 }
     requires size { length counts.now.satellites.items ≡ 221 }
     ensures { OnOk result ((interval : Option ℕ) (es : List EpochTableView) → HasCounted counts.now 221 interval (unit_of interval) codes.now es
-        → text.new.items ≡ text.old.items ++ system_text form system codes.now interval es) }
+        → text.new.items ≡ text.old.items ++ system_text has_shifts form system codes.now interval es) }
 {
     let satellites = counts.satellites.as_slice();
     let seen = satellites_in(satellites) as u64;
@@ -89,6 +90,7 @@ fn put_counted(
     let listed = ListedCounts::of(counts);
     put_totals(text, form, system, seen, &counts.records, &listed, &sums)?;
     put_body(alloc, text, false, form, codes, counts)?;
+    put_shifts_if(text, has_shifts, form, codes, satellites)?;
     put_either(text, form, b"", b"}")?;
     Ok(())
 }
@@ -99,21 +101,21 @@ fn put_system(
     text: &mut Vec<u8>,
     form: Form,
     table: &MixedTextTable<'_>,
-    listed: &[AnyCode],
+    head: &MixedHead,
     interval: Option<u64>,
     system: System,
 ) -> Result<(), AllocError>
-    requires { IsMixedList listed.now }
     ensures { OnOk result ((t : MixedTable) → IsMixedTable t → table.now.text ≡ mixed_table_text t
-        → text.new.items ≡ text.old.items ++ part_of_system form listed.now interval t.epochs system) }
+        → text.new.items ≡ text.old.items ++ part_of_system head.now.doppler form head.now.listed interval t.epochs system) }
 {
-    let own = codes_of_system(alloc, system, listed)?;
+    let own = codes_of_system(alloc, system, head.codes())?;
     let codes = own.as_slice();
     if codes.len() == 0 {
         return Ok(());
     }
+    let has_shifts = head.has_doppler();
     let counts = count_system(alloc, table, system, codes, interval)?;
-    put_counted(alloc, text, form, system, codes, &counts)?;
+    put_counted(alloc, text, has_shifts, form, system, codes, &counts)?;
     Ok(())
 }
 
@@ -123,20 +125,19 @@ fn put_parts(
     text: &mut Vec<u8>,
     form: Form,
     table: &MixedTextTable<'_>,
-    listed: &[AnyCode],
+    head: &MixedHead,
     interval: Option<u64>,
 ) -> Result<(), AllocError>
-    requires { IsMixedList listed.now }
     ensures { OnOk result ((t : MixedTable) → IsMixedTable t → table.now.text ≡ mixed_table_text t
-        → text.new.items ≡ text.old.items ++ parts_of_systems form listed.now interval t.epochs) }
+        → text.new.items ≡ text.old.items ++ parts_of_systems head.now.doppler form head.now.listed interval t.epochs) }
 {
-    put_system(alloc, text, form, table, listed, interval, System::Gps)?;
-    put_system(alloc, text, form, table, listed, interval, System::Glonass)?;
-    put_system(alloc, text, form, table, listed, interval, System::Galileo)?;
-    put_system(alloc, text, form, table, listed, interval, System::Beidou)?;
-    put_system(alloc, text, form, table, listed, interval, System::Qzss)?;
-    put_system(alloc, text, form, table, listed, interval, System::Sbas)?;
-    put_system(alloc, text, form, table, listed, interval, System::Navic)?;
+    put_system(alloc, text, form, table, head, interval, System::Gps)?;
+    put_system(alloc, text, form, table, head, interval, System::Glonass)?;
+    put_system(alloc, text, form, table, head, interval, System::Galileo)?;
+    put_system(alloc, text, form, table, head, interval, System::Beidou)?;
+    put_system(alloc, text, form, table, head, interval, System::Qzss)?;
+    put_system(alloc, text, form, table, head, interval, System::Sbas)?;
+    put_system(alloc, text, form, table, head, interval, System::Navic)?;
     Ok(())
 }
 
@@ -146,15 +147,14 @@ fn put_systems(
     text: &mut Vec<u8>,
     form: Form,
     table: &MixedTextTable<'_>,
-    listed: &[AnyCode],
+    head: &MixedHead,
     interval: Option<u64>,
 ) -> Result<(), AllocError>
-    requires { IsMixedList listed.now }
     ensures { OnOk result ((t : MixedTable) → IsMixedTable t → table.now.text ≡ mixed_table_text t
-        → text.new.items ≡ text.old.items ++ systems_text form listed.now interval t.epochs) }
+        → text.new.items ≡ text.old.items ++ systems_text head.now.doppler form head.now.listed interval t.epochs) }
 {
     let start = begin_list(text, form, b"", b",\n\"systems\":[")?;
-    put_parts(alloc, text, form, table, listed, interval)?;
+    put_parts(alloc, text, form, table, head, interval)?;
     end_list(text, form, start)?;
     Ok(())
 }
@@ -191,7 +191,7 @@ fn mixed_text(
 ) -> Result<Vec<u8>, AllocError>
     ensures { IfOk result (λ text. (t : MixedTable) → IsMixedTable t → table.now.text ≡ mixed_table_text t
         → IsTimesOf times.now (unit_of interval) (newest_first t.epochs)
-        → text.items ≡ mixed_quality_text form t.head.marker t.head.listed t.first last interval t.epochs) }
+        → text.items ≡ mixed_quality_text t.head.doppler form t.head.marker t.head.listed t.first last interval t.epochs) }
 {
     let heading = table.heading();
     let marker = heading.head.marker();
@@ -210,14 +210,7 @@ fn mixed_text(
         gaps,
     )?;
     put_gaps(&mut text, form, &times.gaps)?;
-    put_systems(
-        alloc,
-        &mut text,
-        form,
-        table,
-        heading.head.codes(),
-        interval,
-    )?;
+    put_systems(alloc, &mut text, form, table, &heading.head, interval)?;
     put_close(&mut text, form)?;
     Ok(text)
 }

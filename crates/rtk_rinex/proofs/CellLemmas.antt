@@ -32,7 +32,7 @@ drop_more zero b xs = let e : 0 + b ≡ b = omega arith in ap (λ (n : ℕ). dro
 drop_more (suc a) b [] = drop-nil (suc a + b) ∙ sym (drop-nil b)
 drop_more (suc a) b (x ∷ xs) = let e : suc a + b ≡ suc (a + b) = omega arith in ap (λ (n : ℕ). drop n (x ∷ xs)) e ∙ drop_more a b xs
 
-no_more : (n : ℕ) (xs : List ℕ) → length xs ≤ n → drop n xs ≡ []
+pub no_more : (n : ℕ) (xs : List ℕ) → length xs ≤ n → drop n xs ≡ []
 no_more n [] h = drop-nil n
 no_more zero (x ∷ xs) h = absurd (omega arith)
 no_more (suc n) (x ∷ xs) h = no_more n xs (omega arith)
@@ -164,12 +164,12 @@ decides-some (Some o) columns h = (λ e. (o, h.0, h.1), λ s. refl)
 -- ---- the columns of codes
 
 abbrev no_observed : Observed
-no_observed = record { range_mm = None; phase_millicycles = None; strength_millidbhz = None; slip = false; half = false }
+no_observed = record { range_mm = None; phase_millicycles = None; doppler_millihertz = None; strength_millidbhz = None; slip = false; half = false }
 
 -- no columns are those of a code that shows nothing
 pub nothing-empty : IsObserved no_observed × (left 48 [] ≡ observations no_observed)
 unfolding left
-nothing-empty = (record { range = tt; phase = tt; strength = tt; lock = (refl, refl) }, refl)
+nothing-empty = (record { range = tt; phase = tt; strength = tt; lock = (refl, refl); doppler = refl }, refl)
 
 pub cell-empty : IsCell []
 cell-empty = (no_observed, nothing-empty.0, nothing-empty.1)
@@ -178,7 +178,7 @@ pub cell-full : (columns : List ℕ) → length columns ≡ 48 → left 48 colum
 unfolding left
 cell-full columns e = let none : 48 - length columns ≡ 0 = omega (arith, e) in rw none (append-nil columns)
 
-left-nil : (w : ℕ) → left w [] ≡ replicate w 32
+pub left-nil : (w : ℕ) → left w [] ≡ replicate w 32
 unfolding left
 left-nil w = let none : w - 0 ≡ w = omega arith in ap (λ (k : ℕ). replicate {A = ℕ} k 32) none
 
@@ -265,11 +265,11 @@ cells-back n m columns e cell rest = rw e (cell, rest)
 
 -- ---- blanks alone
 
-or-none : (a b : Bool) → (a || b) ≡ false → (a ≡ false) × (b ≡ false)
+pub or-none : (a b : Bool) → (a || b) ≡ false → (a ≡ false) × (b ≡ false)
 or-none true b e = cc
 or-none false b e = (refl, e)
 
-absent : (v : Option ℤ) → IsAbsentOrWritten v → is_present v ≡ false → v ≡ None
+pub absent : (v : Option ℤ) → IsAbsentOrWritten v → is_present v ≡ false → v ≡ None
 absent None h e = refl
 absent (Some v) h e = cc
 
@@ -295,10 +295,10 @@ unfolding are_blanks
 are_blanks-replicate zero = refl
 are_blanks-replicate (suc k) = are_blanks-replicate k
 
-and-left : (a b : Bool) → a ≡ false → (a && b) ≡ false
+pub and-left : (a b : Bool) → a ≡ false → (a && b) ≡ false
 and-left a b e = rw e refl
 
-and-right : (a b : Bool) → b ≡ false → (a && b) ≡ false
+pub and-right : (a b : Bool) → b ≡ false → (a && b) ≡ false
 and-right true b e = e
 and-right false b e = refl
 
@@ -307,7 +307,7 @@ or-some true b c e = inl refl
 or-some false true c e = inr (inl refl)
 or-some false false c e = inr (inr e)
 
-solid-value : (v : Option ℤ) (a b : ℕ) → is_present v ≡ true → are_blanks (observation v a b) ≡ false
+pub solid-value : (v : Option ℤ) (a b : ℕ) → is_present v ≡ true → are_blanks (observation v a b) ≡ false
 solid-value None a b e = cc
 solid-value (Some v) a b e =
     rw e (are_blanks-append (fixed 3 14 v) (a ∷ b ∷ []) ∙ and-left (are_blanks (fixed 3 14 v)) (are_blanks (a ∷ b ∷ [])) (are_blanks-decimals 14 3 (unsigned_abs v) (is_negative v)))
@@ -316,7 +316,7 @@ present-strength : (s : Option ℕ) → IsStrengthOrNone s → is_some s ≡ tru
 present-strength None h e = cc
 present-strength (Some s) h e = IsValue-strength (Some s) h
 
-solid-cell : (o : Observed) → IsObserved o → has_observation o ≡ true → are_blanks (observations o) ≡ false
+pub solid-cell : (o : Observed) → IsObserved o → has_observation o ≡ true → are_blanks (observations o) ≡ false
 solid-cell o h e =
     let digit = strength_digit o.strength_millidbhz in
     let a : List ℕ = observation o.range_mm 32 digit in

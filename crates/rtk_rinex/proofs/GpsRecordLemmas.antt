@@ -1,5 +1,5 @@
 -- The record of satellites of GPS alone is the record in a file of GPS.
-use Rattle.std.proofs.Common.{◌≡◌, ◌∙◌, ℕ, ◌+◌, ◌-◌, ◌≤◌, List, [], ◌∷◌, ◌++◌, length, arith, refl, ap, true, nat_le}
+use Rattle.std.proofs.Common.{false, ◌≡◌, ◌∙◌, ℕ, ◌+◌, ◌-◌, ◌≤◌, List, [], ◌∷◌, ◌++◌, length, arith, refl, ap, true, nat_le}
 use Rattle.std.specs.Prelude.{All}
 use Rattle.std.specs.Int.{IsInRange}
 use Rattle.std.specs.List.{flat_map, filter}
@@ -25,15 +25,15 @@ gps-name i h =
     let number : i - satellites_before Gps + name_offset Gps ≡ i = omega arith in
     ap (λ (s : System). letter_of s ∷ last_digits 2 (i - satellites_before s + name_offset s)) gps ∙ ap (λ (n : ℕ). 71 ∷ last_digits 2 n) number
 
-gps-line : (r : SatelliteRow) → IsSatelliteRow r → mixed_satellite_line r ≡ satellite_line r
+gps-line : (r : SatelliteRow) → IsSatelliteRow r → mixed_satellite_line false r ≡ satellite_line r
 gps-line r h = ap (λ (name : List ℕ). trim_end (name ++ flat_map observations r.observed.items) ++ 10 ∷ []) (gps-name r.satellite h.satellite)
 
-gps-lines : (rows : List SatelliteRow) → All IsSatelliteRow rows → flat_map mixed_satellite_line rows ≡ flat_map satellite_line rows
+gps-lines : (rows : List SatelliteRow) → All IsSatelliteRow rows → flat_map (mixed_satellite_line false) rows ≡ flat_map satellite_line rows
 gps-lines [] h = refl
 gps-lines (r ∷ rows) h =
     rw (gps-line r (All-head IsSatelliteRow r rows h), gps-lines rows (All-tail IsSatelliteRow r rows h)) refl
 
-gps-record : (c : Civil) (rows : List SatelliteRow) → All IsSatelliteRow rows → mixed_lines_of c rows ≡ lines_of c rows
+gps-record : (c : Civil) (rows : List SatelliteRow) → All IsSatelliteRow rows → mixed_lines_of false c rows ≡ lines_of c rows
 gps-record c [] h = refl
 gps-record c (r ∷ rows) h = ap (λ (t : List ℕ). epoch_line c (length (r ∷ rows)) ++ t) (gps-lines (r ∷ rows) h)
 

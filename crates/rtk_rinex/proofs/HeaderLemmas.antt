@@ -17,6 +17,9 @@ unlike-more cs i old new j k d jk ki =
 pub append-four : (o a b c d : List ℕ) → (((o ++ a) ++ b) ++ c) ++ d ≡ o ++ (((a ++ b) ++ c) ++ d)
 append-four o a b c d = simp append_assoc
 
+pub append-five : (o a b c d e : List ℕ) → ((((o ++ a) ++ b) ++ c) ++ d) ++ e ≡ o ++ ((((a ++ b) ++ c) ++ d) ++ e)
+append-five o a b c d e = simp append_assoc
+
 -- the parts of a header one after another
 pub parts-in_row : (v m k a b c d p q t u f g z : List ℕ)
     → (((((((((((v ++ m) ++ k) ++ a) ++ b) ++ c) ++ d) ++ p) ++ q) ++ t) ++ u) ++ f) ++ g ++ z

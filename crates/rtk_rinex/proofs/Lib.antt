@@ -42,6 +42,7 @@ mod GpsHeaderLemmas
 mod GpsRecordLemmas
 mod MixedRecordLemmas
 mod SatelliteRangeLemmas
+mod MixedCodeLemmas
 mod MixedRowLemmas
 mod MixedCountLemmas
 mod MixedCheckLemmas
@@ -58,6 +59,9 @@ mod SlotsReadLemmas
 mod SystemLinesLemmas
 mod SystemOrderLemmas
 mod SystemsReadLemmas
+mod FlagLemmas
+mod ShiftTypeLemmas
+mod GpsShiftLemmas
 mod SlotsLinesLemmas
 mod MixedPartsLemmas
 mod GlonassReadLemmas

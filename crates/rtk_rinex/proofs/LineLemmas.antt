@@ -60,21 +60,21 @@ observation_if v a b h g true e =
     (All-cons IsNoEnd a (b ∷ []) h (one b g))
 observation_if v a b h g false e = blanks 16
 
-of_observation : (v : Option ℤ) (a b : ℕ) → a ≢ 10 → b ≢ 10 → HasNoEnd (observation v a b)
+pub of_observation : (v : Option ℤ) (a b : ℕ) → a ≢ 10 → b ≢ 10 → HasNoEnd (observation v a b)
 of_observation None a b h g = blanks 16
 of_observation (Some v) a b h g = observation_if v a b h g (is_written v) refl
 
-strength_is : (s : Option ℕ) → strength_digit s ≢ 10
+pub strength_is : (s : Option ℕ) → strength_digit s ≢ 10
 strength_is None e = omega (arith, e)
 strength_is (Some s) e = omega (arith, e)
 
-lli_is : (slip half : Bool) → lli_digit slip half ≢ 10
+pub lli_is : (slip half : Bool) → lli_digit slip half ≢ 10
 lli_is true true e = omega (arith, e)
 lli_is true false e = omega (arith, e)
 lli_is false true e = omega (arith, e)
 lli_is false false e = omega (arith, e)
 
-of_observations : (o : Observed) → HasNoEnd (observations o)
+pub of_observations : (o : Observed) → HasNoEnd (observations o)
 of_observations o =
     let digit = strength_digit o.strength_millidbhz in
     let lli = lli_digit o.slip o.half in

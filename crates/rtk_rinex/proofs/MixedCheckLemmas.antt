@@ -1,12 +1,12 @@
 -- One line more of a text of any systems that is checked.
-use Rattle.std.proofs.Common.{◌≡◌, ◌≢◌, ℕ, ◌<◌, ◌≤◌, List, [], ◌∷◌, ◌++◌, length, flat_map, Option, Some, None, true, refl, sym, ◌∙◌, ap, arith, append_assoc}
+use Rattle.std.proofs.Common.{Bool, ◌≡◌, ◌≢◌, ℕ, ◌<◌, ◌≤◌, List, [], ◌∷◌, ◌++◌, length, flat_map, Option, Some, None, true, refl, sym, ◌∙◌, ap, arith, append_assoc}
 use Rattle.std.specs.Prelude.{All, AllPairs}
 use Rattle.std.specs.List.{filter}
 use Rattle.std.proofs.lemmas.List.Elements.{All-nil, All-cons, All-head, All-tail}
 use Rattle.std.proofs.lemmas.List.Kept.{AllPairs-cons}
 use Rattle.rtk_obs.specs.declared.time.Civil.{Civil}
 use Rattle.rtk_obs.specs.Reading.{reading_of}
-use Rattle.rtk_rinex.specs.Record.{EpochTableView, has_line, epoch_line}
+use Rattle.rtk_rinex.specs.Record.{EpochTableView, has_line_in, epoch_line}
 use Rattle.rtk_rinex.specs.MixedRecord.{mixed_satellite_line, mixed_record_text}
 use Rattle.rtk_rinex.specs.MixedForm.{FormView}
 use Rattle.rtk_rinex.specs.MixedTable.{IsMixedRow, IsMixedEpoch}
@@ -24,7 +24,7 @@ use Rattle.rtk_rinex.proofs.MixedRecordLemmas.{mixed_lines-some}
 pub record ReadsMixedFront (n : FormView) (first : ℕ) (bytes rest : List ℕ) : Type 0 where
   pub epochs : List EpochTableView
   pub are_epochs : AreMixedEpochs n first None epochs
-  pub text : bytes ≡ flat_map mixed_record_text epochs ++ rest
+  pub text : bytes ≡ flat_map (mixed_record_text n.doppler) epochs ++ rest
 
 pub rows-more : (n : FormView) (last : Option ℕ) (rows : List SatelliteRow) (r : SatelliteRow) → AreMixedRows n last rows → IsMixedRow n r
     → IsNextSatellite (last_satellite last rows) r.satellite → AreMixedRows n last (rows ++ r ∷ [])
@@ -71,23 +71,23 @@ rows-rise n last [] h = λ i j d low high. absurd (omega arith)
 rows-rise n last (r ∷ rows) h =
     AllPairs-cons (λ (a b : SatelliteRow). a.satellite < b.satellite) r rows (rows-above n r.satellite r.satellite rows h.2 (omega arith)) (rows-rise n (Some r.satellite) rows h.2)
 
-filter-lines : (n : FormView) (rows : List SatelliteRow) → All (IsMixedRow n) rows → filter has_line rows ≡ rows
+filter-lines : (n : FormView) (rows : List SatelliteRow) → All (IsMixedRow n) rows → filter (has_line_in n.doppler) rows ≡ rows
 filter-lines n [] h = refl
 filter-lines n (r ∷ rows) h =
-    let line : has_line r ≡ true = (All-head (IsMixedRow n) r rows h).line in
-    let rest : filter has_line rows ≡ rows = filter-lines n rows (All-tail (IsMixedRow n) r rows h) in
+    let line : has_line_in n.doppler r ≡ true = (All-head (IsMixedRow n) r rows h).line in
+    let rest : filter (has_line_in n.doppler) rows ≡ rows = filter-lines n rows (All-tail (IsMixedRow n) r rows h) in
     rw (line, rest) refl
 
 pub record-lines : (n : FormView) (time : ℕ) (rows : List SatelliteRow) → All (IsMixedRow n) rows → length rows ≢ 0
-    → mixed_record_text (record { time = time; rows = rows }) ≡ epoch_line (reading_of time) (length rows) ++ flat_map mixed_satellite_line rows
+    → mixed_record_text n.doppler (record { time = time; rows = rows }) ≡ epoch_line (reading_of time) (length rows) ++ flat_map (mixed_satellite_line n.doppler) rows
 unfolding mixed_record_text
-record-lines n time rows h some = rw (filter-lines n rows h) (mixed_lines-some (reading_of time) rows some)
+record-lines n time rows h some = rw (filter-lines n rows h) (mixed_lines-some n.doppler (reading_of time) rows some)
 
 -- the text of a record, of its epoch line and its rows
-pub record-is : (bytes line after : List ℕ) (c : Civil) (rows : List SatelliteRow) (count : ℕ) (rest text : List ℕ)
-    → bytes ≡ line ++ after → line ≡ epoch_line c count → after ≡ flat_map mixed_satellite_line rows ++ rest → length rows ≡ count
-    → text ≡ epoch_line c (length rows) ++ flat_map mixed_satellite_line rows → bytes ≡ text ++ rest
-record-is bytes line after c rows count rest text e f g h t =
+pub record-is : (doppler : Bool) (bytes line after : List ℕ) (c : Civil) (rows : List SatelliteRow) (count : ℕ) (rest text : List ℕ)
+    → bytes ≡ line ++ after → line ≡ epoch_line c count → after ≡ flat_map (mixed_satellite_line doppler) rows ++ rest → length rows ≡ count
+    → text ≡ epoch_line c (length rows) ++ flat_map (mixed_satellite_line doppler) rows → bytes ≡ text ++ rest
+record-is doppler bytes line after c rows count rest text e f g h t =
     let first : line ≡ epoch_line c (length rows) = f ∙ ap (λ (m : ℕ). epoch_line c m) (sym h) in
-    e ∙ ap (λ (xs : List ℕ). line ++ xs) g ∙ ap (λ (xs : List ℕ). xs ++ (flat_map mixed_satellite_line rows ++ rest)) first
-    ∙ sym (append_assoc (epoch_line c (length rows)) (flat_map mixed_satellite_line rows) rest) ∙ ap (λ (xs : List ℕ). xs ++ rest) (sym t)
+    e ∙ ap (λ (xs : List ℕ). line ++ xs) g ∙ ap (λ (xs : List ℕ). xs ++ (flat_map (mixed_satellite_line doppler) rows ++ rest)) first
+    ∙ sym (append_assoc (epoch_line c (length rows)) (flat_map (mixed_satellite_line doppler) rows) rest) ∙ ap (λ (xs : List ℕ). xs ++ rest) (sym t)

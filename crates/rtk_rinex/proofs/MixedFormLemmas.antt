@@ -18,20 +18,20 @@ use Rattle.rtk_rinex.proofs.MixedRowLemmas.{mixed_line-line, mixed-row-form, mix
 use Rattle.rtk_rinex.proofs.OneLemmas.{one_epoch_line}
 
 pub no_satellite_fault : (n : FormView) (last : Option ℕ) (text : List ℕ) (cause : Cause) (r : SatelliteRow) (y : List ℕ)
-    → BeginsWithFault (IsMixedSatelliteFault n last) text cause → IsMixedRow n r → IsNextSatellite last r.satellite → text ≡ mixed_satellite_line r ++ y → ⊥
+    → BeginsWithFault (IsMixedSatelliteFault n last) text cause → IsMixedRow n r → IsNextSatellite last r.satellite → text ≡ mixed_satellite_line n.doppler r ++ y → ⊥
 no_satellite_fault n last text HeaderLine r y b h next e = b.4
 no_satellite_fault n last text Columns r y b h next e =
-    let same = same_line b.0 (mixed_satellite_line r) b.1 y b.2 (mixed_line-line r) (sym b.3 ∙ e) in
+    let same = same_line b.0 (mixed_satellite_line n.doppler r) b.1 y b.2 (mixed_line-line n.doppler r) (sym b.3 ∙ e) in
     b.4 r.satellite (rw same.0 (mixed-row-form n r h))
 no_satellite_fault n last text Value r y b h next e =
-    let same = same_line b.0 (mixed_satellite_line r) b.1 y b.2 (mixed_line-line r) (sym b.3 ∙ e) in
+    let same = same_line b.0 (mixed_satellite_line n.doppler r) b.1 y b.2 (mixed_line-line n.doppler r) (sym b.3 ∙ e) in
     b.4.3 r h same.0
 no_satellite_fault n last text Order r y b h next e =
-    let same = same_line b.0 (mixed_satellite_line r) b.1 y b.2 (mixed_line-line r) (sym b.3 ∙ e) in
+    let same = same_line b.0 (mixed_satellite_line n.doppler r) b.1 y b.2 (mixed_line-line n.doppler r) (sym b.3 ∙ e) in
     let form = b.4.1 in
-    let satellite : r.satellite ≡ b.4.0 = one-satellite b.0 r.satellite b.4.0 h.satellite form.0 (mixed-named b.0 r same.0) form.1 in
+    let satellite : r.satellite ≡ b.4.0 = one-satellite b.0 r.satellite b.4.0 h.satellite form.0 (mixed-named n.doppler b.0 r same.0) form.1 in
     b.4.2 (rw satellite at next)
-no_satellite_fault n last text Truncated r y b h next e = no_line text (mixed_satellite_line r) y b (mixed_line-line r) e
+no_satellite_fault n last text Truncated r y b h next e = no_line text (mixed_satellite_line n.doppler r) y b (mixed_line-line n.doppler r) e
 no_satellite_fault n last text OutOfMemory r y b h next e = b.4
 
 pub no_epoch_fault : (n : FormView) (first : ℕ) (last : Option ℕ) (text : List ℕ) (cause : Cause) (a : EpochTableView) (y : List ℕ)

@@ -1,6 +1,7 @@
 -- A text of any systems has one fault at most, and with a fault it is the text of no well-formed table.
 use Rattle.std.proofs.Common.{◌≡◌, ◌≢◌, ℕ, List, flat_map, refl, sym, ◌∙◌, ap, subst, arith, ⊎_elim}
 use Rattle.std.specs.Prelude.{All}
+use Rattle.rtk_rinex.specs.MixedHead.{MixedHeadView}
 use Rattle.rtk_rinex.specs.declared.check_fault.CheckFault.{CheckFault}
 use Rattle.rtk_rinex.specs.HeaderFault.{AreLines}
 use Rattle.rtk_rinex.specs.Table.{StartsAt}
@@ -68,12 +69,12 @@ records_or_table places texts bytes f a t is e =
     let v : MixedValues = mixed_values t.head t.site t.first in
     let good : IsGoodMixed u = record { heading = a.heading; site = a.good_site; first = a.moment } in
     let other : IsGoodMixed v = record { heading = is.head; site = is.site; first = is.first } in
-    let one = one_mixed_header places texts u v a.rest (flat_map mixed_record_text t.epochs) good other (sym a.text ∙ e) in
+    let one = one_mixed_header places texts u v a.rest (flat_map (mixed_record_text t.head.doppler) t.epochs) good other (sym a.text ∙ e) in
     let head : a.head ≡ t.head = ap (λ (w : MixedValues). w.head) one.0 in
     let first : a.first ≡ t.first = ap (λ (w : MixedValues). w.first) one.0 in
     let epochs : All (IsMixedEpoch (form_of_head a.head)) t.epochs = rw head is.epochs in
     let start : StartsAt a.first t.epochs = rw first is.starts in
-    no_records (form_of_head a.head) a.first a.lines a.rest f t.epochs a.records epochs is.rise start one.1
+    no_records (form_of_head a.head) a.first a.lines a.rest f t.epochs a.records epochs is.rise start (one.1 ∙ ap (λ (k : MixedHeadView). flat_map (mixed_record_text k.doppler) t.epochs) (sym head))
 
 pub mixed-fault-none : HaveOnePlace → HaveOneText → MixedFaultMeansNoTable
 mixed-fault-none places texts bytes f a t is e =

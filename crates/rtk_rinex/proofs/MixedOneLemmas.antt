@@ -28,25 +28,25 @@ count-of n e h =
     (omega (arith, some), few-mixed n e.rows h.rows h.rise)
 
 pub same_rows : (n : FormView) (rows others : List SatelliteRow) (x y : List ℕ) → All (IsMixedRow n) rows → All (IsMixedRow n) others
-    → length rows ≤ length others → flat_map mixed_satellite_line rows ++ x ≡ flat_map mixed_satellite_line others ++ y → Goes mixed_satellite_line rows others x y
+    → length rows ≤ length others → flat_map (mixed_satellite_line n.doppler) rows ++ x ≡ flat_map (mixed_satellite_line n.doppler) others ++ y → Goes (mixed_satellite_line n.doppler) rows others x y
 same_rows n [] others x y h g long e = record { more = others; list = refl; text = e }
 same_rows n (r ∷ rows) [] x y h g long e = absurd (omega arith)
 same_rows n (r ∷ rows) (s ∷ others) x y h g long e =
-    let left = append_assoc (mixed_satellite_line r) (flat_map mixed_satellite_line rows) x in
-    let right = append_assoc (mixed_satellite_line s) (flat_map mixed_satellite_line others) y in
-    let line = same_line (mixed_satellite_line r) (mixed_satellite_line s) (flat_map mixed_satellite_line rows ++ x) (flat_map mixed_satellite_line others ++ y)
-    (mixed_line-line r) (mixed_line-line s) (sym left ∙ e ∙ right) in
+    let left = append_assoc (mixed_satellite_line n.doppler r) (flat_map (mixed_satellite_line n.doppler) rows) x in
+    let right = append_assoc (mixed_satellite_line n.doppler s) (flat_map (mixed_satellite_line n.doppler) others) y in
+    let line = same_line (mixed_satellite_line n.doppler r) (mixed_satellite_line n.doppler s) (flat_map (mixed_satellite_line n.doppler) rows ++ x) (flat_map (mixed_satellite_line n.doppler) others ++ y)
+    (mixed_line-line n.doppler r) (mixed_line-line n.doppler s) (sym left ∙ e ∙ right) in
     let same : r ≡ s = one-mixed-row n r s (All-head (IsMixedRow n) r rows h) (All-head (IsMixedRow n) s others g) line.0 in
     let rest = same_rows n rows others x y (All-tail (IsMixedRow n) r rows h) (All-tail (IsMixedRow n) s others g) (omega arith) line.1 in
     record { more = rest.more; list = same_cons r s (rows ++ rest.more) others same rest.list; text = rest.text }
 
-pub epoch-text : (n : FormView) (e : EpochTableView) → IsMixedEpoch n e → mixed_record_text e ≡ epoch_line (reading_of e.time) (length e.rows) ++ flat_map mixed_satellite_line e.rows
+pub epoch-text : (n : FormView) (e : EpochTableView) → IsMixedEpoch n e → mixed_record_text n.doppler e ≡ epoch_line (reading_of e.time) (length e.rows) ++ flat_map (mixed_satellite_line n.doppler) e.rows
 epoch-text n e h = record-lines n e.time e.rows h.rows (λ z. h.some (nil_from_length e.rows z))
 
 -- a record begins with its epoch line
-pub epoch-front : (n : FormView) (e : EpochTableView) (y : List ℕ) → IsMixedEpoch n e → mixed_record_text e ++ y ≡ epoch_line (reading_of e.time) (length e.rows) ++ (flat_map mixed_satellite_line e.rows ++ y)
+pub epoch-front : (n : FormView) (e : EpochTableView) (y : List ℕ) → IsMixedEpoch n e → mixed_record_text n.doppler e ++ y ≡ epoch_line (reading_of e.time) (length e.rows) ++ (flat_map (mixed_satellite_line n.doppler) e.rows ++ y)
 epoch-front n e y h =
-    ap (λ (t : List ℕ). t ++ y) (epoch-text n e h) ∙ append_assoc (epoch_line (reading_of e.time) (length e.rows)) (flat_map mixed_satellite_line e.rows) y
+    ap (λ (t : List ℕ). t ++ y) (epoch-text n e h) ∙ append_assoc (epoch_line (reading_of e.time) (length e.rows)) (flat_map (mixed_satellite_line n.doppler) e.rows) y
 
 pub epoch_line-of : (n : FormView) (e : EpochTableView) → IsMixedEpoch n e → IsLine (epoch_line (reading_of e.time) (length e.rows))
 epoch_line-of n e h = let count = count-of n e h in epoch_line-line e.time (length e.rows) h.time (count-few n (length e.rows) count)
@@ -60,11 +60,11 @@ same_epoch t u rows others e f = cc
 no_more : {X : Type 0} (xs more : List X) → length (xs ++ more) ≡ length xs → more ≡ []
 no_more xs more e = nil_from_length more (omega (arith, length-append xs more, e))
 
-pub one_record : (n : FormView) (e f : EpochTableView) (x y : List ℕ) → IsMixedEpoch n e → IsMixedEpoch n f → mixed_record_text e ++ x ≡ mixed_record_text f ++ y → (e ≡ f) × (x ≡ y)
+pub one_record : (n : FormView) (e f : EpochTableView) (x y : List ℕ) → IsMixedEpoch n e → IsMixedEpoch n f → mixed_record_text n.doppler e ++ x ≡ mixed_record_text n.doppler f ++ y → (e ≡ f) × (x ≡ y)
 one_record n e f x y h g same =
     let c = count-of n e h in
     let d = count-of n f g in
-    let line = same_line (epoch_line (reading_of e.time) (length e.rows)) (epoch_line (reading_of f.time) (length f.rows)) (flat_map mixed_satellite_line e.rows ++ x) (flat_map mixed_satellite_line f.rows ++ y)
+    let line = same_line (epoch_line (reading_of e.time) (length e.rows)) (epoch_line (reading_of f.time) (length f.rows)) (flat_map (mixed_satellite_line n.doppler) e.rows ++ x) (flat_map (mixed_satellite_line n.doppler) f.rows ++ y)
     (epoch_line-of n e h) (epoch_line-of n f g) (sym (epoch-front n e x h) ∙ same ∙ epoch-front n f y g) in
     let one = one_epoch_line e.time f.time (length e.rows) (length f.rows) h.time g.time (count-few n (length e.rows) c) (count-few n (length f.rows) d) line.0 in
     let rows = same_rows n e.rows f.rows x y h.rows g.rows (omega (arith, one.1)) line.1 in
@@ -72,22 +72,22 @@ one_record n e f x y h g same =
     let list : e.rows ≡ f.rows = sym (append-nil e.rows) ∙ (rw (none) at (sym rows.list)) in
     (same_epoch e.time f.time e.rows f.rows one.0 list, rw none at rows.text)
 
-pub some_text : (n : FormView) (e : EpochTableView) (x : List ℕ) → IsMixedEpoch n e → mixed_record_text e ++ x ≢ []
+pub some_text : (n : FormView) (e : EpochTableView) (x : List ℕ) → IsMixedEpoch n e → mixed_record_text n.doppler e ++ x ≢ []
 some_text n e x h z =
     let c = count-of n e h in
     let long = length-line (epoch_line (reading_of e.time) (length e.rows)) e.time (length e.rows) h.time (count-few n (length e.rows) c) refl in
     let zero = ap length (sym (epoch-front n e x h) ∙ z) in
-    omega (arith, long, length-append (epoch_line (reading_of e.time) (length e.rows)) (flat_map mixed_satellite_line e.rows ++ x), zero)
+    omega (arith, long, length-append (epoch_line (reading_of e.time) (length e.rows)) (flat_map (mixed_satellite_line n.doppler) e.rows ++ x), zero)
 
 -- a text of epochs, with more text after them, is the text of no other epochs
 pub same_epochs : (n : FormView) (epochs others : List EpochTableView) (x : List ℕ) → All (IsMixedEpoch n) epochs → All (IsMixedEpoch n) others
-    → flat_map mixed_record_text epochs ++ x ≡ flat_map mixed_record_text others → Goes mixed_record_text epochs others x []
-same_epochs n [] others x h g e = record { more = others; list = refl; text = e ∙ sym (append-nil (flat_map mixed_record_text others)) }
+    → flat_map (mixed_record_text n.doppler) epochs ++ x ≡ flat_map (mixed_record_text n.doppler) others → Goes (mixed_record_text n.doppler) epochs others x []
+same_epochs n [] others x h g e = record { more = others; list = refl; text = e ∙ sym (append-nil (flat_map (mixed_record_text n.doppler) others)) }
 same_epochs n (a ∷ epochs) [] x h g e =
-    absurd (some_text n a (flat_map mixed_record_text epochs ++ x) (All-head (IsMixedEpoch n) a epochs h) (sym (append_assoc (mixed_record_text a) (flat_map mixed_record_text epochs) x) ∙ e))
+    absurd (some_text n a (flat_map (mixed_record_text n.doppler) epochs ++ x) (All-head (IsMixedEpoch n) a epochs h) (sym (append_assoc (mixed_record_text n.doppler a) (flat_map (mixed_record_text n.doppler) epochs) x) ∙ e))
 same_epochs n (a ∷ epochs) (b ∷ others) x h g e =
-    let left = append_assoc (mixed_record_text a) (flat_map mixed_record_text epochs) x in
-    let one = one_record n a b (flat_map mixed_record_text epochs ++ x) (flat_map mixed_record_text others)
+    let left = append_assoc (mixed_record_text n.doppler a) (flat_map (mixed_record_text n.doppler) epochs) x in
+    let one = one_record n a b (flat_map (mixed_record_text n.doppler) epochs ++ x) (flat_map (mixed_record_text n.doppler) others)
     (All-head (IsMixedEpoch n) a epochs h) (All-head (IsMixedEpoch n) b others g) (sym left ∙ e) in
     let rest = same_epochs n epochs others x (All-tail (IsMixedEpoch n) a epochs h) (All-tail (IsMixedEpoch n) b others g) one.1 in
     record { more = rest.more; list = same_cons a b (epochs ++ rest.more) others one.0 rest.list; text = rest.text }

@@ -80,7 +80,7 @@ one_epoch_cause n first last line Order OutOfMemory a b = absurd b
 
 rows_with_more : (n : FormView) (count before : ℕ) (bytes : List ℕ) (f g : CheckFault) (a : IsFaultOfMixedRows n count before bytes f) (b : IsFaultOfMixedRows n count before bytes g)
     → (more : List SatelliteRow)
-    → b.rows ≡ a.rows ++ more → a.rest ≡ flat_map mixed_satellite_line more ++ b.rest → IsSame f g
+    → b.rows ≡ a.rows ++ more → a.rest ≡ flat_map (mixed_satellite_line n.doppler) more ++ b.rest → IsSame f g
 rows_with_more n count before bytes f g a b [] e text =
     let rows : b.rows ≡ a.rows = e ∙ append-nil a.rows in
     let cause = rw (rows, ← text) at b.cause in (
@@ -90,9 +90,9 @@ rows_with_more n count before bytes f g a b [] e text =
 rows_with_more n count before bytes f g a b (r ∷ more) e text =
     let good : All (IsMixedRow n) (a.rows ++ r ∷ more) = rw e at (rows-all n None b.rows b.are_rows) in
     let rise : AllPairs Below (a.rows ++ r ∷ more) = rw e at (rows-rise n None b.rows b.are_rows) in
-    absurd (no_satellite_fault n (last_satellite None a.rows) a.rest f.cause r (flat_map mixed_satellite_line more ++ b.rest) a.cause
+    absurd (no_satellite_fault n (last_satellite None a.rows) a.rest f.cause r (flat_map (mixed_satellite_line n.doppler) more ++ b.rest) a.cause
     (All-head (IsMixedRow n) r more (rows_more n a.rows (r ∷ more) good)) (row-next a.rows r more rise)
-    (text ∙ append_assoc (mixed_satellite_line r) (flat_map mixed_satellite_line more) b.rest))
+    (text ∙ append_assoc (mixed_satellite_line n.doppler r) (flat_map (mixed_satellite_line n.doppler) more) b.rest))
 
 rows_ordered : (n : FormView) (count before : ℕ) (bytes : List ℕ) (f g : CheckFault) → (a : IsFaultOfMixedRows n count before bytes f) (b : IsFaultOfMixedRows n count before bytes g)
     → length a.rows ≤ length b.rows → IsSame f g
@@ -159,19 +159,19 @@ one_of_record n first last before text f g a b =
 -- ---- the records
 
 same_records : (n : FormView) (epochs others : List EpochTableView) (x y : List ℕ) → All (IsMixedEpoch n) epochs → All (IsMixedEpoch n) others
-    → length epochs ≤ length others → flat_map mixed_record_text epochs ++ x ≡ flat_map mixed_record_text others ++ y → Goes mixed_record_text epochs others x y
+    → length epochs ≤ length others → flat_map (mixed_record_text n.doppler) epochs ++ x ≡ flat_map (mixed_record_text n.doppler) others ++ y → Goes (mixed_record_text n.doppler) epochs others x y
 same_records n [] others x y h g long e = record { more = others; list = refl; text = e }
 same_records n (a ∷ epochs) [] x y h g long e = absurd (omega arith)
 same_records n (a ∷ epochs) (b ∷ others) x y h g long e =
-    let left = append_assoc (mixed_record_text a) (flat_map mixed_record_text epochs) x in
-    let right = append_assoc (mixed_record_text b) (flat_map mixed_record_text others) y in
-    let one = one_record n a b (flat_map mixed_record_text epochs ++ x) (flat_map mixed_record_text others ++ y)
+    let left = append_assoc (mixed_record_text n.doppler a) (flat_map (mixed_record_text n.doppler) epochs) x in
+    let right = append_assoc (mixed_record_text n.doppler b) (flat_map (mixed_record_text n.doppler) others) y in
+    let one = one_record n a b (flat_map (mixed_record_text n.doppler) epochs ++ x) (flat_map (mixed_record_text n.doppler) others ++ y)
     (All-head (IsMixedEpoch n) a epochs h) (All-head (IsMixedEpoch n) b others g) (sym left ∙ e ∙ right) in
     let rest = same_records n epochs others x y (All-tail (IsMixedEpoch n) a epochs h) (All-tail (IsMixedEpoch n) b others g) (omega arith) one.1 in
     record { more = rest.more; list = same_cons a b (epochs ++ rest.more) others one.0 rest.list; text = rest.text }
 
 records_with_more : (n : FormView) (first before : ℕ) (bytes : List ℕ) (f g : CheckFault) → (a : IsFaultOfMixedRecords n first before bytes f) (b : IsFaultOfMixedRecords n first before bytes g)
-    → (more : List EpochTableView) → b.epochs ≡ a.epochs ++ more → a.rest ≡ flat_map mixed_record_text more ++ b.rest → IsSame f g
+    → (more : List EpochTableView) → b.epochs ≡ a.epochs ++ more → a.rest ≡ flat_map (mixed_record_text n.doppler) more ++ b.rest → IsSame f g
 records_with_more n first before bytes f g a b [] e text =
     let epochs : b.epochs ≡ a.epochs = e ∙ append-nil a.epochs in
     let next : IsFaultOfMixedRecord n first (last_time None a.epochs) (before + record_lines a.epochs) a.rest g = rw (epochs, ← text) at b.next in
@@ -180,9 +180,9 @@ records_with_more n first before bytes f g a b (q ∷ more) e text =
     let good : All (IsMixedEpoch n) (a.epochs ++ q ∷ more) = rw e at (epochs-all n first None b.epochs b.are_epochs) in
     let rise : AllPairs Earlier (a.epochs ++ q ∷ more) = rw e at (epochs-rise n first None b.epochs b.are_epochs) in
     let start : StartsAt first (a.epochs ++ q ∷ more) = rw e at (epochs-start n first b.epochs b.are_epochs) in
-    absurd (record-fault n first (last_time None a.epochs) _ a.rest f q (flat_map mixed_record_text more ++ b.rest) a.next
+    absurd (record-fault n first (last_time None a.epochs) _ a.rest f q (flat_map (mixed_record_text n.doppler) more ++ b.rest) a.next
     (All-head (IsMixedEpoch n) q more (all_more n a.epochs (q ∷ more) good)) (epoch-next first a.epochs q more start rise)
-    (text ∙ append_assoc (mixed_record_text q) (flat_map mixed_record_text more) b.rest))
+    (text ∙ append_assoc (mixed_record_text n.doppler q) (flat_map (mixed_record_text n.doppler) more) b.rest))
 
 records_ordered : (n : FormView) (first before : ℕ) (bytes : List ℕ) (f g : CheckFault) → (a : IsFaultOfMixedRecords n first before bytes f) (b : IsFaultOfMixedRecords n first before bytes g)
     → length a.epochs ≤ length b.epochs → IsSame f g

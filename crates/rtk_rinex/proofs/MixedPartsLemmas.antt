@@ -56,7 +56,7 @@ abbrev pub from_first : MixedValues → List ℕ
 from_first v = first_line (reading_of v.first) ++ from_shift v
 
 abbrev pub from_types : MixedValues → List ℕ
-from_types v = types_and_unit v.head.listed ++ from_first v
+from_types v = types_and_unit v.head.doppler v.head.listed ++ from_first v
 
 abbrev pub from_height : MixedValues → List ℕ
 from_height v = height_line v.site.height ++ from_types v
@@ -84,7 +84,7 @@ pub all_is : (v : MixedValues) → all_mixed v ≡ mixed_text v
 unfolding mixed_header_text
 all_is v =
     in_row (mixed_version_line (version_letter v.head.listed)) (made_line (reading_of v.head.made)) (marker_line v.head.marker) unknown_lines (place_line v.site) (height_line v.site.height)
-    (by_system system_types_lines v.head.listed) unit_line (first_line (reading_of v.first)) (by_system phase_shift_line v.head.listed) (glonass_lines v.head.glonass) end_line
+    (by_system (system_types_lines v.head.doppler) v.head.listed) unit_line (first_line (reading_of v.first)) (by_system phase_shift_line v.head.listed) (glonass_lines v.head.glonass) end_line
 
 -- ---- the letter of a file
 
@@ -154,11 +154,11 @@ whole_biases = whole_known [] (codes "GLONASS COD/PHS/BIS") refl refl
 pub whole_end : AreWhole end_line
 whole_end = whole_known [] (codes "END OF HEADER") refl refl
 
-whole_system : (s : ℕ) (g : List AnyCode) → s ≢ 10 → (g ≡ []) ⊎ IsGroup s g → AreWhole (system_types_lines s g)
-whole_system s g h own =
+whole_system : (doppler : Bool) (s : ℕ) (g : List AnyCode) → s ≢ 10 → (g ≡ []) ⊎ IsGroup s g → AreWhole (system_types_lines doppler s g)
+whole_system doppler s g h own =
     elim own [
-      | inl none ↦ subst (λ (x : List AnyCode). AreWhole (system_types_lines s x)) (sym none) whole_none
-      | inr group ↦ whole_group s g h group
+      | inl none ↦ subst (λ (x : List AnyCode). AreWhole (system_types_lines doppler s x)) (sym none) whole_none
+      | inr group ↦ whole_group doppler s g h group
     ]
 
 whole_shift : (s : ℕ) (g : List AnyCode) → s ≢ 10 → AreWhole (phase_shift_line s g)
@@ -172,17 +172,17 @@ whole_seven : (lines : ℕ → List AnyCode → List ℕ) (cs : List AnyCode) �
 whole_seven lines cs a b c d e f g =
     whole_then _ _ a (whole_then _ _ b (whole_then _ _ c (whole_then _ _ d (whole_then _ _ e (whole_then _ _ f (whole_then _ _ g whole_none))))))
 
-pub whole_types : (file : ℕ) (cs : List AnyCode) → HaveOnePlace → IsListOf file cs → AreWhole (types_and_unit cs)
-whole_types file cs place h =
-    whole_then (by_system system_types_lines cs) unit_line
-    (whole_seven system_types_lines cs
-    (whole_system 71 (codes_of 71 cs) (λ z. omega (arith, z)) (group_or_none file 71 cs place (omega arith) h))
-    (whole_system 82 (codes_of 82 cs) (λ z. omega (arith, z)) (group_or_none file 82 cs place (omega arith) h))
-    (whole_system 69 (codes_of 69 cs) (λ z. omega (arith, z)) (group_or_none file 69 cs place (omega arith) h))
-    (whole_system 67 (codes_of 67 cs) (λ z. omega (arith, z)) (group_or_none file 67 cs place (omega arith) h))
-    (whole_system 74 (codes_of 74 cs) (λ z. omega (arith, z)) (group_or_none file 74 cs place (omega arith) h))
-    (whole_system 83 (codes_of 83 cs) (λ z. omega (arith, z)) (group_or_none file 83 cs place (omega arith) h))
-    (whole_system 73 (codes_of 73 cs) (λ z. omega (arith, z)) (group_or_none file 73 cs place (omega arith) h)))
+pub whole_types : (doppler : Bool) (file : ℕ) (cs : List AnyCode) → HaveOnePlace → IsListOf file cs → AreWhole (types_and_unit doppler cs)
+whole_types doppler file cs place h =
+    whole_then (by_system (system_types_lines doppler) cs) unit_line
+    (whole_seven (system_types_lines doppler) cs
+    (whole_system doppler 71 (codes_of 71 cs) (λ z. omega (arith, z)) (group_or_none file 71 cs place (omega arith) h))
+    (whole_system doppler 82 (codes_of 82 cs) (λ z. omega (arith, z)) (group_or_none file 82 cs place (omega arith) h))
+    (whole_system doppler 69 (codes_of 69 cs) (λ z. omega (arith, z)) (group_or_none file 69 cs place (omega arith) h))
+    (whole_system doppler 67 (codes_of 67 cs) (λ z. omega (arith, z)) (group_or_none file 67 cs place (omega arith) h))
+    (whole_system doppler 74 (codes_of 74 cs) (λ z. omega (arith, z)) (group_or_none file 74 cs place (omega arith) h))
+    (whole_system doppler 83 (codes_of 83 cs) (λ z. omega (arith, z)) (group_or_none file 83 cs place (omega arith) h))
+    (whole_system doppler 73 (codes_of 73 cs) (λ z. omega (arith, z)) (group_or_none file 73 cs place (omega arith) h)))
     whole_unit
 
 pub whole_shifts : (cs : List AnyCode) → AreWhole (by_system phase_shift_line cs)
@@ -213,7 +213,7 @@ whole_mixed v place g =
     (whole_then _ _ whole_unknown
     (whole_then _ _ (whole_line _ _ (of_place v.site g.site))
     (whole_then _ _ (whole_line _ _ (of_height v.site.height g.site.3))
-    (whole_then _ _ (whole_types (version_letter v.head.listed) v.head.listed place (list_of v g))
+    (whole_then _ _ (whole_types v.head.doppler (version_letter v.head.listed) v.head.listed place (list_of v g))
     (whole_then _ _ (whole_line _ _ (of_first v.first g.first))
     (whole_then _ _ (whole_shifts v.head.listed)
     (whole_then _ _ (whole_glonass v.head.listed v.head.glonass g.heading.glonass) whole_end))))))))))

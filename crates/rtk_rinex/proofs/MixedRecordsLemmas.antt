@@ -1,5 +1,5 @@
 -- The records of a text of any systems, read one by one, and the rows of each.
-use Rattle.std.proofs.Common.{◌≡◌, ◌≢◌, ℕ, zero, suc, ◌-◌, ◌*◌, ◌<◌, Bool, false, Option, Some, None, List, [], ◌∷◌, ◌++◌, length, take, drop, flat_map, refl, sym, ◌∙◌, ap, arith, length-append}
+use Rattle.std.proofs.Common.{◌≡◌, ◌≢◌, ℕ, ◌-◌, ◌*◌, ◌<◌, Bool, false, Option, Some, None, List, [], ◌∷◌, ◌++◌, length, take, drop, flat_map, refl, sym, ◌∙◌, ap, arith, length-append}
 use Rattle.std.specs.Prelude.{All, ℤ}
 use Rattle.std.specs.Int.{IsInRange}
 use mathlib.Core.Logic.{∥∥₁_map}
@@ -10,8 +10,8 @@ use Rattle.rtk_rinex.specs.declared.epoch_table.SatelliteRow.{SatelliteRow}
 use Rattle.rtk_rinex.specs.Columns.{left}
 use Rattle.rtk_obs.specs.Reading.{reading_of}
 use Rattle.rtk_rinex.specs.Header.{PositionView}
-use Rattle.rtk_rinex.specs.Record.{EpochTableView, observations, epoch_columns, epoch_line}
-use Rattle.rtk_rinex.specs.Table.{IsObserved}
+use Rattle.rtk_rinex.specs.Record.{EpochTableView, code_text, code_width, epoch_columns, epoch_line}
+use Rattle.rtk_rinex.specs.Table.{IsObservedIn}
 use Rattle.rtk_rinex.specs.Lines.{HasNoEnd, IsLine}
 use Rattle.rtk_rinex.specs.MixedHead.{MixedHeadView}
 use Rattle.rtk_rinex.specs.MixedHeader.{mixed_header_text}
@@ -22,7 +22,6 @@ use Rattle.rtk_rinex.specs.MixedTable.{MixedTable, IsMixedTable, IsMixedRow, IsM
 use Rattle.rtk_rinex.specs.MixedCheckLine.{IsMixedForm}
 use Rattle.rtk_rinex.specs.MixedCheckTable.{HoldsMixedTable}
 use Rattle.rtk_rinex.specs.MixedRecords.{MixedRecordsView, AreMixedLeft, IsMixedRecordsView, MixedRowsView, AreRowsLeft, IsRecordOf, IsNextRecordOf, IsNextRowOf}
-use Rattle.rtk_rinex.specs.Steps.CheckValues.{AreCells}
 use Rattle.rtk_rinex.specs.Steps.MixedReadRecords.{AreMixedCells, BeginsWithMixedRecord}
 use Rattle.rtk_rinex.proofs.DigitsLemmas.{take-exact, drop-exact}
 use Rattle.rtk_rinex.proofs.EpochLemmas.{length-line, line-columns}
@@ -30,7 +29,8 @@ use Rattle.rtk_rinex.proofs.FieldLemmas.{none_of}
 use Rattle.rtk_rinex.proofs.LineLemmas.{no_line, same_line}
 use Rattle.rtk_rinex.proofs.MixedCountLemmas.{count-few}
 use Rattle.rtk_rinex.proofs.MixedOneLemmas.{count-of, epoch-front, epoch_line-of, some_text}
-use Rattle.rtk_rinex.proofs.MixedRowLemmas.{HasMixedRowForm, IsMixedLineOf, mixed_line-line, mixed-named, mixed-cells-of, mixed-cells-of-row, mixed-row-shown, one-satellite, one-mixed-row, same-columns}
+use Rattle.rtk_rinex.proofs.MixedRowLemmas.{HasMixedRowForm, IsMixedLineOf, mixed_line-line, mixed-named, mixed-cells-of, mixed-cells-of-row, mixed-row-shown, one-satellite, one-mixed-row}
+use Rattle.rtk_rinex.proofs.MixedCodeLemmas.{same-codes}
 use Rattle.rtk_rinex.proofs.MixedTextLemmas.{epochs-after-header}
 use Rattle.rtk_rinex.proofs.RecordsLemmas.{below}
 
@@ -45,24 +45,24 @@ HasMixedLeft f text = (epochs : List EpochTableView) × AreMixedLeft (left_view 
 -- a text that is not empty begins with a record
 pub record-due : (f : FormView) (text : List ℕ) → length text ≢ 0 → HasMixedLeft f text → BeginsWithMixedRecord f text
 record-due f text some ([], left) = absurd (some (ap length left.text))
-record-due f text some (e ∷ epochs, left) = (e, flat_map mixed_record_text epochs, All-head (IsMixedEpoch f) e epochs left.are_epochs, left.text)
+record-due f text some (e ∷ epochs, left) = (e, flat_map (mixed_record_text f.doppler) epochs, All-head (IsMixedEpoch f) e epochs left.are_epochs, left.text)
 
 -- no records are left of an empty text
 pub none-left : (f : FormView) (text : List ℕ) (epochs : List EpochTableView) → AreMixedLeft (left_view f text) epochs → length text ≡ 0 → epochs ≡ []
 none-left f text [] left none = refl
 none-left f text (e ∷ epochs) left none =
-    absurd (some_text f e (flat_map mixed_record_text epochs) (All-head (IsMixedEpoch f) e epochs left.are_epochs) (sym left.text ∙ none_of text none))
+    absurd (some_text f e (flat_map (mixed_record_text f.doppler) epochs) (All-head (IsMixedEpoch f) e epochs left.are_epochs) (sym left.text ∙ none_of text none))
 
 -- the record that begins a text, and the text after it
 abbrev pub PartsRecord : FormView → List ℕ → MixedRowsView → List ℕ → Type 0
-PartsRecord f bytes rows rest = (e : EpochTableView) (after : List ℕ) → IsMixedEpoch f e → bytes ≡ mixed_record_text e ++ after → IsRecordOf e rows × (rest ≡ after)
+PartsRecord f bytes rows rest = (e : EpochTableView) (after : List ℕ) → IsMixedEpoch f e → bytes ≡ mixed_record_text f.doppler e ++ after → IsRecordOf e rows × (rest ≡ after)
 
 -- it is the first one that was left, and the others are left
 pub next-read : (f : FormView) (bytes rest : List ℕ) (rows : MixedRowsView) (epochs : List EpochTableView) → PartsRecord f bytes rows rest → length bytes ≢ 0
     → AreMixedLeft (left_view f bytes) epochs → IsNextRecordOf epochs rows (left_view f rest)
 next-read f bytes rest rows [] parts some left = some (ap length left.text)
 next-read f bytes rest rows (e ∷ epochs) parts some left =
-    let is = parts e (flat_map mixed_record_text epochs) (All-head (IsMixedEpoch f) e epochs left.are_epochs) left.text in
+    let is = parts e (flat_map (mixed_record_text f.doppler) epochs) (All-head (IsMixedEpoch f) e epochs left.are_epochs) left.text in
     (is.0, record { are_epochs = All-tail (IsMixedEpoch f) e epochs left.are_epochs; text = is.1 })
 
 pub others-left : (f : FormView) (bytes rest : List ℕ) (rows : MixedRowsView) → PartsRecord f bytes rows rest → length bytes ≢ 0 → HasMixedLeft f bytes → HasMixedLeft f rest
@@ -74,9 +74,9 @@ pub less-left : (f : FormView) (bytes rest : List ℕ) (rows : MixedRowsView) �
 less-left f bytes rest rows parts some ([], left) = absurd (some (ap length left.text))
 less-left f bytes rest rows parts some (e ∷ epochs, left) =
     let first = All-head (IsMixedEpoch f) e epochs left.are_epochs in
-    let is = parts e (flat_map mixed_record_text epochs) first left.text in
-    let long : length (mixed_record_text e) ≢ 0 = λ none. some_text f e [] first (ap (λ (xs : List ℕ). xs ++ []) (none_of (mixed_record_text e) none)) in
-    omega (arith, ap length left.text, length-append (mixed_record_text e) (flat_map mixed_record_text epochs), ap length is.1, long)
+    let is = parts e (flat_map (mixed_record_text f.doppler) epochs) first left.text in
+    let long : length (mixed_record_text f.doppler e) ≢ 0 = λ none. some_text f e [] first (ap (λ (xs : List ℕ). xs ++ []) (none_of (mixed_record_text f.doppler e) none)) in
+    omega (arith, ap length left.text, length-append (mixed_record_text f.doppler e) (flat_map (mixed_record_text f.doppler) epochs), ap length is.1, long)
 
 -- ---- the records of a table
 
@@ -84,7 +84,7 @@ pub left-after : (bytes rest : List ℕ) (h : MixedHeadView) (s : PositionView) 
     → IsOnlyMixedHeader bytes h s first → IsMixedTable t → bytes ≡ mixed_table_text t
     → (form_of_head h ≡ form_of_head t.head) × AreMixedLeft (left_view (form_of_head h) rest) t.epochs
 left-after bytes rest h s first t split only is e =
-    let one = only t.head t.site t.first (flat_map mixed_record_text t.epochs) is.head is.site is.first e in
+    let one = only t.head t.site t.first (flat_map (mixed_record_text t.head.doppler) t.epochs) is.head is.site is.first e in
     let good : All (IsMixedEpoch (form_of_head h)) t.epochs = rw one.0 at is.epochs in (
       ap form_of_head (sym one.0),
       record { are_epochs = good; text = epochs-after-header bytes rest h s first t split e one.0 one.1 one.2 },
@@ -105,24 +105,24 @@ pub record HasMixedRow (f : FormView) (lines : List ℕ) : Type 0 where
   pub row : SatelliteRow
   pub rest : List ℕ
   pub is_row : IsMixedRow f row
-  pub text : lines ≡ mixed_satellite_line row ++ rest
+  pub text : lines ≡ mixed_satellite_line f.doppler row ++ rest
 
 pub row-due : (r : MixedRowsView) (rows : List SatelliteRow) → AreRowsLeft r rows → r.count ≢ 0 → HasMixedRow r.form r.lines
 row-due r [] left some = absurd (some (sym left.count))
-row-due r (row ∷ rows) left some = record { row = row; rest = flat_map mixed_satellite_line rows; is_row = All-head (IsMixedRow r.form) row rows left.are_rows; text = left.text }
+row-due r (row ∷ rows) left some = record { row = row; rest = flat_map (mixed_satellite_line r.form.doppler) rows; is_row = All-head (IsMixedRow r.form) row rows left.are_rows; text = left.text }
 
 -- the line that stands there is the line of that row
-pub line-due : (line after lines : List ℕ) (row : SatelliteRow) (rest : List ℕ) → IsLine line → lines ≡ line ++ after → lines ≡ mixed_satellite_line row ++ rest
-    → (line ≡ mixed_satellite_line row) × (after ≡ rest)
-line-due line after lines row rest is split text = same_line line (mixed_satellite_line row) after rest is (mixed_line-line row) (sym split ∙ text)
+pub line-due : (doppler : Bool) (line after lines : List ℕ) (row : SatelliteRow) (rest : List ℕ) → IsLine line → lines ≡ line ++ after → lines ≡ mixed_satellite_line doppler row ++ rest
+    → (line ≡ mixed_satellite_line doppler row) × (after ≡ rest)
+line-due doppler line after lines row rest is split text = same_line line (mixed_satellite_line doppler row) after rest is (mixed_line-line doppler row) (sym split ∙ text)
 
 -- the row that was read is the first one, and the others are left
 pub row-read : (f : FormView) (time : ℕ) (text lines line after : List ℕ) (count : ℕ) (row : SatelliteRow) (rows : List SatelliteRow) → count ≢ 0 → IsLine line
-    → lines ≡ line ++ after → IsMixedRow f row → line ≡ mixed_satellite_line row → AreRowsLeft (rows_view f time text lines count) rows
+    → lines ≡ line ++ after → IsMixedRow f row → line ≡ mixed_satellite_line f.doppler row → AreRowsLeft (rows_view f time text lines count) rows
     → IsNextRowOf rows row (rows_view f time text after (count - 1))
 row-read f time text lines line after count row [] some is split good line_is left = some (sym left.count)
 row-read f time text lines line after count row (r ∷ rows) some is split good line_is left =
-    let due = line-due line after lines r (flat_map mixed_satellite_line rows) is split left.text in
+    let due = line-due f.doppler line after lines r (flat_map (mixed_satellite_line f.doppler) rows) is split left.text in
     let head = All-head (IsMixedRow f) r rows left.are_rows in (
       one-mixed-row f row r good head (sym line_is ∙ due.0),
       record {
@@ -146,17 +146,12 @@ no-rows r (row ∷ rows) left none = absurd (omega (arith, left.count, none))
 
 -- ---- the columns of a row
 
--- the columns of codes are such columns without a rule for phases
-pub plain-cells : (phases : Bool) (n : ℕ) (columns : List ℕ) → AreMixedCells phases n columns → AreCells n columns
-plain-cells phases zero columns h = h
-plain-cells phases (suc n) columns h = ((h.0.0, h.0.1, h.0.2), plain-cells phases n (drop 48 columns) h.1)
-
 -- what the columns show has no phase if they may show none
-phases-of : (phases : Bool) (n : ℕ) (columns : List ℕ) (cells : List Observed) → All IsObserved cells → length cells ≡ n → left (48 * n) columns ≡ flat_map observations cells
-    → AreMixedCells phases n columns → phases ≡ false → All HasNoPhase cells
-phases-of phases n columns cells h count text mixed none =
-    let m = mixed-cells-of phases n columns mixed in
-    let same : m.cells ≡ cells = same-columns m.cells cells m.observed h (m.count ∙ sym count) (sym m.text ∙ text) in
+phases-of : (doppler phases : Bool) (n : ℕ) (columns : List ℕ) (cells : List Observed) → All (IsObservedIn doppler) cells → length cells ≡ n
+    → left (code_width doppler * n) columns ≡ flat_map (code_text doppler) cells → AreMixedCells doppler phases n columns → phases ≡ false → All HasNoPhase cells
+phases-of doppler phases n columns cells h count text mixed none =
+    let m = mixed-cells-of doppler phases n columns mixed in
+    let same : m.cells ≡ cells = same-codes doppler m.cells cells m.observed h (m.count ∙ sym count) (sym m.text ∙ text) in
     rw same at (m.none none)
 
 none-there : {P : Type 0} (v : Option ℤ) → ∥ P ∥₁ → (P → v ≡ None) → v ≡ None
@@ -164,27 +159,27 @@ none-there None h f = refl
 none-there (Some x) h f = absurd (not_there h (λ p. let same = f p in cc))
 
 no-phases : {P : Type 0} (cells : List Observed) → ∥ P ∥₁ → (P → All HasNoPhase cells) → All HasNoPhase cells
-no-phases cells h f = λ k d less. none-there _ h (λ p. f p k d less)
+no-phases cells h f = λ k d less. (none-there _ h (λ p. (f p k d less).0), none-there _ h (λ p. (f p k d less).1))
 
 -- a row of a file has this line
 abbrev pub HasRowOf : FormView → List ℕ → Type 0
-HasRowOf f line = (r : SatelliteRow) × IsMixedRow f r × (line ≡ mixed_satellite_line r)
+HasRowOf f line = (r : SatelliteRow) × IsMixedRow f r × (line ≡ mixed_satellite_line f.doppler r)
 
 -- the columns of the line of a row whose satellite was read
 pub columns-of : (f : FormView) (line columns : List ℕ) (s : ℕ) (form : HasMixedRowForm f line columns s) → IsMixedForm f line s → HasRowOf f line
-    → (0 < length columns) × AreMixedCells (has_phases f s) (width_at f s) columns
+    → (0 < length columns) × AreMixedCells f.doppler (has_phases f s) (width_at f s) columns
 columns-of f line columns s form is r =
-    mixed-cells-of-row f line columns s form r.0 r.1 (one-satellite line r.0.satellite s r.1.satellite form.satellite (mixed-named line r.0 r.2) is.1) r.2
+    mixed-cells-of-row f line columns s form r.0 r.1 (one-satellite line r.0.satellite s r.1.satellite form.satellite (mixed-named f.doppler line r.0 r.2) is.1) r.2
 
 -- the row that was read has this line
 pub row-is : (f : FormView) (line columns : List ℕ) (s : ℕ) (cells : List Observed) → HasMixedRowForm f line columns s → IsMixedForm f line s → ∥ HasRowOf f line ∥₁
-    → All IsObserved cells → length cells ≡ width_at f s → left (48 * width_at f s) columns ≡ flat_map observations cells
+    → All (IsObservedIn f.doppler) cells → length cells ≡ width_at f s → left (code_width f.doppler * width_at f s) columns ≡ flat_map (code_text f.doppler) cells
     → IsMixedLineOf f line (record { satellite = s; observed = record { items = cells } })
 row-is f line columns s cells form is has observed count shown =
     let some = below 0 (length columns) has (λ r. (columns-of f line columns s form is r).0) in
     mixed-row-shown f line columns s cells form some observed count shown (λ none.
     no-phases cells has (λ r.
-    phases-of (has_phases f s) (width_at f s) columns cells observed count shown (columns-of f line columns s form is r).1 none))
+    phases-of f.doppler (has_phases f s) (width_at f s) columns cells observed count shown (columns-of f line columns s form is r).1 none))
 
 -- ---- the epoch line
 
@@ -193,14 +188,14 @@ pub record IsEpochLineOf (f : FormView) (e : EpochTableView) (line after rest : 
   pub count : IsInRange 1 (most_satellites f) (length e.rows)
   pub columns : take 35 line ≡ epoch_columns (reading_of e.time) (length e.rows)
   pub long : length line ≡ 36
-  pub lines : after ≡ flat_map mixed_satellite_line e.rows ++ rest
+  pub lines : after ≡ flat_map (mixed_satellite_line f.doppler) e.rows ++ rest
 
-pub line-read : (f : FormView) (e : EpochTableView) (bytes rest line after : List ℕ) → IsMixedEpoch f e → bytes ≡ mixed_record_text e ++ rest → IsLine line
+pub line-read : (f : FormView) (e : EpochTableView) (bytes rest line after : List ℕ) → IsMixedEpoch f e → bytes ≡ mixed_record_text f.doppler e ++ rest → IsLine line
     → bytes ≡ line ++ after → IsEpochLineOf f e line after rest
 line-read f e bytes rest line after is text line_is split =
     let count = count-of f e is in
     let few = count-few f (length e.rows) count in
-    let same = same_line line (epoch_line (reading_of e.time) (length e.rows)) after (flat_map mixed_satellite_line e.rows ++ rest) line_is (epoch_line-of f e is)
+    let same = same_line line (epoch_line (reading_of e.time) (length e.rows)) after (flat_map (mixed_satellite_line f.doppler) e.rows ++ rest) line_is (epoch_line-of f e is)
     (sym split ∙ text ∙ epoch-front f e rest is) in
     record {
       count = count;
@@ -224,13 +219,13 @@ abbrev pub SplitsBefore : List ℕ → List ℕ → List ℕ → List ℕ → Ty
 SplitsBefore text rest front back = (first : List ℕ) → text ≡ first ++ rest → (front ≡ first) × (back ≡ rest)
 
 -- the record whose rows were not read, and the text after it
-pub record-parts : (f : FormView) (e : EpochTableView) (bytes whole lines rows skipped back others after : List ℕ) (time count : ℕ) → IsMixedEpoch f e → bytes ≡ mixed_record_text e ++ after
-    → (time ≡ e.time) × (count ≡ length e.rows) × (lines ≡ flat_map mixed_satellite_line e.rows ++ after) → skipped ≡ after
+pub record-parts : (f : FormView) (e : EpochTableView) (bytes whole lines rows skipped back others after : List ℕ) (time count : ℕ) → IsMixedEpoch f e → bytes ≡ mixed_record_text f.doppler e ++ after
+    → (time ≡ e.time) × (count ≡ length e.rows) × (lines ≡ flat_map (mixed_satellite_line f.doppler) e.rows ++ after) → skipped ≡ after
     → SplitsBefore bytes skipped whole back → SplitsBefore lines skipped rows others
     → IsRecordOf e (rows_view f time whole rows count) × (back ≡ after)
 record-parts f e bytes whole lines rows skipped back others after time count is text stamp same of_bytes of_lines =
-    let first = of_bytes (mixed_record_text e) (text ∙ ap (λ (xs : List ℕ). mixed_record_text e ++ xs) (sym same)) in
-    let second = of_lines (flat_map mixed_satellite_line e.rows) (stamp.2 ∙ ap (λ (xs : List ℕ). flat_map mixed_satellite_line e.rows ++ xs) (sym same)) in (
+    let first = of_bytes (mixed_record_text f.doppler e) (text ∙ ap (λ (xs : List ℕ). mixed_record_text f.doppler e ++ xs) (sym same)) in
+    let second = of_lines (flat_map (mixed_satellite_line f.doppler) e.rows) (stamp.2 ∙ ap (λ (xs : List ℕ). flat_map (mixed_satellite_line f.doppler) e.rows ++ xs) (sym same)) in (
       record { time = stamp.0; text = first.0; rows = record { are_rows = is.rows; count = sym stamp.1; text = second.0 } },
       first.1 ∙ same,
     )

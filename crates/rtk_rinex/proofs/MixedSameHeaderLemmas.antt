@@ -18,17 +18,18 @@ use Rattle.rtk_rinex.specs.Columns.{left, right}
 use Rattle.rtk_obs.specs.Reading.{IsMoment, reading_of}
 use Rattle.rtk_rinex.specs.Header.{PositionView, header_line, made_line, marker_line, place_line, height_line, types_label, unit_line, first_line}
 use Rattle.rtk_rinex.specs.MixedHead.{GlonassView, TellsGlonass, letter}
-use Rattle.rtk_rinex.specs.MixedHeader.{codes_of, three_types, types_text, types_lines_of, system_types_lines, phase_shift_line, by_system, channel_text, slot_text, slots_text, slots_label, slots_lines, biases_line, leap_line, glonass_lines, unknown_lines, version_letter, mixed_version_line}
+use Rattle.rtk_rinex.specs.MixedHeader.{codes_of, code_types, types_count, types_text, types_lines_of, system_types_lines, phase_shift_line, by_system, channel_text, slot_text, slots_text, slots_label, slots_lines, biases_line, leap_line, glonass_lines, unknown_lines, version_letter, mixed_version_line}
 use Rattle.rtk_rinex.specs.Steps.Digits.{digits_from}
 use Rattle.rtk_rinex.specs.Steps.MixedRoom.{codes_of_letter}
-use Rattle.rtk_rinex.specs.Steps.MixedHeaderRead.{IsGroup, types_and_unit, IsListOf}
+use Rattle.rtk_rinex.specs.Steps.MixedHeaderRead.{IsGroup, shows_doppler, types_and_unit, IsListOf}
 use Rattle.rtk_rinex.proofs.DigitsLemmas.{take-exact, drop-exact, piece, digits_from-right, length-right}
 use Rattle.rtk_rinex.proofs.GlonassReadLemmas.{leap_is}
-use Rattle.rtk_rinex.proofs.GroupLemmas.{first_of}
+use Rattle.rtk_rinex.proofs.FlagLemmas.{flag_after, types_flag}
+use Rattle.rtk_rinex.proofs.GroupLemmas.{first_of, length-first, last_types, name_front, small_count}
 use Rattle.rtk_rinex.proofs.HeaderShownLemmas.{line_rest, line_is, made_is, marker_is, place_is, height_is, first_is}
 use Rattle.rtk_rinex.proofs.MixedListLemmas.{HaveOnePlace}
 use Rattle.rtk_rinex.proofs.MixedPartsLemmas.{MixedValues, IsGoodMixed, mixed_text, end_line, all_is, from_made, from_marker, from_unknown, from_place, from_height, from_types, from_first, from_shift, from_glonass, list_of}
-use Rattle.rtk_rinex.proofs.MixedRoomLemmas.{length-name, length-types_text, three_columns, types_lines-some}
+use Rattle.rtk_rinex.proofs.MixedRoomLemmas.{few_types, length-name, length-types_text, types_lines-some}
 use Rattle.rtk_rinex.proofs.SlotsReadLemmas.{slot_shown, length-slot_some, length-slots}
 use Rattle.rtk_rinex.proofs.SystemLinesLemmas.{from, types_from, Starts, starts_from, is_apart, starts_apart}
 use Rattle.rtk_rinex.proofs.SystemOrderLemmas.{in_groups, seven}
@@ -133,20 +134,56 @@ same_four w p further label t u x y long few e =
     let two = same_split w w t u second.0 three in
     (sym (take-append-drop w t) ∙ ap (λ (z : List ℕ). z ++ drop w t) (append_cancel_left p (take w t) (take w u) first.0) ∙ ap (λ (z : List ℕ). take w u ++ z) two ∙ take-append-drop w u, fourth.1)
 
+-- columns on five lines of w
+abbrev five_lines : ℕ → List ℕ → List ℕ → List ℕ → List ℕ → List ℕ
+five_lines w p further label text = four_lines w p further label text ++ further_line w further label (drop (w + w + w + w) text)
+
+-- what follows the first line
+abbrev further_four : ℕ → List ℕ → List ℕ → List ℕ → List ℕ → List ℕ
+further_four w further label text x = further_lines w further label text (further_line w further label (drop (w + w + w + w) text) ++ x)
+
+five_then : (w : ℕ) (p further label t x : List ℕ) → five_lines w p further label t ++ x ≡ header_line (p ++ take w t) label ++ further_four w further label t x
+five_then w p further label t x =
+    append_assoc (four_lines w p further label t) (further_line w further label (drop (w + w + w + w) t)) x
+    ∙ first_then w p further label t (further_line w further label (drop (w + w + w + w) t) ++ x)
+
+same_five : (w : ℕ) (p further label t u x y : List ℕ) → length t ≡ length u → length t ≤ w + w + w + w + w → five_lines w p further label t ++ x ≡ five_lines w p further label u ++ y
+    → (t ≡ u) × (x ≡ y)
+same_five w p further label t u x y long few e =
+    let row : header_line (p ++ take w t) label ++ further_four w further label t x ≡ header_line (p ++ take w u) label ++ further_four w further label u y =
+    sym (five_then w p further label t x) ∙ e ∙ five_then w p further label u y in
+    let size : (k : ℕ) → length (drop k t) ≡ length (drop k u) = λ k. length-drop k t ∙ ap (λ (n : ℕ). n - k) long ∙ sym (length-drop k u) in
+    let m = length-take w t in
+    let n = length-take w u in
+    let first = same_content (p ++ take w t) (p ++ take w u) label (further_four w further label t x) (further_four w further label u y)
+    (omega (arith, length-append p (take w t), length-append p (take w u), m, n, long)) row in
+    let end_t : List ℕ = further_line w further label (drop (w + w + w + w) t) ++ x in
+    let end_u : List ℕ = further_line w further label (drop (w + w + w + w) u) ++ y in
+    let last_t : List ℕ = further_line w further label (drop (w + w + w) t) ++ end_t in
+    let last_u : List ℕ = further_line w further label (drop (w + w + w) u) ++ end_u in
+    let second = same_further w further label (drop w t) (drop w u) (further_line w further label (drop (w + w) t) ++ last_t) (further_line w further label (drop (w + w) u) ++ last_u) (size w) first.1 in
+    let third = same_further w further label (drop (w + w) t) (drop (w + w) u) last_t last_u (size (w + w)) second.1 in
+    let fourth = same_further w further label (drop (w + w + w) t) (drop (w + w + w) u) end_t end_u (size (w + w + w)) third.1 in
+    let fifth = same_further w further label (drop (w + w + w + w) t) (drop (w + w + w + w) u) x y (size (w + w + w + w)) fourth.1 in
+    let k = length-drop (w + w + w + w) t in
+    let l = length-drop (w + w + w + w) u in
+    let end : drop (w + w + w + w) t ≡ drop (w + w + w + w) u =
+    sym (take_all w (drop (w + w + w + w) t) (omega (arith, k, few))) ∙ fifth.0 ∙ take_all w (drop (w + w + w + w) u) (omega (arith, l, few, long)) in
+    let four = same_split w (w + w + w) t u fourth.0 end in
+    let three = same_split w (w + w) t u third.0 four in
+    let two = same_split w w t u second.0 three in
+    (sym (take-append-drop w t) ∙ ap (λ (z : List ℕ). z ++ drop w t) (append_cancel_left p (take w t) (take w u) first.0) ∙ ap (λ (z : List ℕ). take w u ++ z) two ∙ take-append-drop w u, fifth.1)
+
 -- ---- the lines of one system
 
 -- a text belongs to one code
 abbrev pub HaveOneText : Type 0
 HaveOneText = (c d : AnyCode) → text_of c ≡ text_of d → c ≡ d
 
-name_front : (c : AnyCode) (rest : List ℕ) → three_types c ++ rest ≡ codes " C" ++ (name_of c ++ ((codes " L" ++ name_of c ++ codes " S" ++ name_of c) ++ rest))
-name_front c rest = simp append_assoc
-
 -- the code whose types begin a text
-name_read : (c : AnyCode) (rest : List ℕ) → take 2 (drop 2 (three_types c ++ rest)) ≡ name_of c
-name_read c rest =
-    ap (λ (t : List ℕ). take 2 (drop 2 t)) (name_front c rest)
-    ∙ piece 2 2 (codes " C") (name_of c) ((codes " L" ++ name_of c ++ codes " S" ++ name_of c) ++ rest) refl (length-name c)
+name_read : (doppler : Bool) (c : AnyCode) (rest : List ℕ) → take 2 (drop 2 (code_types doppler c ++ rest)) ≡ name_of c
+name_read doppler c rest =
+    ap (λ (t : List ℕ). take 2 (drop 2 t)) (name_front doppler c rest) ∙ piece 2 2 (codes " C") (name_of c) (last_types doppler c ++ rest) refl (length-name c)
 
 same_cons : (a b : ℕ) (x y : List ℕ) → a ≡ b → x ≡ y → a ∷ x ≡ b ∷ y
 same_cons a b x y e f = cc
@@ -154,91 +191,104 @@ same_cons a b x y e f = cc
 same_code : (c d : AnyCode) (g h : List AnyCode) → c ≡ d → g ≡ h → c ∷ g ≡ d ∷ h
 same_code c d g h e f = cc
 
-one_types : (s : ℕ) (g h : List AnyCode) → HaveOneText → length g ≡ length h → All (λ c. letter c ≡ s) g → All (λ c. letter c ≡ s) h → types_text g ≡ types_text h → g ≡ h
-one_types s [] [] texts n own other e = refl
-one_types s [] (d ∷ h) texts n own other e = absurd (omega (arith, n))
-one_types s (c ∷ g) [] texts n own other e = absurd (omega (arith, n))
-one_types s (c ∷ g) (d ∷ h) texts n own other e =
-    let name : name_of c ≡ name_of d = sym (name_read c (types_text g)) ∙ ap (λ (t : List ℕ). take 2 (drop 2 t)) e ∙ name_read d (types_text h) in
+one_types : (doppler : Bool) (s : ℕ) (g h : List AnyCode) → HaveOneText → length g ≡ length h → All (λ c. letter c ≡ s) g → All (λ c. letter c ≡ s) h
+    → types_text doppler g ≡ types_text doppler h → g ≡ h
+one_types doppler s [] [] texts n own other e = refl
+one_types doppler s [] (d ∷ h) texts n own other e = absurd (omega (arith, n))
+one_types doppler s (c ∷ g) [] texts n own other e = absurd (omega (arith, n))
+one_types doppler s (c ∷ g) (d ∷ h) texts n own other e =
+    let name : name_of c ≡ name_of d = sym (name_read doppler c (types_text doppler g)) ∙ ap (λ (t : List ℕ). take 2 (drop 2 t)) e ∙ name_read doppler d (types_text doppler h) in
     let system : letter c ≡ letter d = All-head (λ c. letter c ≡ s) c g own ∙ sym (All-head (λ c. letter c ≡ s) d h other) in
     let code : c ≡ d = texts c d (same_cons (letter c) (letter d) (name_of c) (name_of d) system name) in
-    let rest : types_text g ≡ types_text h =
-    append_cancel_left (three_types d) (types_text g) (types_text h) (ap (λ (x : AnyCode). three_types x ++ types_text g) (sym code) ∙ e) in
-    same_code c d g h code (one_types s g h texts (omega (arith, n)) (All-tail (λ c. letter c ≡ s) c g own) (All-tail (λ c. letter c ≡ s) d h other) rest)
+    let rest : types_text doppler g ≡ types_text doppler h =
+    append_cancel_left (code_types doppler d) (types_text doppler g) (types_text doppler h) (ap (λ (x : AnyCode). code_types doppler x ++ types_text doppler g) (sym code) ∙ e) in
+    same_code c d g h code (one_types doppler s g h texts (omega (arith, n)) (All-tail (λ c. letter c ≡ s) c g own) (All-tail (λ c. letter c ≡ s) d h other) rest)
 
-length-first : (s n : ℕ) → n ≤ 16 → length (first_of s n) ≡ 6
-length-first s n h = length-append (s ∷ codes "  ") (right 3 (decimal (3 * n))) ∙ omega (arith, three_columns n h)
+one_number : (doppler : Bool) (n m : ℕ) → types_count doppler * n ≡ types_count doppler * m → n ≡ m
+one_number false n m e = omega (arith, e)
+one_number true n m e = omega (arith, e)
 
-one_count : (s n m : ℕ) (t u x y : List ℕ) → n ≤ 16 → m ≤ 16 → types_lines_of s n t ++ x ≡ types_lines_of s m u ++ y → n ≡ m
-one_count s n m t u x y h g e =
-    let alike : four_lines 52 (first_of s n) (codes "      ") types_label t ++ x ≡ four_lines 52 (first_of s m) (codes "      ") types_label u ++ y = e in
-    let row = sym (first_then 52 (first_of s n) (codes "      ") types_label t x) ∙ alike ∙ first_then 52 (first_of s m) (codes "      ") types_label u y in
-    let front : first_of s n ≡ first_of s m =
-    same_columns (first_of s n) (first_of s m) (take 52 t) (take 52 u) types_label (further_lines 52 (codes "      ") types_label t x) (further_lines 52 (codes "      ") types_label u y)
-    (length-first s m g ∙ sym (length-first s n h)) row in
-    let digits : right 3 (decimal (3 * n)) ≡ right 3 (decimal (3 * m)) = append_cancel_left (s ∷ codes "  ") (right 3 (decimal (3 * n))) (right 3 (decimal (3 * m))) front in
-    let three : 3 * n ≡ 3 * m = sym (digits_from-right 3 (3 * n) (omega arith)) ∙ ap (digits_from 0) digits ∙ digits_from-right 3 (3 * m) (omega arith) in
-    omega (arith, three)
+-- 16 codes have at most five lines
+few_columns : (doppler : Bool) (n len : ℕ) → n ≤ 16 → len ≡ 4 * types_count doppler * n → len ≤ 52 + 52 + 52 + 52 + 52
+few_columns false n len h e = omega (arith, h, e)
+few_columns true n len h e = omega (arith, h, e)
 
-one_group : (s : ℕ) (g h : List AnyCode) (x y : List ℕ) → HaveOneText → IsGroup s g → IsGroup s h → system_types_lines s g ++ x ≡ system_types_lines s h ++ y → (g ≡ h) × (x ≡ y)
-one_group s g h x y texts a b e =
-    let lines : types_lines_of s (length g) (types_text g) ++ x ≡ types_lines_of s (length h) (types_text h) ++ y =
-    ap (λ (t : List ℕ). t ++ x) (sym (types_lines-some s g (omega (arith, a.count)))) ∙ e ∙ ap (λ (t : List ℕ). t ++ y) (types_lines-some s h (omega (arith, b.count))) in
-    let n : length g ≡ length h = one_count s (length g) (length h) (types_text g) (types_text h) x y (omega (arith, a.count)) (omega (arith, b.count)) lines in
-    let alike : types_lines_of s (length h) (types_text g) ++ x ≡ types_lines_of s (length h) (types_text h) ++ y =
-    ap (λ (m : ℕ). types_lines_of s m (types_text g) ++ x) (sym n) ∙ lines in
-    let p = length-types_text g in
-    let q = length-types_text h in
-    let same = same_four 52 (first_of s (length h)) (codes "      ") types_label (types_text g) (types_text h) x y (omega (arith, p, q, n)) (omega (arith, p, a.count)) alike in
-    (one_types s g h texts n a.own b.own same.0, same.1)
+one_count : (doppler : Bool) (s n m : ℕ) (t u x y : List ℕ) → n ≤ 16 → m ≤ 16 → types_lines_of doppler s n t ++ x ≡ types_lines_of doppler s m u ++ y → n ≡ m
+one_count doppler s n m t u x y h g e =
+    let p : List ℕ = first_of doppler s n in
+    let q : List ℕ = first_of doppler s m in
+    let alike : five_lines 52 p (codes "      ") types_label t ++ x ≡ five_lines 52 q (codes "      ") types_label u ++ y = e in
+    let row = sym (five_then 52 p (codes "      ") types_label t x) ∙ alike ∙ five_then 52 q (codes "      ") types_label u y in
+    let front : p ≡ q =
+    same_columns p q (take 52 t) (take 52 u) types_label (further_four 52 (codes "      ") types_label t x) (further_four 52 (codes "      ") types_label u y)
+    (length-first doppler s m g ∙ sym (length-first doppler s n h)) row in
+    let digits : right 3 (decimal (types_count doppler * n)) ≡ right 3 (decimal (types_count doppler * m)) =
+    append_cancel_left (s ∷ codes "  ") (right 3 (decimal (types_count doppler * n))) (right 3 (decimal (types_count doppler * m))) front in
+    one_number doppler n m
+    (sym (digits_from-right 3 (types_count doppler * n) (small_count (types_count doppler * n) (few_types doppler n h))) ∙ ap (digits_from 0) digits
+    ∙ digits_from-right 3 (types_count doppler * m) (small_count (types_count doppler * m) (few_types doppler m g)))
+
+one_group : (doppler : Bool) (s : ℕ) (g h : List AnyCode) (x y : List ℕ) → HaveOneText → IsGroup s g → IsGroup s h
+    → system_types_lines doppler s g ++ x ≡ system_types_lines doppler s h ++ y → (g ≡ h) × (x ≡ y)
+one_group doppler s g h x y texts a b e =
+    let lines : types_lines_of doppler s (length g) (types_text doppler g) ++ x ≡ types_lines_of doppler s (length h) (types_text doppler h) ++ y =
+    ap (λ (t : List ℕ). t ++ x) (sym (types_lines-some doppler s g (omega (arith, a.count)))) ∙ e ∙ ap (λ (t : List ℕ). t ++ y) (types_lines-some doppler s h (omega (arith, b.count))) in
+    let n : length g ≡ length h = one_count doppler s (length g) (length h) (types_text doppler g) (types_text doppler h) x y (omega (arith, a.count)) (omega (arith, b.count)) lines in
+    let alike : types_lines_of doppler s (length h) (types_text doppler g) ++ x ≡ types_lines_of doppler s (length h) (types_text doppler h) ++ y =
+    ap (λ (m : ℕ). types_lines_of doppler s m (types_text doppler g) ++ x) (sym n) ∙ lines in
+    let p = length-types_text doppler g in
+    let q = length-types_text doppler h in
+    let same = same_five 52 (first_of doppler s (length h)) (codes "      ") types_label (types_text doppler g) (types_text doppler h) x y
+    (p ∙ ap (λ (k : ℕ). 4 * types_count doppler * k) n ∙ sym q) (few_columns doppler (length g) (length (types_text doppler g)) a.count.1 p) alike in
+    (one_types doppler s g h texts n a.own b.own same.0, same.1)
 
 -- the lines of a group begin with its letter
-first_letter : (s : ℕ) (g : List AnyCode) (x : List ℕ) → 0 < length g → get_or (system_types_lines s g ++ x) 0 0 ≡ s
+first_letter : (doppler : Bool) (s : ℕ) (g : List AnyCode) (x : List ℕ) → 0 < length g → get_or (system_types_lines doppler s g ++ x) 0 0 ≡ s
 unfolding header_line left
-first_letter s [] x some = absurd (omega arith)
-first_letter s (c ∷ g) x some = refl
+first_letter doppler s [] x some = absurd (omega arith)
+first_letter doppler s (c ∷ g) x some = refl
 
 -- no lines of a system are lines of a group
-no_group : (s : ℕ) (ss : List ℕ) (g h : List AnyCode) (x y : List ℕ) → is_apart s ss ≡ true → g ≡ [] → IsGroup s h → Starts ss x → system_types_lines s g ++ x ≡ system_types_lines s h ++ y → ⊥
-no_group s ss g h x y apart none group starts e =
-    let text : x ≡ system_types_lines s h ++ y = ap (λ (z : List AnyCode). system_types_lines s z ++ x) (sym none) ∙ e in
+no_group : (doppler : Bool) (s : ℕ) (ss : List ℕ) (g h : List AnyCode) (x y : List ℕ) → is_apart s ss ≡ true → g ≡ [] → IsGroup s h → Starts ss x → system_types_lines doppler s g ++ x ≡ system_types_lines doppler s h ++ y → ⊥
+no_group doppler s ss g h x y apart none group starts e =
+    let text : x ≡ system_types_lines doppler s h ++ y = ap (λ (z : List AnyCode). system_types_lines doppler s z ++ x) (sym none) ∙ e in
     starts_apart s ss x apart starts
-    (ap (λ (t : List ℕ). get_or t 0 0) (sym starts.is) ∙ ap (λ (t : List ℕ). get_or t 0 0) text ∙ first_letter s h y (omega (arith, group.count)))
+    (ap (λ (t : List ℕ). get_or t 0 0) (sym starts.is) ∙ ap (λ (t : List ℕ). get_or t 0 0) text ∙ first_letter doppler s h y (omega (arith, group.count)))
 
-one_system : (s : ℕ) (ss : List ℕ) (g h : List AnyCode) (x y : List ℕ) → is_apart s ss ≡ true → HaveOneText → (g ≡ []) ⊎ IsGroup s g → (h ≡ []) ⊎ IsGroup s h → Starts ss x → Starts ss y
-    → system_types_lines s g ++ x ≡ system_types_lines s h ++ y → (g ≡ h) × (x ≡ y)
-one_system s ss g h x y apart texts (inl none) (inl nothing) starts begins e =
-    (none ∙ sym nothing, ap (λ (z : List AnyCode). system_types_lines s z ++ x) (sym none) ∙ e ∙ ap (λ (z : List AnyCode). system_types_lines s z ++ y) nothing)
-one_system s ss g h x y apart texts (inl none) (inr group) starts begins e = absurd (no_group s ss g h x y apart none group starts e)
-one_system s ss g h x y apart texts (inr group) (inl none) starts begins e = absurd (no_group s ss h g y x apart none group begins (sym e))
-one_system s ss g h x y apart texts (inr group) (inr other) starts begins e = one_group s g h x y texts group other e
+one_system : (doppler : Bool) (s : ℕ) (ss : List ℕ) (g h : List AnyCode) (x y : List ℕ) → is_apart s ss ≡ true → HaveOneText → (g ≡ []) ⊎ IsGroup s g → (h ≡ []) ⊎ IsGroup s h → Starts ss x → Starts ss y
+    → system_types_lines doppler s g ++ x ≡ system_types_lines doppler s h ++ y → (g ≡ h) × (x ≡ y)
+one_system doppler s ss g h x y apart texts (inl none) (inl nothing) starts begins e =
+    (none ∙ sym nothing, ap (λ (z : List AnyCode). system_types_lines doppler s z ++ x) (sym none) ∙ e ∙ ap (λ (z : List AnyCode). system_types_lines doppler s z ++ y) nothing)
+one_system doppler s ss g h x y apart texts (inl none) (inr group) starts begins e = absurd (no_group doppler s ss g h x y apart none group starts e)
+one_system doppler s ss g h x y apart texts (inr group) (inl none) starts begins e = absurd (no_group doppler s ss h g y x apart none group begins (sym e))
+one_system doppler s ss g h x y apart texts (inr group) (inr other) starts begins e = one_group doppler s g h x y texts group other e
 
 -- ---- the lines of all systems
 
 starts_with : (ss text more : List ℕ) → Starts ss text → Starts ss (text ++ more)
 starts_with ss text more h = record { char = h.char; rest = h.rest ++ more; is = ap (λ (t : List ℕ). t ++ more) h.is; one = h.one }
 
-next_system : (s : ℕ) (ss : List ℕ) (file other : ℕ) (cs ds : List AnyCode) (x y : List ℕ) → is_apart s ss ≡ true → codes_of_letter s ≤ 16 → HaveOnePlace → HaveOneText
-    → IsListOf file cs → IsListOf other ds → from (s ∷ ss) cs ++ x ≡ from (s ∷ ss) ds ++ y → (codes_of s cs ≡ codes_of s ds) × (from ss cs ++ x ≡ from ss ds ++ y)
-next_system s ss file other cs ds x y apart few places texts h g e =
-    one_system s ss (codes_of s cs) (codes_of s ds) (from ss cs ++ x) (from ss ds ++ y) apart texts (group_or_none file s cs places few h) (group_or_none other s ds places few g)
-    (starts_with ss (from ss cs) x (starts_from ss cs)) (starts_with ss (from ss ds) y (starts_from ss ds))
-    (sym (append_assoc (system_types_lines s (codes_of s cs)) (from ss cs) x) ∙ e ∙ append_assoc (system_types_lines s (codes_of s ds)) (from ss ds) y)
+next_system : (doppler : Bool) (s : ℕ) (ss : List ℕ) (file other : ℕ) (cs ds : List AnyCode) (x y : List ℕ) → is_apart s ss ≡ true → codes_of_letter s ≤ 16 → HaveOnePlace → HaveOneText
+    → IsListOf file cs → IsListOf other ds → from doppler (s ∷ ss) cs ++ x ≡ from doppler (s ∷ ss) ds ++ y → (codes_of s cs ≡ codes_of s ds) × (from doppler ss cs ++ x ≡ from doppler ss ds ++ y)
+next_system doppler s ss file other cs ds x y apart few places texts h g e =
+    one_system doppler s ss (codes_of s cs) (codes_of s ds) (from doppler ss cs ++ x) (from doppler ss ds ++ y) apart texts (group_or_none file s cs places few h) (group_or_none other s ds places few g)
+    (starts_with ss (from doppler ss cs) x (starts_from doppler ss cs)) (starts_with ss (from doppler ss ds) y (starts_from doppler ss ds))
+    (sym (append_assoc (system_types_lines doppler s (codes_of s cs)) (from doppler ss cs) x) ∙ e ∙ append_assoc (system_types_lines doppler s (codes_of s ds)) (from doppler ss ds) y)
 
 same_seven : (a b c d e f g h i j k l m n : List AnyCode) → a ≡ h → b ≡ i → c ≡ j → d ≡ k → e ≡ l → f ≡ m → g ≡ n → seven a b c d e f g ≡ seven h i j k l m n
 same_seven a b c d e f g h i j k l m n p q r s t u v = rw (p, q, r, s, t, u, v) refl
 
-one_list : (file other : ℕ) (cs ds : List AnyCode) (x y : List ℕ) → HaveOnePlace → HaveOneText → IsListOf file cs → IsListOf other ds → types_and_unit cs ++ x ≡ types_and_unit ds ++ y
+one_list : (doppler : Bool) (file other : ℕ) (cs ds : List AnyCode) (x y : List ℕ) → HaveOnePlace → HaveOneText → IsListOf file cs → IsListOf other ds → types_and_unit doppler cs ++ x ≡ types_and_unit doppler ds ++ y
     → (cs ≡ ds) × (x ≡ y)
-one_list file other cs ds x y places texts h g e =
-    let start : from (codes "GRECJSI") cs ++ x ≡ from (codes "GRECJSI") ds ++ y = ap (λ (t : List ℕ). t ++ x) (sym (types_from cs)) ∙ e ∙ ap (λ (t : List ℕ). t ++ y) (types_from ds) in
-    let gps = next_system 71 (codes "RECJSI") file other cs ds x y refl (omega arith) places texts h g start in
-    let glonass = next_system 82 (codes "ECJSI") file other cs ds x y refl (omega arith) places texts h g gps.1 in
-    let galileo = next_system 69 (codes "CJSI") file other cs ds x y refl (omega arith) places texts h g glonass.1 in
-    let beidou = next_system 67 (codes "JSI") file other cs ds x y refl (omega arith) places texts h g galileo.1 in
-    let qzss = next_system 74 (codes "SI") file other cs ds x y refl (omega arith) places texts h g beidou.1 in
-    let sbas = next_system 83 (codes "I") file other cs ds x y refl (omega arith) places texts h g qzss.1 in
-    let navic = next_system 73 [] file other cs ds x y refl (omega arith) places texts h g sbas.1 in (
+one_list doppler file other cs ds x y places texts h g e =
+    let start : from doppler (codes "GRECJSI") cs ++ x ≡ from doppler (codes "GRECJSI") ds ++ y = ap (λ (t : List ℕ). t ++ x) (sym (types_from doppler cs)) ∙ e ∙ ap (λ (t : List ℕ). t ++ y) (types_from doppler ds) in
+    let gps = next_system doppler 71 (codes "RECJSI") file other cs ds x y refl (omega arith) places texts h g start in
+    let glonass = next_system doppler 82 (codes "ECJSI") file other cs ds x y refl (omega arith) places texts h g gps.1 in
+    let galileo = next_system doppler 69 (codes "CJSI") file other cs ds x y refl (omega arith) places texts h g glonass.1 in
+    let beidou = next_system doppler 67 (codes "JSI") file other cs ds x y refl (omega arith) places texts h g galileo.1 in
+    let qzss = next_system doppler 74 (codes "SI") file other cs ds x y refl (omega arith) places texts h g beidou.1 in
+    let sbas = next_system doppler 83 (codes "I") file other cs ds x y refl (omega arith) places texts h g qzss.1 in
+    let navic = next_system doppler 73 [] file other cs ds x y refl (omega arith) places texts h g sbas.1 in (
       in_groups cs h.list.order
           ∙ same_seven (codes_of 71 cs) (codes_of 82 cs) (codes_of 69 cs) (codes_of 67 cs) (codes_of 74 cs) (codes_of 83 cs) (codes_of 73 cs) (codes_of 71 ds) (codes_of 82 ds) (codes_of 69 ds) (codes_of 67 ds) (codes_of 74 ds) (codes_of 83 ds) (codes_of 73 ds)
           gps.0 glonass.0 galileo.0 beidou.0 qzss.0 sbas.0 navic.0
@@ -385,13 +435,13 @@ one_glonass cs (Some g) (Some h) x y t u e =
 same_moment : (t u : ℕ) → IsMoment t → IsMoment u → reading_of t ≡ reading_of u → t ≡ u
 same_moment t u h g e = one_moment t u (reading_of t) (reading-reads t h) (subst (λ (c : Civil). ReadsAs u c) (sym e) (reading-reads u g))
 
-abbrev values_with : List ℕ → List AnyCode → Option GlonassView → ℕ → ℤ → ℤ → ℤ → ℕ → ℕ → MixedValues
-values_with m cs g made x y z n t = record { head = record { marker = m; listed = cs; glonass = g; made = made }; site = record { x = x; y = y; z = z; height = n }; first = t }
+abbrev values_with : List ℕ → List AnyCode → Option GlonassView → ℕ → Bool → ℤ → ℤ → ℤ → ℕ → ℕ → MixedValues
+values_with m cs g made d x y z n t = record { head = record { marker = m; listed = cs; glonass = g; made = made; doppler = d }; site = record { x = x; y = y; z = z; height = n }; first = t }
 
-same_values : (m₁ m₂ : List ℕ) (cs ds : List AnyCode) (g h : Option GlonassView) (made₁ made₂ : ℕ) (x₁ x₂ y₁ y₂ z₁ z₂ : ℤ) (n₁ n₂ t₁ t₂ : ℕ)
-    → m₁ ≡ m₂ → cs ≡ ds → g ≡ h → made₁ ≡ made₂ → x₁ ≡ x₂ → y₁ ≡ y₂ → z₁ ≡ z₂ → n₁ ≡ n₂ → t₁ ≡ t₂
-    → values_with m₁ cs g made₁ x₁ y₁ z₁ n₁ t₁ ≡ values_with m₂ ds h made₂ x₂ y₂ z₂ n₂ t₂
-same_values m₁ m₂ cs ds g h made₁ made₂ x₁ x₂ y₁ y₂ z₁ z₂ n₁ n₂ t₁ t₂ a b c d e f i j k = rw (a, b, c, d, e, f, i, j, k) refl
+same_values : (m₁ m₂ : List ℕ) (cs ds : List AnyCode) (g h : Option GlonassView) (made₁ made₂ : ℕ) (p q : Bool) (x₁ x₂ y₁ y₂ z₁ z₂ : ℤ) (n₁ n₂ t₁ t₂ : ℕ)
+    → m₁ ≡ m₂ → cs ≡ ds → g ≡ h → made₁ ≡ made₂ → p ≡ q → x₁ ≡ x₂ → y₁ ≡ y₂ → z₁ ≡ z₂ → n₁ ≡ n₂ → t₁ ≡ t₂
+    → values_with m₁ cs g made₁ p x₁ y₁ z₁ n₁ t₁ ≡ values_with m₂ ds h made₂ q x₂ y₂ z₂ n₂ t₂
+same_values m₁ m₂ cs ds g h made₁ made₂ p q x₁ x₂ y₁ y₂ z₁ z₂ n₁ n₂ t₁ t₂ a b c d l e f i j k = rw (a, b, c, d, l, e, f, i, j, k) refl
 
 same_place : (s r : PositionView) → s.x ≡ r.x → s.y ≡ r.y → s.z ≡ r.z → place_line s ≡ place_line r
 same_place s r a b c = rw (a, b, c) refl
@@ -436,8 +486,15 @@ one_mixed_header places texts u v x y g h e =
     ∙ height_is t5 (from_types v ++ y) v.site.height h.site.3 (e5 ∙ append_assoc (height_line v.site.height) (from_types v) y) in
     let e6 : from_types u ++ x ≡ from_types v ++ y =
     after_same (height_line u.site.height) (height_line v.site.height) (from_types u) (from_types v) x y (ap height_line height) e5 in
-    let types = one_list (version_letter u.head.listed) (version_letter v.head.listed) u.head.listed v.head.listed (from_first u ++ x) (from_first v ++ y) places texts (list_of u g) (list_of v h)
-    (sym (append_assoc (types_and_unit u.head.listed) (from_first u) x) ∙ e6 ∙ append_assoc (types_and_unit v.head.listed) (from_first v) y) in
+    let lines : types_and_unit u.head.doppler u.head.listed ++ (from_first u ++ x) ≡ types_and_unit v.head.doppler v.head.listed ++ (from_first v ++ y) =
+    sym (append_assoc (types_and_unit u.head.doppler u.head.listed) (from_first u) x) ∙ e6 ∙ append_assoc (types_and_unit v.head.doppler v.head.listed) (from_first v) y in
+    let flag_u = types_flag u.head.doppler (version_letter u.head.listed) u.head.listed places (list_of u g) in
+    let flag_v = types_flag v.head.doppler (version_letter v.head.listed) v.head.listed places (list_of v h) in
+    let doppler : u.head.doppler ≡ v.head.doppler =
+    sym (flag_after u.head.doppler (types_and_unit u.head.doppler u.head.listed) (from_first u ++ x) flag_u) ∙ ap shows_doppler lines
+    ∙ flag_after v.head.doppler (types_and_unit v.head.doppler v.head.listed) (from_first v ++ y) flag_v in
+    let types = one_list v.head.doppler (version_letter u.head.listed) (version_letter v.head.listed) u.head.listed v.head.listed (from_first u ++ x) (from_first v ++ y) places texts (list_of u g) (list_of v h)
+    (ap (λ (d : Bool). types_and_unit d u.head.listed ++ (from_first u ++ x)) (sym doppler) ∙ lines) in
     let t7 : List ℕ = from_first u ++ x in
     let first : u.first ≡ v.first =
     same_moment u.first v.first g.first h.first
@@ -450,7 +507,7 @@ one_mixed_header places texts u v x y g h e =
     let tells : TellsGlonass u.head.listed v.head.glonass = subst (λ (cs : List AnyCode). TellsGlonass cs v.head.glonass) (sym types.0) h.heading.glonass in
     let glonass = one_glonass u.head.listed u.head.glonass v.head.glonass (end_line ++ x) (end_line ++ y) g.heading.glonass tells
     (sym (append_assoc (glonass_lines u.head.glonass) end_line x) ∙ e9 ∙ append_assoc (glonass_lines v.head.glonass) end_line y) in (
-      same_values u.head.marker v.head.marker u.head.listed v.head.listed u.head.glonass v.head.glonass u.head.made v.head.made u.site.x v.site.x u.site.y v.site.y u.site.z v.site.z
-          u.site.height v.site.height u.first v.first marker types.0 glonass.0 made px py pz height first,
+      same_values u.head.marker v.head.marker u.head.listed v.head.listed u.head.glonass v.head.glonass u.head.made v.head.made u.head.doppler v.head.doppler u.site.x v.site.x u.site.y v.site.y u.site.z v.site.z
+          u.site.height v.site.height u.first v.first marker types.0 glonass.0 made doppler px py pz height first,
       append_cancel_left end_line x y glonass.1,
     )

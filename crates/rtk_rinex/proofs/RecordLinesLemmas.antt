@@ -12,7 +12,7 @@ use Rattle.rtk_obs.specs.CivilText.{last_digits}
 use Rattle.rtk_obs.specs.Reading.{reading_of}
 use Rattle.rtk_rinex.specs.declared.epoch_table.Observed.{Observed}
 use Rattle.rtk_rinex.specs.declared.epoch_table.SatelliteRow.{SatelliteRow}
-use Rattle.rtk_rinex.specs.Record.{has_line, has_observation, observations, satellite_line, epoch_line, lines_of, no_observation, record_text}
+use Rattle.rtk_rinex.specs.Record.{has_line, has_observation, code_text, code_width, is_shown, satellite_line, epoch_line, lines_of, no_observation, record_text}
 use Rattle.rtk_rinex.specs.RecordLines.{RecordLinesView, HasOpenLine, HoldsLines, IsFreeIn, KeepsLines}
 use Rattle.rtk_rinex.specs.Steps.WrittenLines.{named_line, AddsLine, PutsEpochLine}
 use Rattle.rtk_rinex.proofs.RecordLemmas.{lines_of-none, lines_of-some}
@@ -59,72 +59,84 @@ longer-than text more longer = omega (arith, ap length longer, length-append tex
 -- ---- the line that is open
 
 -- an open line whose codes show nothing
-pub open-line : (l : RecordLinesView) (codes : ℕ) → codes ≤ 16 → 4 + 48 * codes ≤ length l.rest → l.rest ≡ replicate (length l.rest) 32 → l.is_written ≡ false
-    → HasOpenLine l (replicate codes no_observation)
-open-line l codes few room blank none =
+pub open-line : (doppler : Bool) (l : RecordLinesView) (codes : ℕ) → codes ≤ 16 → 4 + code_width doppler * codes ≤ length l.rest → l.rest ≡ replicate (length l.rest) 32 → l.is_written ≡ false
+    → HasOpenLine doppler l (replicate codes no_observation)
+open-line doppler l codes few room blank none =
+    let w = code_width doppler * codes in
     let m = length l.rest in
     let size : length (replicate codes no_observation) ≡ codes = length-replicate codes no_observation in
-    let sum : 3 + (48 * codes + (m - (3 + 48 * codes))) ≡ m = omega arith in
+    let sum : 3 + (w + (m - (3 + w))) ≡ m = omega (arith, room) in
     record {
       few = rw size few;
       room = rw size room;
-      columns = rw (size, codes-blank codes, replicate-append-replicate {A = ℕ} (48 * codes) (m - (3 + 48 * codes)) 32, replicate-append-replicate {A = ℕ} 3 (48 * codes + (m - (3 + 48 * codes))) 32, sum) blank;
-      written = none ∙ sym (none-written codes);
+      columns = rw (size, codes-blank doppler codes, replicate-append-replicate {A = ℕ} w (m - (3 + w)) 32, replicate-append-replicate {A = ℕ} 3 (w + (m - (3 + w))) 32, sum) blank;
+      written = none ∙ sym (none-written doppler codes);
     }
 
 -- the blanks where the columns of a code go
-pub free-blank : (l : RecordLinesView) (os : List Observed) (k : ℕ) → HasOpenLine l os → IsFreeIn os k → take 48 (drop (3 + 48 * k) l.rest) ≡ replicate 48 32
-free-blank l os k h f =
-    let rest : List ℕ = replicate (length l.rest - (3 + 48 * length os)) 32 in
-    ap (λ (xs : List ℕ). take 48 (drop (3 + 48 * k) xs)) h.columns ∙ ap (take 48) (drop-append-add (replicate 3 32) (flat_map observations os ++ rest) (48 * k))
-    ∙ code-blank os k no_observation rest f.inside (f.free no_observation)
+pub free-blank : (doppler : Bool) (l : RecordLinesView) (os : List Observed) (k : ℕ) → HasOpenLine doppler l os → IsFreeIn doppler os k
+    → take (code_width doppler) (drop (3 + code_width doppler * k) l.rest) ≡ replicate (code_width doppler) 32
+free-blank doppler l os k h f =
+    let rest : List ℕ = replicate (length l.rest - (3 + code_width doppler * length os)) 32 in
+    ap (λ (xs : List ℕ). take (code_width doppler) (drop (3 + code_width doppler * k) xs)) h.columns
+    ∙ ap (take (code_width doppler)) (drop-append-add (replicate 3 32) (flat_map (code_text doppler) os ++ rest) (code_width doppler * k))
+    ∙ code-blank doppler os k no_observation rest f.inside (f.free no_observation)
 
 -- the columns of a code are written in a text
-pub put-at : (text now g : List ℕ) (at place n : ℕ) → place ≡ at + n → at ≤ length text → now ≡ take place text ++ (g ++ drop 48 (drop place text))
-    → now ≡ take at text ++ (take n (drop at text) ++ (g ++ drop 48 (drop n (drop at text))))
-put-at text now g at place n e inside is =
+pub put-at : (doppler : Bool) (text now g : List ℕ) (at place n : ℕ) → place ≡ at + n → at ≤ length text → now ≡ take place text ++ (g ++ drop (code_width doppler) (drop place text))
+    → now ≡ take at text ++ (take n (drop at text) ++ (g ++ drop (code_width doppler) (drop n (drop at text))))
+put-at doppler text now g at place n e inside is =
     let size : place ≡ length (take at text) + n = omega (arith, length-take at text) in
-    is ∙ ap (λ (xs : List ℕ). take place xs ++ (g ++ drop 48 (drop place xs))) (sym (take-append-drop at text)) ∙ over-front (take at text) (drop at text) g place n size
+    is ∙ ap (λ (xs : List ℕ). take place xs ++ (g ++ drop (code_width doppler) (drop place xs))) (sym (take-append-drop at text)) ∙ over-front doppler (take at text) (drop at text) g place n size
 
 -- what the line shows after one more code
-pub open-put : (old new : RecordLinesView) (os : List Observed) (k : ℕ) (o : Observed) → HasOpenLine old os → IsFreeIn os k → has_observation o ≡ true
-    → new.rest ≡ take (3 + 48 * k) old.rest ++ (observations o ++ drop 48 (drop (3 + 48 * k) old.rest)) → new.is_written ≡ true → HasOpenLine new (set os k o)
-open-put old new os k o h f shown is written =
+pub open-put : (doppler : Bool) (old new : RecordLinesView) (os : List Observed) (k : ℕ) (o : Observed) → HasOpenLine doppler old os → IsFreeIn doppler os k → is_shown doppler o ≡ true
+    → new.rest ≡ take (3 + code_width doppler * k) old.rest ++ (code_text doppler o ++ drop (code_width doppler) (drop (3 + code_width doppler * k) old.rest)) → new.is_written ≡ true
+    → HasOpenLine doppler new (set os k o)
+open-put doppler old new os k o h f shown is written =
+    let w = code_width doppler in
     let size : length (set os k o) ≡ length os = length-set os k o in
-    let tail : List ℕ = replicate (length old.rest - (3 + 48 * length os)) 32 in
-    let whole : new.rest ≡ replicate 3 32 ++ (flat_map observations (set os k o) ++ tail) =
-    is ∙ ap (λ (xs : List ℕ). take (3 + 48 * k) xs ++ (observations o ++ drop 48 (drop (3 + 48 * k) xs))) h.columns
-    ∙ over-front (replicate 3 32) (flat_map observations os ++ tail) (observations o) (3 + 48 * k) (48 * k) refl
-    ∙ ap (λ (xs : List ℕ). replicate 3 32 ++ xs) (code-put os k o tail f.inside) in
-    let long : length new.rest ≡ length old.rest = columns-length new.rest (set os k o) (length old.rest - (3 + 48 * length os)) whole ∙ omega (arith, size, h.room) in
+    let tail : List ℕ = replicate (length old.rest - (3 + w * length os)) 32 in
+    let whole : new.rest ≡ replicate 3 32 ++ (flat_map (code_text doppler) (set os k o) ++ tail) =
+    is ∙ ap (λ (xs : List ℕ). take (3 + w * k) xs ++ (code_text doppler o ++ drop w (drop (3 + w * k) xs))) h.columns
+    ∙ over-front doppler (replicate 3 32) (flat_map (code_text doppler) os ++ tail) (code_text doppler o) (3 + w * k) (w * k) refl
+    ∙ ap (λ (xs : List ℕ). replicate 3 32 ++ xs) (code-put doppler os k o tail f.inside) in
+    let count : 3 + w * length (set os k o) + (length old.rest - (3 + w * length os)) ≡ length old.rest =
+    let same : w * length (set os k o) ≡ w * length os = ap (λ (n : ℕ). w * n) size in omega (arith, same, h.room) in
+    let long : length new.rest ≡ length old.rest = columns-length doppler new.rest (set os k o) (length old.rest - (3 + w * length os)) whole ∙ count in
     record {
       few = rw size h.few;
       room = rw (size, long) h.room;
       columns = rw (size, long) whole;
-      written = written ∙ sym (any-put os k o no_observation f.inside (f.free no_observation) ∙ ap (λ (b : Bool). b || list_any has_observation os) shown);
+      written = written ∙ sym (any-put doppler os k o no_observation f.inside (f.free no_observation) ∙ ap (λ (b : Bool). b || list_any (is_shown doppler) os) shown);
     }
 
 -- or if the code shows nothing
-pub open-none : (l : RecordLinesView) (os : List Observed) (k : ℕ) (o : Observed) → HasOpenLine l os → IsFreeIn os k → has_observation o ≡ false → HasOpenLine l (set os k o)
-open-none l os k o h f none =
+pub open-none : (doppler : Bool) (l : RecordLinesView) (os : List Observed) (k : ℕ) (o : Observed) → HasOpenLine doppler l os → IsFreeIn doppler os k → is_shown doppler o ≡ false
+    → HasOpenLine doppler l (set os k o)
+open-none doppler l os k o h f none =
     let size : length (set os k o) ≡ length os = length-set os k o in
     record {
       few = rw size h.few;
       room = rw size h.room;
-      columns = rw (size, code-none os k o no_observation (f.free no_observation) none f.inside) h.columns;
-      written = h.written ∙ sym (any-put os k o no_observation f.inside (f.free no_observation) ∙ ap (λ (b : Bool). b || list_any has_observation os) none);
+      columns = rw (size, code-none doppler os k o no_observation (f.free no_observation) none f.inside) h.columns;
+      written = h.written ∙ sym (any-put doppler os k o no_observation f.inside (f.free no_observation) ∙ ap (λ (b : Bool). b || list_any (is_shown doppler) os) none);
     }
 
+nothing-shown : (doppler : Bool) → is_shown doppler no_observation ≡ false
+nothing-shown false = refl
+nothing-shown true = refl
+
 -- the next of codes that are written in their order
-pub next-free : (os : List Observed) (i : ℕ) → i < length os → IsFreeIn (take i os ++ replicate (length os - i) no_observation) i
-next-free os i lt =
+pub next-free : (doppler : Bool) (os : List Observed) (i : ℕ) → i < length os → IsFreeIn doppler (take i os ++ replicate (length os - i) no_observation) i
+next-free doppler os i lt =
     let m = length os - (i + 1) in
     let more : length os - i ≡ suc m = omega arith in
     let size : length (take i os) ≡ i = omega (arith, length-take i os) in
     let at = λ (d : Observed). rw size at (get_or-append_seam (take i os) no_observation (replicate m no_observation) d) in
     record {
       inside = rw more (omega (arith, length-append (take i os) (no_observation ∷ replicate m no_observation), size));
-      free = λ d. rw (more, at d) refl;
+      free = λ d. rw (more, at d) (nothing-shown doppler);
     }
 
 pub next-code : (os : List Observed) (i : ℕ) (o d : Observed) → i < length os → o ≡ get_or os i d
@@ -181,23 +193,23 @@ not-both : {P : Type 0} (b : Bool) → b ≡ true → b ≡ false → P
 not-both true t e = absurd cc
 not-both false t e = absurd cc
 
-pub line-there : (name : List ℕ) (os : List Observed) (old new : RecordLinesView) → list_any has_observation os ≡ true → drop 36 new.text ≡ drop 36 old.text ++ named_line name os
-    → new.count ≡ old.count + 1 → AddsLine name os old new
-line-there name os old new has is more = record {
+pub line-there : (doppler : Bool) (name : List ℕ) (os : List Observed) (old new : RecordLinesView) → list_any (is_shown doppler) os ≡ true
+    → drop 36 new.text ≡ drop 36 old.text ++ named_line doppler name os → new.count ≡ old.count + 1 → AddsLine doppler name os old new
+line-there doppler name os old new has is more = record {
   line = λ e. is;
   one = λ e. more;
-  none = λ e. not-both (list_any has_observation os) has e;
+  none = λ e. not-both (list_any (is_shown doppler) os) has e;
 }
 
-pub line-absent : (name : List ℕ) (os : List Observed) (l : RecordLinesView) → list_any has_observation os ≡ false → AddsLine name os l l
-line-absent name os l none = record {
-  line = λ e. not-both (list_any has_observation os) e none;
-  one = λ e. not-both (list_any has_observation os) e none;
+pub line-absent : (doppler : Bool) (name : List ℕ) (os : List Observed) (l : RecordLinesView) → list_any (is_shown doppler) os ≡ false → AddsLine doppler name os l l
+line-absent doppler name os l none = record {
+  line = λ e. not-both (list_any (is_shown doppler) os) e none;
+  one = λ e. not-both (list_any (is_shown doppler) os) e none;
   none = λ e. record { text = refl; count = refl };
 }
 
 row-by : (old new : RecordLinesView) (rows : List SatelliteRow) (s : ℕ) (os : List Observed) (b : Bool) → list_any has_observation os ≡ b → HoldsLines old rows
-    → AddsLine (71 ∷ last_digits 2 s) os old new → HoldsLines new (rows ++ record { satellite = s; observed = record { items = os } } ∷ [])
+    → AddsLine false (71 ∷ last_digits 2 s) os old new → HoldsLines new (rows ++ record { satellite = s; observed = record { items = os } } ∷ [])
 row-by old new rows s os true e h a =
     let row : SatelliteRow = record { satellite = s; observed = record { items = os } } in
     line-added old new rows row h e (a.line e) (a.one e)
@@ -207,9 +219,9 @@ row-by old new rows s os false e h a =
 
 -- the line of a satellite of GPS
 pub gps-row-added : (old new : RecordLinesView) (rows : List SatelliteRow) (s : ℕ) (name : List ℕ) (os : List Observed) → name ≡ 71 ∷ last_digits 2 s → HoldsLines old rows
-    → AddsLine name os old new → HoldsLines new (rows ++ record { satellite = s; observed = record { items = os } } ∷ [])
+    → AddsLine false name os old new → HoldsLines new (rows ++ record { satellite = s; observed = record { items = os } } ∷ [])
 gps-row-added old new rows s name os is h a =
-    row-by old new rows s os (list_any has_observation os) refl h (subst (λ (n : List ℕ). AddsLine n os old new) is a)
+    row-by old new rows s os (list_any has_observation os) refl h (subst (λ (n : List ℕ). AddsLine false n os old new) is a)
 
 -- ---- the epoch line
 

@@ -85,7 +85,7 @@ piece (o ∷ os) rest (suc k) d h lt =
     (piece os rest k d (All-tail IsObserved o os h) (omega arith))
 
 no_observed : Observed
-no_observed = record { range_mm = None; phase_millicycles = None; strength_millidbhz = None; slip = false; half = false }
+no_observed = record { range_mm = None; phase_millicycles = None; doppler_millihertz = None; strength_millidbhz = None; slip = false; half = false }
 
 pub cells : (n : ℕ) (os : List Observed) (rest : List ℕ) → All IsObserved os → n ≤ length os
     → observations_in n (flat_map observations os ++ rest) ≡ take n os

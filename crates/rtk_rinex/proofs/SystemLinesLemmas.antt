@@ -17,14 +17,6 @@ use Rattle.rtk_rinex.proofs.TextPartLemmas.{reads_then, reads_from}
 
 -- ---- the first column of the lines of some systems
 
--- the types of the systems of these letters, and the line of the unit
-abbrev pub from : List ℕ → List AnyCode → List ℕ
-from [] cs = unit_line
-from (s ∷ ss) cs = system_types_lines s (codes_of s cs) ++ from ss cs
-
-pub types_from : (cs : List AnyCode) → types_and_unit cs ≡ from (codes "GRECJSI") cs
-types_from cs = simp append_assoc
-
 -- a text that begins with one of these letters, or with the D of the unit
 pub record Starts (ss : List ℕ) (text : List ℕ) : Type 0 where
   pub char : ℕ
@@ -43,20 +35,6 @@ or_right false b c e = e
 starts_unit : Starts [] unit_line
 unfolding header_line left
 starts_unit = record { char = 68; rest = drop 1 unit_line; is = refl; one = refl }
-
-starts_group : (s : ℕ) (ss : List ℕ) (cs : List AnyCode) (next : List ℕ) → Starts ss next → Starts (s ∷ ss) (system_types_lines s cs ++ next)
-unfolding header_line left
-starts_group s ss [] next h = record { char = h.char; rest = h.rest; is = h.is; one = or_right (s == h.char) (list_any (λ t. t == h.char) ss) (68 == h.char) h.one }
-starts_group s ss (c ∷ cs) next h = record {
-  char = s;
-  rest = drop 1 (types_lines_of s (length (c ∷ cs)) (types_text (c ∷ cs)) ++ next);
-  is = refl;
-  one = or_left (s == s) (list_any (λ t. t == s) ss) (68 == s) ((Decides-eqb s s).1 refl);
-}
-
-pub starts_from : (ss : List ℕ) (cs : List AnyCode) → Starts ss (from ss cs)
-starts_from [] cs = starts_unit
-starts_from (s ∷ ss) cs = starts_group s ss (codes_of s cs) (from ss cs) (starts_from ss cs)
 
 -- no letter of these is this one, nor is D
 abbrev pub is_apart : ℕ → List ℕ → Bool
@@ -86,8 +64,6 @@ starts_apart s ss text apart h e =
     let two : (false || false) ≡ true = rw (none, p.0) at one in
     absurd (cc)
 
--- ---- one system, and what follows it
-
 take_one : (l x y : List ℕ) → take 1 (ended l ++ x) ≡ take 1 (ended l ++ y)
 take_one [] x y = refl
 take_one (a ∷ l) x y = refl
@@ -96,48 +72,75 @@ same_first : (l : List ℕ) (ls : List (List ℕ)) (x y : List ℕ) → take 1 (
 same_first l ls x y =
     ap (take 1) (append_assoc (ended l) (text_of ls) x) ∙ take_one l (text_of ls ++ x) (text_of ls ++ y) ∙ ap (take 1) (sym (append_assoc (ended l) (text_of ls) y))
 
--- the lines of a system that is not listed are passed over
-passed_over : {V : Type 0} (If Then : V → Type 0) (cs : V → List AnyCode) (s : ℕ) (ss : List ℕ) (g : List AnyCode) (next : V → List ℕ) (text front written : List ℕ) (v u : V)
-    → cs v ≡ g → is_apart s ss ≡ true → written ≡ front ++ system_types_lines s g → (take 1 (drop (length front) text) ≢ s ∷ [] → g ≡ []) → Starts ss (next u) → If u → cs u ≡ []
-    → Reads (λ u. If u × (cs u ≡ g)) Then next (drop (length written) text) v
-    → (lines : List (List ℕ)) (rest more : List ℕ) → All HasNoEnd lines → system_types_lines s (cs u) ++ next u ≡ text_of lines ++ more → drop (length front) text ≡ text_of lines ++ rest
-    → Goes (system_types_lines s (cs v) ++ next v) lines more (Then u)
-passed_over If Then cs s ss g next text front written v u own apart put skipped starts given none second [] rest more plain e t = record {
-  rest = system_types_lines s (cs v) ++ next v;
-  begins = refl;
-  whole = λ z.
-      let nothing : next u ≡ [] = sym (ap (λ (x : List AnyCode). system_types_lines s x ++ next u) none) ∙ e ∙ z in
-      let some : starts.char ∷ starts.rest ≡ [] = sym starts.is ∙ nothing in
-      absurd (cc);
-}
-passed_over If Then cs s ss g next text front written v u own apart put skipped starts given none second (l ∷ ls) rest more plain e t =
-    let lines : List (List ℕ) = l ∷ ls in
-    let on : next u ≡ text_of lines ++ more = sym (ap (λ (x : List AnyCode). system_types_lines s x ++ next u) none) ∙ e in
-    let first : take 1 (drop (length front) text) ≡ starts.char ∷ [] = ap (take 1) t ∙ same_first l ls rest more ∙ ap (take 1) (sym on ∙ starts.is) in
-    let other : take 1 (drop (length front) text) ≢ s ∷ [] = λ same.
-    starts_apart s ss (next u) apart starts (ap (λ (x : List ℕ). get_or x 0 0) (sym first ∙ same)) in
-    let gone : g ≡ [] = skipped other in
-    let place : written ≡ front = put ∙ ap (λ (x : List AnyCode). front ++ system_types_lines s x) gone ∙ append-nil front in
-    let r = second u lines rest more (given, none ∙ sym gone) plain on (ap (λ (x : List ℕ). drop (length x) text) place ∙ t) in
-    record { rest = r.rest; begins = ap (λ (x : List AnyCode). system_types_lines s x ++ next v) (own ∙ gone) ∙ r.begins; whole = r.whole }
+-- ---- the lines of some systems, in a file with Doppler shifts, or without them
 
-pub reads_system : {V : Type 0} (If Then : V → Type 0) (cs : V → List AnyCode) (s : ℕ) (ss : List ℕ) (g : List AnyCode) (next : V → List ℕ) (text front written : List ℕ) (v : V)
-    → s ≢ 10 → is_apart s ss ≡ true → HaveOnePlace → cs v ≡ g → ((u : V) → If u → (cs u ≡ []) ⊎ IsGroup s (cs u)) → ((u : V) → Starts ss (next u))
-    → written ≡ front ++ system_types_lines s g
-    → ((u : V) → If u → IsGroup s (cs u) → take 1 (drop (length front) text) ≡ s ∷ [] → ShowsGroup s (drop (length front) text) g)
-    → ((u : V) → If u → cs u ≡ [] → take 1 (drop (length front) text) ≢ s ∷ [] → g ≡ [])
-    → Reads (λ u. If u × (cs u ≡ g)) Then next (drop (length written) text) v
-    → Reads If Then (λ x. system_types_lines s (cs x) ++ next x) (drop (length front) text) v
-reads_system {V = V} If Then cs s ss g next text front written v plain apart place own each starts put taken skipped second u lines rest more given ok e t =
-    elim (each u given) [
-      | inl none ↦ passed_over If Then cs s ss g next text front written v u own apart put (skipped u given none) (starts u) given none second lines rest more ok e t
-      | inr group ↦
-          let With : V → Type 0 = λ x. If x × IsGroup s (cs x) in
-          let first : Reads With (λ x. With x × (cs x ≡ g)) (λ x. system_types_lines s (cs x)) (drop (length front) text) v = λ x ls r m h k a b.
-          let q = group_reads s g (drop (length front) text) plain place (taken x h.0 h.1) (cs x) ls r m h.1 k a b in
-          record { rest = q.rest; begins = ap (system_types_lines s) own ∙ q.begins; whole = λ none. ((q.whole none).0, (h, (q.whole none).1)) } in
-          let after : Reads (λ x. With x × (cs x ≡ g)) Then next (drop (length written) text) v =
-          reads_from (λ x. If x × (cs x ≡ g)) Then (λ x. With x × (cs x ≡ g)) Then next (drop (length written) text) v (λ x h. (h.0.0, h.1)) (λ x h k. k) second in
-          reads_then With (λ x. With x × (cs x ≡ g)) Then (λ x. system_types_lines s (cs x)) next text front written v (λ x h. whole_group s (cs x) plain h.1)
-          (put ∙ ap (λ (x : List AnyCode). front ++ system_types_lines s x) (sym own)) first after u lines rest more (given, group) ok e t
-    ]
+module _ (doppler : Bool) where
+  -- the types of the systems of these letters, and the line of the unit
+  abbrev pub from : List ℕ → List AnyCode → List ℕ
+  from [] cs = unit_line
+  from (s ∷ ss) cs = system_types_lines doppler s (codes_of s cs) ++ from ss cs
+
+  pub types_from : (cs : List AnyCode) → types_and_unit doppler cs ≡ from (codes "GRECJSI") cs
+  types_from cs = simp append_assoc
+
+  starts_group : (s : ℕ) (ss : List ℕ) (cs : List AnyCode) (next : List ℕ) → Starts ss next → Starts (s ∷ ss) (system_types_lines doppler s cs ++ next)
+  unfolding header_line left
+  starts_group s ss [] next h = record { char = h.char; rest = h.rest; is = h.is; one = or_right (s == h.char) (list_any (λ t. t == h.char) ss) (68 == h.char) h.one }
+  starts_group s ss (c ∷ cs) next h = record {
+    char = s;
+    rest = drop 1 (types_lines_of doppler s (length (c ∷ cs)) (types_text doppler (c ∷ cs)) ++ next);
+    is = refl;
+    one = or_left (s == s) (list_any (λ t. t == s) ss) (68 == s) ((Decides-eqb s s).1 refl);
+  }
+
+  pub starts_from : (ss : List ℕ) (cs : List AnyCode) → Starts ss (from ss cs)
+  starts_from [] cs = starts_unit
+  starts_from (s ∷ ss) cs = starts_group s ss (codes_of s cs) (from ss cs) (starts_from ss cs)
+
+  -- ---- one system, and what follows it
+
+  -- the lines of a system that is not listed are passed over
+  passed_over : {V : Type 0} (If Then : V → Type 0) (cs : V → List AnyCode) (s : ℕ) (ss : List ℕ) (g : List AnyCode) (next : V → List ℕ) (text front written : List ℕ) (v u : V)
+      → cs v ≡ g → is_apart s ss ≡ true → written ≡ front ++ system_types_lines doppler s g → (take 1 (drop (length front) text) ≢ s ∷ [] → g ≡ []) → Starts ss (next u) → If u → cs u ≡ []
+      → Reads (λ u. If u × (cs u ≡ g)) Then next (drop (length written) text) v
+      → (lines : List (List ℕ)) (rest more : List ℕ) → All HasNoEnd lines → system_types_lines doppler s (cs u) ++ next u ≡ text_of lines ++ more → drop (length front) text ≡ text_of lines ++ rest
+      → Goes (system_types_lines doppler s (cs v) ++ next v) lines more (Then u)
+  passed_over If Then cs s ss g next text front written v u own apart put skipped starts given none second [] rest more plain e t = record {
+    rest = system_types_lines doppler s (cs v) ++ next v;
+    begins = refl;
+    whole = λ z.
+        let nothing : next u ≡ [] = sym (ap (λ (x : List AnyCode). system_types_lines doppler s x ++ next u) none) ∙ e ∙ z in
+        let some : starts.char ∷ starts.rest ≡ [] = sym starts.is ∙ nothing in
+        absurd (cc);
+  }
+  passed_over If Then cs s ss g next text front written v u own apart put skipped starts given none second (l ∷ ls) rest more plain e t =
+      let lines : List (List ℕ) = l ∷ ls in
+      let on : next u ≡ text_of lines ++ more = sym (ap (λ (x : List AnyCode). system_types_lines doppler s x ++ next u) none) ∙ e in
+      let first : take 1 (drop (length front) text) ≡ starts.char ∷ [] = ap (take 1) t ∙ same_first l ls rest more ∙ ap (take 1) (sym on ∙ starts.is) in
+      let other : take 1 (drop (length front) text) ≢ s ∷ [] = λ same.
+      starts_apart s ss (next u) apart starts (ap (λ (x : List ℕ). get_or x 0 0) (sym first ∙ same)) in
+      let gone : g ≡ [] = skipped other in
+      let place : written ≡ front = put ∙ ap (λ (x : List AnyCode). front ++ system_types_lines doppler s x) gone ∙ append-nil front in
+      let r = second u lines rest more (given, none ∙ sym gone) plain on (ap (λ (x : List ℕ). drop (length x) text) place ∙ t) in
+      record { rest = r.rest; begins = ap (λ (x : List AnyCode). system_types_lines doppler s x ++ next v) (own ∙ gone) ∙ r.begins; whole = r.whole }
+
+  pub reads_system : {V : Type 0} (If Then : V → Type 0) (cs : V → List AnyCode) (s : ℕ) (ss : List ℕ) (g : List AnyCode) (next : V → List ℕ) (text front written : List ℕ) (v : V)
+      → s ≢ 10 → is_apart s ss ≡ true → HaveOnePlace → cs v ≡ g → ((u : V) → If u → (cs u ≡ []) ⊎ IsGroup s (cs u)) → ((u : V) → Starts ss (next u))
+      → written ≡ front ++ system_types_lines doppler s g
+      → ((u : V) → If u → IsGroup s (cs u) → take 1 (drop (length front) text) ≡ s ∷ [] → ShowsGroup doppler s (drop (length front) text) g)
+      → ((u : V) → If u → cs u ≡ [] → take 1 (drop (length front) text) ≢ s ∷ [] → g ≡ [])
+      → Reads (λ u. If u × (cs u ≡ g)) Then next (drop (length written) text) v
+      → Reads If Then (λ x. system_types_lines doppler s (cs x) ++ next x) (drop (length front) text) v
+  reads_system {V = V} If Then cs s ss g next text front written v plain apart place own each starts put taken skipped second u lines rest more given ok e t =
+      elim (each u given) [
+        | inl none ↦ passed_over If Then cs s ss g next text front written v u own apart put (skipped u given none) (starts u) given none second lines rest more ok e t
+        | inr group ↦
+            let With : V → Type 0 = λ x. If x × IsGroup s (cs x) in
+            let first : Reads With (λ x. With x × (cs x ≡ g)) (λ x. system_types_lines doppler s (cs x)) (drop (length front) text) v = λ x ls r m h k a b.
+            let q = group_reads doppler s g (drop (length front) text) plain place (taken x h.0 h.1) (cs x) ls r m h.1 k a b in
+            record { rest = q.rest; begins = ap (system_types_lines doppler s) own ∙ q.begins; whole = λ none. ((q.whole none).0, (h, (q.whole none).1)) } in
+            let after : Reads (λ x. With x × (cs x ≡ g)) Then next (drop (length written) text) v =
+            reads_from (λ x. If x × (cs x ≡ g)) Then (λ x. With x × (cs x ≡ g)) Then next (drop (length written) text) v (λ x h. (h.0.0, h.1)) (λ x h k. k) second in
+            reads_then With (λ x. With x × (cs x ≡ g)) Then (λ x. system_types_lines doppler s (cs x)) next text front written v (λ x h. whole_group doppler s (cs x) plain h.1)
+            (put ∙ ap (λ (x : List AnyCode). front ++ system_types_lines doppler s x) (sym own)) first after u lines rest more (given, group) ok e t
+      ]

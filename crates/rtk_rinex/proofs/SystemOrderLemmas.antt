@@ -249,12 +249,12 @@ no_pairs i j d lt within e = omega (arith, lt, within)
 pub part_none : (s : ℕ) (g : List AnyCode) → g ≡ [] → Part s g
 part_none s g e = subst (λ (x : List AnyCode). Part s x) (sym e) (record { own = All-nil (λ c. letter c ≡ s); distinct = no_pairs })
 
-pub part_if : (text : List ℕ) (s : ℕ) (g : List AnyCode) (b due : Bool) → due ≡ b → (due ≡ true → ShowsGroup s text g) → (due ≡ false → g ≡ []) → Part s g
-part_if text s g true due e f h = let shown = f e in record { own = shown.group.own; distinct = shown.group.distinct }
-part_if text s g false due e f h = part_none s g (h e)
+pub part_if : (doppler : Bool) (text : List ℕ) (s : ℕ) (g : List AnyCode) (b due : Bool) → due ≡ b → (due ≡ true → ShowsGroup doppler s text g) → (due ≡ false → g ≡ []) → Part s g
+part_if doppler text s g true due e f h = let shown = f e in record { own = shown.group.own; distinct = shown.group.distinct }
+part_if doppler text s g false due e f h = part_none s g (h e)
 
-pub part_of : (text : List ℕ) (file s : ℕ) (old new : List AnyCode) (out written : List ℕ) → (r : ReadsSystem text file s old new out written) → Part s r.codes
-part_of text file s old new out written r = part_if (drop (length out) text) s r.codes (is_due file s old r.begins) (is_due file s old r.begins) refl r.due r.none
+pub part_of : (doppler : Bool) (text : List ℕ) (file s : ℕ) (old new : List AnyCode) (out written : List ℕ) → (r : ReadsSystem doppler text file s old new out written) → Part s r.codes
+part_of doppler text file s old new out written r = part_if doppler (drop (length out) text) s r.codes (is_due file s old r.begins) (is_due file s old r.begins) refl r.due r.none
 
 -- codes in order, of systems with fewer codes before them than n
 pub record Ordered (n : ℕ) (cs : List AnyCode) : Type 0 where

@@ -202,37 +202,37 @@ not_begun : (b : Bool) (P : Type 0) → Decides b P → (P → ⊥) → b ≡ fa
 not_begun false P h never = refl
 not_begun true P h never = absurd (never (h.0 refl))
 
-taken : (text : List ℕ) (file s : ℕ) (old new : List AnyCode) (out written : List ℕ) (r : ReadsSystem text file s old new out written) (cs : List AnyCode) → IsListOf file cs
-    → IsGroup s (codes_of s cs) → take 1 (drop (length out) text) ≡ s ∷ [] → ShowsGroup s (drop (length out) text) r.codes
-taken text file s old new out written r cs h g first =
+taken : (doppler : Bool) (text : List ℕ) (file s : ℕ) (old new : List AnyCode) (out written : List ℕ) (r : ReadsSystem doppler text file s old new out written) (cs : List AnyCode) → IsListOf file cs
+    → IsGroup s (codes_of s cs) → take 1 (drop (length out) text) ≡ s ∷ [] → ShowsGroup doppler s (drop (length out) text) r.codes
+taken doppler text file s old new out written r cs h g first =
     r.due (subst (λ (b : Bool). is_due file s old b ≡ true) (sym (begun r.begins (take 1 (drop (length out) text) ≡ s ∷ []) r.letter first))
     (due_begun file s old (file_group file s cs (file == s) refl h g)))
 
-skipped : (text : List ℕ) (file s : ℕ) (old new : List AnyCode) (out written : List ℕ) (r : ReadsSystem text file s old new out written) (cs : List AnyCode) → IsListOf file cs
+skipped : (doppler : Bool) (text : List ℕ) (file s : ℕ) (old new : List AnyCode) (out written : List ℕ) (r : ReadsSystem doppler text file s old new out written) (cs : List AnyCode) → IsListOf file cs
     → codes_of s cs ≡ [] → (file ≡ 77 → s ≡ 83 → length old ≢ 0) → (file ≡ 77 → s ≡ 73 → version_letter old ≡ 77) → take 1 (drop (length out) text) ≢ s ∷ [] → r.codes ≡ []
-skipped text file s old new out written r cs h none six last first =
+skipped doppler text file s old new out written r cs h none six last first =
     r.none (subst (λ (b : Bool). is_due file s old b ≡ false) (sym (not_begun r.begins (take 1 (drop (length out) text) ≡ s ∷ []) r.letter first))
     (due_passed file s old (file_none file s cs h none) six last))
 
 -- ---- all systems
 
-pub record SystemsRead (text : List ℕ) (file : ℕ) (out written : List ℕ) (listed : List AnyCode) : Type 0 where
+pub record SystemsRead (doppler : Bool) (text : List ℕ) (file : ℕ) (out written : List ℕ) (listed : List AnyCode) : Type 0 where
   pub good : IsListOf file listed
-  pub put : written ≡ out ++ types_and_unit listed
-  pub shown : Reads {V = List AnyCode} (IsListOf file) (λ ds. ds ≡ listed) types_and_unit (drop (length out) text) listed
+  pub put : written ≡ out ++ types_and_unit doppler listed
+  pub shown : Reads {V = List AnyCode} (IsListOf file) (λ ds. ds ≡ listed) (types_and_unit doppler) (drop (length out) text) listed
 
 in_row : (o a b c d e f g u : List ℕ) → (((((((o ++ a) ++ b) ++ c) ++ d) ++ e) ++ f) ++ g) ++ u ≡ o ++ (a ++ (b ++ (c ++ (d ++ (e ++ (f ++ (g ++ u)))))))
 in_row o a b c d e f g u = simp append_assoc
 
-due_of : (text : List ℕ) (file s : ℕ) (old new : List AnyCode) (out written : List ℕ) (r : ReadsSystem text file s old new out written) → Due file s old r.begins r.codes
-due_of text file s old new out written r = record { group = λ e. (r.due e).group; none = r.none }
+due_of : (doppler : Bool) (text : List ℕ) (file s : ℕ) (old new : List AnyCode) (out written : List ℕ) (r : ReadsSystem doppler text file s old new out written) → Due file s old r.begins r.codes
+due_of doppler text file s old new out written r = record { group = λ e. (r.due e).group; none = r.none }
 
 same_seven : (a b c d e f g h i j k l m n : List AnyCode) → a ≡ h → b ≡ i → c ≡ j → d ≡ k → e ≡ l → f ≡ m → g ≡ n → seven a b c d e f g ≡ seven h i j k l m n
 same_seven a b c d e f g h i j k l m n p q r s t u v = rw (p, q, r, s, t, u, v) refl
 
-pub systems_read : (text : List ℕ) (file : ℕ) (l0 l1 l2 l3 l4 l5 l6 l7 : List AnyCode) (o0 o1 o2 o3 o4 o5 o6 o7 end : List ℕ) → IsFileLetter file → HaveOnePlace → l0 ≡ [] → (r1 : ReadsSystem text file 71 l0 l1 o0 o1) → (r2 : ReadsSystem text file 82 l1 l2 o1 o2) → (r3 : ReadsSystem text file 69 l2 l3 o2 o3) → (r4 : ReadsSystem text file 67 l3 l4 o3 o4) → (r5 : ReadsSystem text file 74 l4 l5 o4 o5) → (r6 : ReadsSystem text file 83 l5 l6 o5 o6) → (r7 : ReadsSystem text file 73 l6 l7 o6 o7)
-    → length l7 ≤ 69 → end ≡ o7 ++ unit_line → SystemsRead text file o0 end l7
-systems_read text file l0 l1 l2 l3 l4 l5 l6 l7 o0 o1 o2 o3 o4 o5 o6 o7 end known_file place empty r1 r2 r3 r4 r5 r6 r7 few last =
+pub systems_read : (doppler : Bool) (text : List ℕ) (file : ℕ) (l0 l1 l2 l3 l4 l5 l6 l7 : List AnyCode) (o0 o1 o2 o3 o4 o5 o6 o7 end : List ℕ) → IsFileLetter file → HaveOnePlace → l0 ≡ [] → (r1 : ReadsSystem doppler text file 71 l0 l1 o0 o1) → (r2 : ReadsSystem doppler text file 82 l1 l2 o1 o2) → (r3 : ReadsSystem doppler text file 69 l2 l3 o2 o3) → (r4 : ReadsSystem doppler text file 67 l3 l4 o3 o4) → (r5 : ReadsSystem doppler text file 74 l4 l5 o4 o5) → (r6 : ReadsSystem doppler text file 83 l5 l6 o5 o6) → (r7 : ReadsSystem doppler text file 73 l6 l7 o6 o7)
+    → length l7 ≤ 69 → end ≡ o7 ++ unit_line → SystemsRead doppler text file o0 end l7
+systems_read doppler text file l0 l1 l2 l3 l4 l5 l6 l7 o0 o1 o2 o3 o4 o5 o6 o7 end known_file place empty r1 r2 r3 r4 r5 r6 r7 few last =
     let V : Type 0 = List AnyCode in
     let g1 : List AnyCode = r1.codes in
     let g2 : List AnyCode = r2.codes in
@@ -242,13 +242,13 @@ systems_read text file l0 l1 l2 l3 l4 l5 l6 l7 o0 o1 o2 o3 o4 o5 o6 o7 end known
     let g6 : List AnyCode = r6.codes in
     let g7 : List AnyCode = r7.codes in
     let parts : Parts g1 g2 g3 g4 g5 g6 g7 = record {
-      first = part_of text file 71 l0 l1 o0 o1 r1;
-      second = part_of text file 82 l1 l2 o1 o2 r2;
-      third = part_of text file 69 l2 l3 o2 o3 r3;
-      fourth = part_of text file 67 l3 l4 o3 o4 r4;
-      fifth = part_of text file 74 l4 l5 o4 o5 r5;
-      sixth = part_of text file 83 l5 l6 o5 o6 r6;
-      last = part_of text file 73 l6 l7 o6 o7 r7;
+      first = part_of doppler text file 71 l0 l1 o0 o1 r1;
+      second = part_of doppler text file 82 l1 l2 o1 o2 r2;
+      third = part_of doppler text file 69 l2 l3 o2 o3 r3;
+      fourth = part_of doppler text file 67 l3 l4 o3 o4 r4;
+      fifth = part_of doppler text file 74 l4 l5 o4 o5 r5;
+      sixth = part_of doppler text file 83 l5 l6 o5 o6 r6;
+      last = part_of doppler text file 73 l6 l7 o6 o7 r7;
     } in
     let is1 : l1 ≡ g1 = r1.listed ∙ ap (λ (x : List AnyCode). x ++ g1) empty in
     let is2 : l2 ≡ g1 ++ g2 = r2.listed ∙ ap (λ (x : List AnyCode). x ++ g2) is1 in
@@ -265,13 +265,13 @@ systems_read text file l0 l1 l2 l3 l4 l5 l6 l7 o0 o1 o2 o3 o4 o5 o6 o7 end known
     let own6 : codes_of 83 l7 ≡ g6 = ap (codes_of 83) is7 ∙ part_6 g1 g2 g3 g4 g5 g6 g7 parts in
     let own7 : codes_of 73 l7 ≡ g7 = ap (codes_of 73) is7 ∙ part_7 g1 g2 g3 g4 g5 g6 g7 parts in
     let dues : Dues file l5 l6 r1.begins r2.begins r3.begins r4.begins r5.begins r6.begins r7.begins g1 g2 g3 g4 g5 g6 g7 l0 l1 l2 l3 l4 = record {
-      first = due_of text file 71 l0 l1 o0 o1 r1;
-      second = due_of text file 82 l1 l2 o1 o2 r2;
-      third = due_of text file 69 l2 l3 o2 o3 r3;
-      fourth = due_of text file 67 l3 l4 o3 o4 r4;
-      fifth = due_of text file 74 l4 l5 o4 o5 r5;
-      sixth = due_of text file 83 l5 l6 o5 o6 r6;
-      last = due_of text file 73 l6 l7 o6 o7 r7;
+      first = due_of doppler text file 71 l0 l1 o0 o1 r1;
+      second = due_of doppler text file 82 l1 l2 o1 o2 r2;
+      third = due_of doppler text file 69 l2 l3 o2 o3 r3;
+      fourth = due_of doppler text file 67 l3 l4 o3 o4 r4;
+      fifth = due_of doppler text file 74 l4 l5 o4 o5 r5;
+      sixth = due_of doppler text file 83 l5 l6 o5 o6 r6;
+      last = due_of doppler text file 73 l6 l7 o6 o7 r7;
     } in
     let of : IsOfFile file l7 = subst (λ (x : List AnyCode). IsOfFile file x) (sym is7)
     (file_read file l5 l6 r1.begins r2.begins r3.begins r4.begins r5.begins r6.begins r7.begins g1 g2 g3 g4 g5 g6 g7 l0 l1 l2 l3 l4 known_file parts is5 is6 dues) in
@@ -314,50 +314,50 @@ systems_read text file l0 l1 l2 l3 l4 l5 l6 l7 o0 o1 o2 o3 o4 o5 o6 o7 end known
     h.0.0.0.0.0.1 h.0.0.0.0.1 h.0.0.0.1 h.0.0.1 h.0.1 h.1 none
     ∙ append-nil (((((g1 ++ g2) ++ g3) ++ g4) ++ g5) ++ g6) ∙ sym is6 in
     ap version_letter (sym all) ∙ h.0.0.0.0.0.0.letter ∙ mixed in
-    let read7 : Reads If6 Same (from (73 ∷ [])) (drop (length o6) text) l7 =
-    reads_system If6 Same (codes_of 73) 73 ([]) g7 (from ([])) text o6 o7 l7 (λ z. omega (arith, z)) refl place own7
-    (λ u h. group_or_none file 73 u place (omega arith) h.0.0.0.0.0.0) (λ u. starts_from ([]) u) r7.put
-    (λ u h g first. taken text file 73 l6 l7 o6 o7 r7 u h.0.0.0.0.0.0 g first)
-    (λ u h none first. skipped text file 73 l6 l7 o6 o7 r7 u h.0.0.0.0.0.0 none (λ m z. absurd (omega (arith, z))) (last_mixed u h none) first) end_read in
-    let read6 : Reads If5 Same (from (83 ∷ 73 ∷ [])) (drop (length o5) text) l7 =
-    reads_system If5 Same (codes_of 83) 83 (73 ∷ []) g6 (from (73 ∷ [])) text o5 o6 l7 (λ z. omega (arith, z)) refl place own6
-    (λ u h. group_or_none file 83 u place (omega arith) h.0.0.0.0.0) (λ u. starts_from (73 ∷ []) u) r6.put
-    (λ u h g first. taken text file 83 l5 l6 o5 o6 r6 u h.0.0.0.0.0 g first)
-    (λ u h none first. skipped text file 83 l5 l6 o5 o6 r6 u h.0.0.0.0.0 none (six_some u h none) (λ m z. absurd (omega (arith, z))) first) read7 in
-    let read5 : Reads If4 Same (from (74 ∷ 83 ∷ 73 ∷ [])) (drop (length o4) text) l7 =
-    reads_system If4 Same (codes_of 74) 74 (83 ∷ 73 ∷ []) g5 (from (83 ∷ 73 ∷ [])) text o4 o5 l7 (λ z. omega (arith, z)) refl place own5
-    (λ u h. group_or_none file 74 u place (omega arith) h.0.0.0.0) (λ u. starts_from (83 ∷ 73 ∷ []) u) r5.put
-    (λ u h g first. taken text file 74 l4 l5 o4 o5 r5 u h.0.0.0.0 g first)
-    (λ u h none first. skipped text file 74 l4 l5 o4 o5 r5 u h.0.0.0.0 none (λ m z. absurd (omega (arith, z))) (λ m z. absurd (omega (arith, z))) first) read6 in
-    let read4 : Reads If3 Same (from (67 ∷ 74 ∷ 83 ∷ 73 ∷ [])) (drop (length o3) text) l7 =
-    reads_system If3 Same (codes_of 67) 67 (74 ∷ 83 ∷ 73 ∷ []) g4 (from (74 ∷ 83 ∷ 73 ∷ [])) text o3 o4 l7 (λ z. omega (arith, z)) refl place own4
-    (λ u h. group_or_none file 67 u place (omega arith) h.0.0.0) (λ u. starts_from (74 ∷ 83 ∷ 73 ∷ []) u) r4.put
-    (λ u h g first. taken text file 67 l3 l4 o3 o4 r4 u h.0.0.0 g first)
-    (λ u h none first. skipped text file 67 l3 l4 o3 o4 r4 u h.0.0.0 none (λ m z. absurd (omega (arith, z))) (λ m z. absurd (omega (arith, z))) first) read5 in
-    let read3 : Reads If2 Same (from (69 ∷ 67 ∷ 74 ∷ 83 ∷ 73 ∷ [])) (drop (length o2) text) l7 =
-    reads_system If2 Same (codes_of 69) 69 (67 ∷ 74 ∷ 83 ∷ 73 ∷ []) g3 (from (67 ∷ 74 ∷ 83 ∷ 73 ∷ [])) text o2 o3 l7 (λ z. omega (arith, z)) refl place own3
-    (λ u h. group_or_none file 69 u place (omega arith) h.0.0) (λ u. starts_from (67 ∷ 74 ∷ 83 ∷ 73 ∷ []) u) r3.put
-    (λ u h g first. taken text file 69 l2 l3 o2 o3 r3 u h.0.0 g first)
-    (λ u h none first. skipped text file 69 l2 l3 o2 o3 r3 u h.0.0 none (λ m z. absurd (omega (arith, z))) (λ m z. absurd (omega (arith, z))) first) read4 in
-    let read2 : Reads If1 Same (from (82 ∷ 69 ∷ 67 ∷ 74 ∷ 83 ∷ 73 ∷ [])) (drop (length o1) text) l7 =
-    reads_system If1 Same (codes_of 82) 82 (69 ∷ 67 ∷ 74 ∷ 83 ∷ 73 ∷ []) g2 (from (69 ∷ 67 ∷ 74 ∷ 83 ∷ 73 ∷ [])) text o1 o2 l7 (λ z. omega (arith, z)) refl place own2
-    (λ u h. group_or_none file 82 u place (omega arith) h.0) (λ u. starts_from (69 ∷ 67 ∷ 74 ∷ 83 ∷ 73 ∷ []) u) r2.put
-    (λ u h g first. taken text file 82 l1 l2 o1 o2 r2 u h.0 g first)
-    (λ u h none first. skipped text file 82 l1 l2 o1 o2 r2 u h.0 none (λ m z. absurd (omega (arith, z))) (λ m z. absurd (omega (arith, z))) first) read3 in
-    let read1 : Reads If0 Same (from (71 ∷ 82 ∷ 69 ∷ 67 ∷ 74 ∷ 83 ∷ 73 ∷ [])) (drop (length o0) text) l7 =
-    reads_system If0 Same (codes_of 71) 71 (82 ∷ 69 ∷ 67 ∷ 74 ∷ 83 ∷ 73 ∷ []) g1 (from (82 ∷ 69 ∷ 67 ∷ 74 ∷ 83 ∷ 73 ∷ [])) text o0 o1 l7 (λ z. omega (arith, z)) refl place own1
-    (λ u h. group_or_none file 71 u place (omega arith) h) (λ u. starts_from (82 ∷ 69 ∷ 67 ∷ 74 ∷ 83 ∷ 73 ∷ []) u) r1.put
-    (λ u h g first. taken text file 71 l0 l1 o0 o1 r1 u h g first)
-    (λ u h none first. skipped text file 71 l0 l1 o0 o1 r1 u h none (λ m z. absurd (omega (arith, z))) (λ m z. absurd (omega (arith, z))) first) read2 in
-    let lines : types_and_unit l7 ≡ system_types_lines 71 g1 ++ (system_types_lines 82 g2 ++ (system_types_lines 69 g3 ++ (system_types_lines 67 g4 ++ (system_types_lines 74 g5 ++ (system_types_lines 83 g6 ++ (system_types_lines 73 g7 ++ unit_line)))))) =
-    types_from l7 ∙ (rw (own1, own2, own3, own4, own5, own6, own7) refl) in
+    let read7 : Reads If6 Same (from doppler (73 ∷ [])) (drop (length o6) text) l7 =
+    reads_system doppler If6 Same (codes_of 73) 73 ([]) g7 (from doppler ([])) text o6 o7 l7 (λ z. omega (arith, z)) refl place own7
+    (λ u h. group_or_none file 73 u place (omega arith) h.0.0.0.0.0.0) (λ u. starts_from doppler ([]) u) r7.put
+    (λ u h g first. taken doppler text file 73 l6 l7 o6 o7 r7 u h.0.0.0.0.0.0 g first)
+    (λ u h none first. skipped doppler text file 73 l6 l7 o6 o7 r7 u h.0.0.0.0.0.0 none (λ m z. absurd (omega (arith, z))) (last_mixed u h none) first) end_read in
+    let read6 : Reads If5 Same (from doppler (83 ∷ 73 ∷ [])) (drop (length o5) text) l7 =
+    reads_system doppler If5 Same (codes_of 83) 83 (73 ∷ []) g6 (from doppler (73 ∷ [])) text o5 o6 l7 (λ z. omega (arith, z)) refl place own6
+    (λ u h. group_or_none file 83 u place (omega arith) h.0.0.0.0.0) (λ u. starts_from doppler (73 ∷ []) u) r6.put
+    (λ u h g first. taken doppler text file 83 l5 l6 o5 o6 r6 u h.0.0.0.0.0 g first)
+    (λ u h none first. skipped doppler text file 83 l5 l6 o5 o6 r6 u h.0.0.0.0.0 none (six_some u h none) (λ m z. absurd (omega (arith, z))) first) read7 in
+    let read5 : Reads If4 Same (from doppler (74 ∷ 83 ∷ 73 ∷ [])) (drop (length o4) text) l7 =
+    reads_system doppler If4 Same (codes_of 74) 74 (83 ∷ 73 ∷ []) g5 (from doppler (83 ∷ 73 ∷ [])) text o4 o5 l7 (λ z. omega (arith, z)) refl place own5
+    (λ u h. group_or_none file 74 u place (omega arith) h.0.0.0.0) (λ u. starts_from doppler (83 ∷ 73 ∷ []) u) r5.put
+    (λ u h g first. taken doppler text file 74 l4 l5 o4 o5 r5 u h.0.0.0.0 g first)
+    (λ u h none first. skipped doppler text file 74 l4 l5 o4 o5 r5 u h.0.0.0.0 none (λ m z. absurd (omega (arith, z))) (λ m z. absurd (omega (arith, z))) first) read6 in
+    let read4 : Reads If3 Same (from doppler (67 ∷ 74 ∷ 83 ∷ 73 ∷ [])) (drop (length o3) text) l7 =
+    reads_system doppler If3 Same (codes_of 67) 67 (74 ∷ 83 ∷ 73 ∷ []) g4 (from doppler (74 ∷ 83 ∷ 73 ∷ [])) text o3 o4 l7 (λ z. omega (arith, z)) refl place own4
+    (λ u h. group_or_none file 67 u place (omega arith) h.0.0.0) (λ u. starts_from doppler (74 ∷ 83 ∷ 73 ∷ []) u) r4.put
+    (λ u h g first. taken doppler text file 67 l3 l4 o3 o4 r4 u h.0.0.0 g first)
+    (λ u h none first. skipped doppler text file 67 l3 l4 o3 o4 r4 u h.0.0.0 none (λ m z. absurd (omega (arith, z))) (λ m z. absurd (omega (arith, z))) first) read5 in
+    let read3 : Reads If2 Same (from doppler (69 ∷ 67 ∷ 74 ∷ 83 ∷ 73 ∷ [])) (drop (length o2) text) l7 =
+    reads_system doppler If2 Same (codes_of 69) 69 (67 ∷ 74 ∷ 83 ∷ 73 ∷ []) g3 (from doppler (67 ∷ 74 ∷ 83 ∷ 73 ∷ [])) text o2 o3 l7 (λ z. omega (arith, z)) refl place own3
+    (λ u h. group_or_none file 69 u place (omega arith) h.0.0) (λ u. starts_from doppler (67 ∷ 74 ∷ 83 ∷ 73 ∷ []) u) r3.put
+    (λ u h g first. taken doppler text file 69 l2 l3 o2 o3 r3 u h.0.0 g first)
+    (λ u h none first. skipped doppler text file 69 l2 l3 o2 o3 r3 u h.0.0 none (λ m z. absurd (omega (arith, z))) (λ m z. absurd (omega (arith, z))) first) read4 in
+    let read2 : Reads If1 Same (from doppler (82 ∷ 69 ∷ 67 ∷ 74 ∷ 83 ∷ 73 ∷ [])) (drop (length o1) text) l7 =
+    reads_system doppler If1 Same (codes_of 82) 82 (69 ∷ 67 ∷ 74 ∷ 83 ∷ 73 ∷ []) g2 (from doppler (69 ∷ 67 ∷ 74 ∷ 83 ∷ 73 ∷ [])) text o1 o2 l7 (λ z. omega (arith, z)) refl place own2
+    (λ u h. group_or_none file 82 u place (omega arith) h.0) (λ u. starts_from doppler (69 ∷ 67 ∷ 74 ∷ 83 ∷ 73 ∷ []) u) r2.put
+    (λ u h g first. taken doppler text file 82 l1 l2 o1 o2 r2 u h.0 g first)
+    (λ u h none first. skipped doppler text file 82 l1 l2 o1 o2 r2 u h.0 none (λ m z. absurd (omega (arith, z))) (λ m z. absurd (omega (arith, z))) first) read3 in
+    let read1 : Reads If0 Same (from doppler (71 ∷ 82 ∷ 69 ∷ 67 ∷ 74 ∷ 83 ∷ 73 ∷ [])) (drop (length o0) text) l7 =
+    reads_system doppler If0 Same (codes_of 71) 71 (82 ∷ 69 ∷ 67 ∷ 74 ∷ 83 ∷ 73 ∷ []) g1 (from doppler (82 ∷ 69 ∷ 67 ∷ 74 ∷ 83 ∷ 73 ∷ [])) text o0 o1 l7 (λ z. omega (arith, z)) refl place own1
+    (λ u h. group_or_none file 71 u place (omega arith) h) (λ u. starts_from doppler (82 ∷ 69 ∷ 67 ∷ 74 ∷ 83 ∷ 73 ∷ []) u) r1.put
+    (λ u h g first. taken doppler text file 71 l0 l1 o0 o1 r1 u h g first)
+    (λ u h none first. skipped doppler text file 71 l0 l1 o0 o1 r1 u h none (λ m z. absurd (omega (arith, z))) (λ m z. absurd (omega (arith, z))) first) read2 in
+    let lines : types_and_unit doppler l7 ≡ system_types_lines doppler 71 g1 ++ (system_types_lines doppler 82 g2 ++ (system_types_lines doppler 69 g3 ++ (system_types_lines doppler 67 g4 ++ (system_types_lines doppler 74 g5 ++ (system_types_lines doppler 83 g6 ++ (system_types_lines doppler 73 g7 ++ unit_line)))))) =
+    types_from doppler l7 ∙ (rw (own1, own2, own3, own4, own5, own6, own7) refl) in
     record {
       good = good;
-      put = last ∙ ap (λ (x : List ℕ). x ++ unit_line) (r7.put ∙ ap (λ (x : List ℕ). x ++ system_types_lines 73 g7) (r6.put ∙ ap (λ (x : List ℕ). x ++ system_types_lines 83 g6)
-          (r5.put ∙ ap (λ (x : List ℕ). x ++ system_types_lines 74 g5) (r4.put ∙ ap (λ (x : List ℕ). x ++ system_types_lines 67 g4)
-          (r3.put ∙ ap (λ (x : List ℕ). x ++ system_types_lines 69 g3) (r2.put ∙ ap (λ (x : List ℕ). x ++ system_types_lines 82 g2) r1.put))))))
+      put = last ∙ ap (λ (x : List ℕ). x ++ unit_line) (r7.put ∙ ap (λ (x : List ℕ). x ++ system_types_lines doppler 73 g7) (r6.put ∙ ap (λ (x : List ℕ). x ++ system_types_lines doppler 83 g6)
+          (r5.put ∙ ap (λ (x : List ℕ). x ++ system_types_lines doppler 74 g5) (r4.put ∙ ap (λ (x : List ℕ). x ++ system_types_lines doppler 67 g4)
+          (r3.put ∙ ap (λ (x : List ℕ). x ++ system_types_lines doppler 69 g3) (r2.put ∙ ap (λ (x : List ℕ). x ++ system_types_lines doppler 82 g2) r1.put))))))
           ∙ in_row o0 _ _ _ _ _ _ _ _ ∙ ap (λ (x : List ℕ). o0 ++ x) (sym lines);
       shown = λ u ls rest more h ok e t.
-          let r = read1 u ls rest more h ok (sym (types_from u) ∙ e) t in
-          record { rest = r.rest; begins = types_from l7 ∙ r.begins; whole = r.whole };
+          let r = read1 u ls rest more h ok (sym (types_from doppler u) ∙ e) t in
+          record { rest = r.rest; begins = types_from doppler l7 ∙ r.begins; whole = r.whole };
     }

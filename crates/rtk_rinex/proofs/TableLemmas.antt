@@ -19,7 +19,7 @@ value_if : (v : ℤ) (a b : ℕ) (c : Bool) → is_written v ≡ c → observati
 value_if v a b true e = refl
 value_if v a b false e = rw e refl
 
-observation-shown_value : (v : Option ℤ) (a b : ℕ) → observation (shown_value v) a b ≡ observation v a b
+pub observation-shown_value : (v : Option ℤ) (a b : ℕ) → observation (shown_value v) a b ≡ observation v a b
 observation-shown_value None a b = refl
 observation-shown_value (Some v) a b = value_if v a b (is_written v) refl
 
@@ -32,7 +32,7 @@ phase_if : (v : ℤ) (slip half : Bool) (d : ℕ) (c : Bool) → is_written v �
 phase_if v slip half d true e = rw (and-true slip, and-true half) refl
 phase_if v slip half d false e = rw e refl
 
-phase-shown_value : (v : Option ℤ) (slip half : Bool) (d : ℕ)
+pub phase-shown_value : (v : Option ℤ) (slip half : Bool) (d : ℕ)
     → observation (shown_value v) (lli_digit (slip && is_present v) (half && is_present v)) d ≡ observation v (lli_digit slip half) d
 phase-shown_value None slip half d = refl
 phase-shown_value (Some v) slip half d = phase_if v slip half d (is_written v) refl
@@ -41,14 +41,14 @@ is_value_if : (v : ℤ) (c : Bool) → is_written v ≡ c → is_present (if c t
 is_value_if v true e = e
 is_value_if v false e = refl
 
-is_value-shown_value : (v : Option ℤ) → is_present (shown_value v) ≡ is_present v
+pub is_value-shown_value : (v : Option ℤ) → is_present (shown_value v) ≡ is_present v
 is_value-shown_value None = refl
 is_value-shown_value (Some v) = is_value_if v (is_written v) refl
 
-observations-shown : (o : Observed) → observations (shown o) ≡ observations o
+pub observations-shown : (o : Observed) → observations (shown o) ≡ observations o
 observations-shown o = rw (observation-shown_value o.range_mm, phase-shown_value o.phase_millicycles) refl
 
-has_observation-shown : (o : Observed) → has_observation (shown o) ≡ has_observation o
+pub has_observation-shown : (o : Observed) → has_observation (shown o) ≡ has_observation o
 has_observation-shown o = rw (is_value-shown_value o.range_mm, is_value-shown_value o.phase_millicycles) refl
 
 pub observations-map : (os : List Observed) → flat_map observations (map shown os) ≡ flat_map observations os
@@ -104,7 +104,7 @@ written_if : (v : ℤ) (c : Bool) → is_written v ≡ c → IsAbsentOrWritten (
 written_if v true e = e
 written_if v false e = tt
 
-IsValue-shown_value : (v : Option ℤ) → IsAbsentOrWritten (shown_value v)
+pub IsValue-shown_value : (v : Option ℤ) → IsAbsentOrWritten (shown_value v)
 IsValue-shown_value None = tt
 IsValue-shown_value (Some v) = written_if v (is_written v) refl
 
@@ -116,7 +116,7 @@ lock_if : (v : ℤ) (slip half : Bool) (c : Bool) → IsLock (if c then Some v e
 lock_if v slip half true = tt
 lock_if v slip half false = (and-false slip, and-false half)
 
-IsLock-shown_value : (v : Option ℤ) (slip half : Bool) → IsLock (shown_value v) (slip && is_present v) (half && is_present v)
+pub IsLock-shown_value : (v : Option ℤ) (slip half : Bool) → IsLock (shown_value v) (slip && is_present v) (half && is_present v)
 IsLock-shown_value None slip half = (and-false slip, and-false half)
 IsLock-shown_value (Some v) slip half = lock_if v slip half (is_written v)
 
@@ -127,6 +127,7 @@ IsObserved-shown o h =
       phase = IsValue-shown_value o.phase_millicycles;
       strength = h;
       lock = IsLock-shown_value o.phase_millicycles o.slip o.half;
+      doppler = refl;
     }
 
 IsObserved-map : (os : List Observed) → All HasGoodStrength os → All IsObserved (map shown os)

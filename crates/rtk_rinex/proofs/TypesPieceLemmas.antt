@@ -52,7 +52,7 @@ length-head_of : (first : List ℕ) (j : ℕ) → length first ≡ 6 → length 
 length-head_of first zero h = h
 length-head_of first (suc j) h = refl
 
-length-piece_line : (first label text : List ℕ) (j : ℕ) → length first ≡ 6 → length label ≤ 20 → length (piece_line first label text j) ≡ 80
+pub length-piece_line : (first label text : List ℕ) (j : ℕ) → length first ≡ 6 → length label ≤ 20 → length (piece_line first label text j) ≡ 80
 unfolding piece_line row
 length-piece_line first label text j h g =
     let head : List ℕ = head_of first j in
@@ -129,7 +129,7 @@ line_shown first label text n a b file rest j six small e t lt =
 
 -- ---- no line has an end among its columns
 
-of_piece : (first label text : List ℕ) (j : ℕ) → HasNoEnd first → HasNoEnd label → HasNoEnd text → HasNoEnd (piece_line first label text j)
+pub of_piece : (first label text : List ℕ) (j : ℕ) → HasNoEnd first → HasNoEnd label → HasNoEnd text → HasNoEnd (piece_line first label text j)
 unfolding piece_line
 of_piece first label text zero h g i = of_row (first ++ take 52 text) label (both first (take 52 text) h (of_take 52 text i)) g
 of_piece first label text (suc j) h g i =

@@ -50,6 +50,7 @@ code_shown columns =
     record {
       range_mm = value_in (take 14 columns);
       phase_millicycles = value_in (take 14 (drop 16 columns));
+      doppler_millihertz = None;
       strength_millidbhz = strength_in (value_in (take 14 (drop 32 columns)));
       slip = slip_in (drop 30 columns);
       half = half_in (drop 30 columns);
@@ -152,13 +153,13 @@ lock_of-ends (Some v) true false second rest h = (refl, refl)
 lock_of-ends (Some v) false true second rest h = (refl, refl)
 lock_of-ends (Some v) false false second rest h = (refl, refl)
 
-abbrev observed_from : Option ℤ → Option ℤ → Option ℕ → Bool → Bool → Observed
-observed_from range phase strength slip half =
-    record { range_mm = range; phase_millicycles = phase; strength_millidbhz = strength; slip = slip; half = half }
+abbrev observed_from : Option ℤ → Option ℤ → Option ℤ → Option ℕ → Bool → Bool → Observed
+observed_from range phase shift strength slip half =
+    record { range_mm = range; phase_millicycles = phase; doppler_millihertz = shift; strength_millidbhz = strength; slip = slip; half = half }
 
-same_observed : (r p : Option ℤ) (s : Option ℕ) (a b : Bool) (r₂ p₂ : Option ℤ) (s₂ : Option ℕ) (a₂ b₂ : Bool)
-    → r ≡ r₂ → p ≡ p₂ → s ≡ s₂ → a ≡ a₂ → b ≡ b₂ → observed_from r p s a b ≡ observed_from r₂ p₂ s₂ a₂ b₂
-same_observed r p s a b r₂ p₂ s₂ a₂ b₂ e₁ e₂ e₃ e₄ e₅ = cc
+same_observed : (r p d : Option ℤ) (s : Option ℕ) (a b : Bool) (r₂ p₂ d₂ : Option ℤ) (s₂ : Option ℕ) (a₂ b₂ : Bool)
+    → r ≡ r₂ → p ≡ p₂ → d ≡ d₂ → s ≡ s₂ → a ≡ a₂ → b ≡ b₂ → observed_from r p d s a b ≡ observed_from r₂ p₂ d₂ s₂ a₂ b₂
+same_observed r p d s a b r₂ p₂ d₂ s₂ a₂ b₂ e₁ e₂ e₃ e₄ e₅ e₆ = cc
 
 -- what the text of a code's observations shows is the observations
 pub observed_of-observations : (o : Observed) → IsObserved o → code_shown (observations o) ≡ o
@@ -183,7 +184,7 @@ observed_of-observations o h =
     let strength : strength_in (value_in (take 14 (drop 32 ((a ++ b) ++ c)))) ≡ o.strength_millidbhz =
     rw (from_c, nothing, value_of-observation (strength_value o.strength_millidbhz) 32 32 [] (IsValue-strength o.strength_millidbhz h.strength)) (strength_of-value o.strength_millidbhz h.strength) in
     let lock = lock_of-ends o.phase_millicycles o.slip o.half digit c h.lock in
-    same_observed _ _ _ _ _ o.range_mm o.phase_millicycles o.strength_millidbhz o.slip o.half range phase strength (ap slip_in from_e ∙ lock.0) (ap half_in from_e ∙ lock.1)
+    same_observed _ _ _ _ _ _ o.range_mm o.phase_millicycles o.doppler_millihertz o.strength_millidbhz o.slip o.half range phase (sym h.doppler) strength (ap slip_in from_e ∙ lock.0) (ap half_in from_e ∙ lock.1)
 
 pub clash : (b : Bool) → b ≡ false → b ≡ true → ⊥
 clash b e f = let apart : false ≡ true = sym e ∙ f in cc

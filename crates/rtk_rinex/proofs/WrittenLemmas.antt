@@ -7,7 +7,7 @@ use Rattle.std.proofs.Math.Seq.{set-append_seam, take-append-add, drop-append-ad
 use Rattle.rtk_rinex.specs.declared.epoch_table.Observed.{Observed}
 use Rattle.rtk_rinex.specs.declared.epoch_table.SatelliteRow.{SatelliteRow}
 use Rattle.rtk_obs.specs.CivilText.{last_digits}
-use Rattle.rtk_rinex.specs.Record.{is_written, is_present, observation, observations, lli_digit, strength_digit, strength_value, has_observation, has_line, trim_end, satellite_line, no_observation}
+use Rattle.rtk_rinex.specs.Record.{is_written, is_present, observation, observations, observations_with_doppler, code_text, code_width, is_shown, lli_digit, strength_digit, strength_value, has_observation, has_observation_or_doppler, has_line, trim_end, satellite_line, no_observation}
 use Rattle.rtk_rinex.specs.RecordLines.{ended}
 use Rattle.rtk_rinex.specs.Steps.WrittenLines.{named_line}
 use Rattle.rtk_rinex.proofs.RecordLemmas.{trim_end-blank}
@@ -50,78 +50,134 @@ blank-cell o e =
     let two = or-none (is_present o.range_mm) (is_present o.phase_millicycles) parts.0 in
     rw (no_value o.range_mm 32 (strength_digit o.strength_millidbhz) two.0, no_value o.phase_millicycles (lli_digit o.slip o.half) (strength_digit o.strength_millidbhz) two.1, no_strength o.strength_millidbhz parts.1) refl
 
+length-shifted : (o : Observed) → length (observations_with_doppler o) ≡ 64
+length-shifted o =
+    let a = length-value o.range_mm 32 (strength_digit o.strength_millidbhz) in
+    let b = length-value o.phase_millicycles (lli_digit o.slip o.half) (strength_digit o.strength_millidbhz) in
+    let c = length-value o.doppler_millihertz 32 32 in
+    let d = length-value (strength_value o.strength_millidbhz) 32 32 in
+    simp length-append (omega (arith, a, b, c, d))
+
+blank-shifted : (o : Observed) → has_observation_or_doppler o ≡ false → observations_with_doppler o ≡ replicate 64 32
+blank-shifted o e =
+    let all = or-none (has_observation o) (is_present o.doppler_millihertz) e in
+    let parts = or-none (is_present o.range_mm || is_present o.phase_millicycles) (is_some o.strength_millidbhz) all.0 in
+    let two = or-none (is_present o.range_mm) (is_present o.phase_millicycles) parts.0 in
+    rw (no_value o.range_mm 32 (strength_digit o.strength_millidbhz) two.0, no_value o.phase_millicycles (lli_digit o.slip o.half) (strength_digit o.strength_millidbhz) two.1, no_value o.doppler_millihertz 32 32 all.1, no_strength o.strength_millidbhz parts.1) refl
+
+-- ---- a file with Doppler shifts (true), or without them
+
+pub length-code : (doppler : Bool) (o : Observed) → length (code_text doppler o) ≡ code_width doppler
+length-code false o = length-cell o
+length-code true o = length-shifted o
+
+pub blank-code : (doppler : Bool) (o : Observed) → is_shown doppler o ≡ false → code_text doppler o ≡ replicate (code_width doppler) 32
+blank-code false o e = blank-cell o e
+blank-code true o e = blank-shifted o e
+
+pub no-width : (doppler : Bool) → code_width doppler * 0 ≡ 0
+no-width false = refl
+no-width true = refl
+
+pub more-width : (doppler : Bool) (n : ℕ) → code_width doppler * suc n ≡ code_width doppler + code_width doppler * n
+more-width false n = omega arith
+more-width true n = omega arith
+
+pub wide : (doppler : Bool) → (48 ≤ code_width doppler) × (code_width doppler ≤ 64)
+wide false = (omega arith, omega arith)
+wide true = (omega arith, omega arith)
+
+none-shown : (doppler : Bool) → is_shown doppler no_observation ≡ false
+none-shown false = refl
+none-shown true = refl
+
 -- ---- the codes one after another
 
-pub length-cells : (os : List Observed) → length (flat_map observations os) ≡ 48 * length os
-length-cells [] = refl
-length-cells (o ∷ os) = length-append (observations o) (flat_map observations os) ∙ omega (arith, length-cell o, length-cells os)
+module _ (doppler : Bool) where
+  pub length-cells : (os : List Observed) → length (flat_map (code_text doppler) os) ≡ code_width doppler * length os
+  length-cells [] = sym (no-width doppler)
+  length-cells (o ∷ os) =
+      length-append (code_text doppler o) (flat_map (code_text doppler) os) ∙ omega (arith, length-code doppler o, length-cells os, more-width doppler (length os))
 
--- the columns of a line before its name is written
-pub columns-length : (columns : List ℕ) (os : List Observed) (j : ℕ) → columns ≡ replicate 3 32 ++ (flat_map observations os ++ replicate j 32) → length columns ≡ 3 + 48 * length os + j
-columns-length columns os j e = ap length e ∙ omega (arith, length-append (flat_map observations os) (replicate {A = ℕ} j 32), length-cells os, length-replicate {A = ℕ} j 32)
+  -- the columns of a line before its name is written
+  pub columns-length : (columns : List ℕ) (os : List Observed) (j : ℕ) → columns ≡ replicate 3 32 ++ (flat_map (code_text doppler) os ++ replicate j 32)
+      → length columns ≡ 3 + code_width doppler * length os + j
+  columns-length columns os j e =
+      ap length e ∙ omega (arith, length-append (flat_map (code_text doppler) os) (replicate {A = ℕ} j 32), length-cells os, length-replicate {A = ℕ} j 32)
 
--- a part of a text that stands after a first one
-pub over-front : (f ys g : List ℕ) (n m : ℕ) → n ≡ length f + m → take n (f ++ ys) ++ (g ++ drop 48 (drop n (f ++ ys))) ≡ f ++ (take m ys ++ (g ++ drop 48 (drop m ys)))
-over-front f ys g n m e =
-    rw (e, take-append-add f ys m, drop-append-add f ys m) (append_assoc f (take m ys) (g ++ drop 48 (drop m ys)))
+  -- a part of a text that stands after a first one
+  pub over-front : (f ys g : List ℕ) (n m : ℕ) → n ≡ length f + m
+      → take n (f ++ ys) ++ (g ++ drop (code_width doppler) (drop n (f ++ ys))) ≡ f ++ (take m ys ++ (g ++ drop (code_width doppler) (drop m ys)))
+  over-front f ys g n m e =
+      rw (e, take-append-add f ys m, drop-append-add f ys m) (append_assoc f (take m ys) (g ++ drop (code_width doppler) (drop m ys)))
 
--- the columns of one of the codes are written
-pub code-put : (os : List Observed) (k : ℕ) (o : Observed) (rest : List ℕ) → k < length os
-    → take (48 * k) (flat_map observations os ++ rest) ++ (observations o ++ drop 48 (drop (48 * k) (flat_map observations os ++ rest))) ≡ flat_map observations (set os k o) ++ rest
-code-put [] k o rest lt = absurd (omega arith)
-code-put (x ∷ os) zero o rest lt =
-    rw (append_assoc (observations x) (flat_map observations os) rest, drop_at (observations x) (flat_map observations os ++ rest) 48 (length-cell x)) (sym (append_assoc (observations o) (flat_map observations os) rest))
-code-put (x ∷ os) (suc k) o rest lt =
-    let place : 48 * suc k ≡ length (observations x) + 48 * k = omega (arith, length-cell x) in
-    rw (append_assoc (observations x) (flat_map observations os) rest)
-    (over-front (observations x) (flat_map observations os ++ rest) (observations o) (48 * suc k) (48 * k) place
-    ∙ ap (λ (ys : List ℕ). observations x ++ ys) (code-put os k o rest (omega arith)) ∙ sym (append_assoc (observations x) (flat_map observations (set os k o)) rest))
+  -- the columns of one of the codes are written
+  pub code-put : (os : List Observed) (k : ℕ) (o : Observed) (rest : List ℕ) → k < length os
+      → take (code_width doppler * k) (flat_map (code_text doppler) os ++ rest) ++ (code_text doppler o ++ drop (code_width doppler) (drop (code_width doppler * k) (flat_map (code_text doppler) os ++ rest)))
+      ≡ flat_map (code_text doppler) (set os k o) ++ rest
+  code-put [] k o rest lt = absurd (omega arith)
+  code-put (x ∷ os) zero o rest lt =
+      let text : List ℕ = flat_map (code_text doppler) (x ∷ os) ++ rest in
+      ap (λ (n : ℕ). take n text ++ (code_text doppler o ++ drop (code_width doppler) (drop n text))) (no-width doppler)
+      ∙ (rw (append_assoc (code_text doppler x) (flat_map (code_text doppler) os) rest, drop_at (code_text doppler x) (flat_map (code_text doppler) os ++ rest) (code_width doppler) (length-code doppler x))
+      (sym (append_assoc (code_text doppler o) (flat_map (code_text doppler) os) rest)))
+  code-put (x ∷ os) (suc k) o rest lt =
+      let place : code_width doppler * suc k ≡ length (code_text doppler x) + code_width doppler * k = omega (arith, length-code doppler x, more-width doppler k) in
+      rw (append_assoc (code_text doppler x) (flat_map (code_text doppler) os) rest)
+      (over-front (code_text doppler x) (flat_map (code_text doppler) os ++ rest) (code_text doppler o) (code_width doppler * suc k) (code_width doppler * k) place
+      ∙ ap (λ (ys : List ℕ). code_text doppler x ++ ys) (code-put os k o rest (omega arith)) ∙ sym (append_assoc (code_text doppler x) (flat_map (code_text doppler) (set os k o)) rest))
 
--- the columns of a code that shows nothing are blank
-pub code-blank : (os : List Observed) (k : ℕ) (d : Observed) (rest : List ℕ) → k < length os → has_observation (get_or os k d) ≡ false
-    → take 48 (drop (48 * k) (flat_map observations os ++ rest)) ≡ replicate 48 32
-code-blank [] k d rest lt none = absurd (omega arith)
-code-blank (x ∷ os) zero d rest lt none =
-    ap (take 48) (append_assoc (observations x) (flat_map observations os) rest) ∙ take_at (observations x) (flat_map observations os ++ rest) 48 (length-cell x) ∙ blank-cell x none
-code-blank (x ∷ os) (suc k) d rest lt none =
-    let place : 48 * suc k ≡ length (observations x) + 48 * k = omega (arith, length-cell x) in
-    rw (append_assoc (observations x) (flat_map observations os) rest, place, drop-append-add (observations x) (flat_map observations os ++ rest) (48 * k)) (code-blank os k d rest (omega arith) none)
+  -- the columns of a code that shows nothing are blank
+  pub code-blank : (os : List Observed) (k : ℕ) (d : Observed) (rest : List ℕ) → k < length os → is_shown doppler (get_or os k d) ≡ false
+      → take (code_width doppler) (drop (code_width doppler * k) (flat_map (code_text doppler) os ++ rest)) ≡ replicate (code_width doppler) 32
+  code-blank [] k d rest lt none = absurd (omega arith)
+  code-blank (x ∷ os) zero d rest lt none =
+      ap (λ (n : ℕ). take (code_width doppler) (drop n (flat_map (code_text doppler) (x ∷ os) ++ rest))) (no-width doppler)
+      ∙ ap (take (code_width doppler)) (append_assoc (code_text doppler x) (flat_map (code_text doppler) os) rest)
+      ∙ take_at (code_text doppler x) (flat_map (code_text doppler) os ++ rest) (code_width doppler) (length-code doppler x) ∙ blank-code doppler x none
+  code-blank (x ∷ os) (suc k) d rest lt none =
+      let place : code_width doppler * suc k ≡ length (code_text doppler x) + code_width doppler * k = omega (arith, length-code doppler x, more-width doppler k) in
+      ap (λ (n : ℕ). take (code_width doppler) (drop n (flat_map (code_text doppler) (x ∷ os) ++ rest))) place
+      ∙ ap (λ (t : List ℕ). take (code_width doppler) (drop (length (code_text doppler x) + code_width doppler * k) t)) (append_assoc (code_text doppler x) (flat_map (code_text doppler) os) rest)
+      ∙ ap (take (code_width doppler)) (drop-append-add (code_text doppler x) (flat_map (code_text doppler) os ++ rest) (code_width doppler * k))
+      ∙ code-blank os k d rest (omega arith) none
 
--- a code that shows nothing may show nothing in another way
-pub code-none : (os : List Observed) (k : ℕ) (o d : Observed) → has_observation (get_or os k d) ≡ false → has_observation o ≡ false → k < length os
-    → flat_map observations (set os k o) ≡ flat_map observations os
-code-none [] k o d none other lt = refl
-code-none (x ∷ os) zero o d none other lt = ap (λ (t : List ℕ). t ++ flat_map observations os) (blank-cell o other ∙ sym (blank-cell x none))
-code-none (x ∷ os) (suc k) o d none other lt = ap (λ (t : List ℕ). observations x ++ t) (code-none os k o d none other (omega arith))
+  -- a code that shows nothing may show nothing in another way
+  pub code-none : (os : List Observed) (k : ℕ) (o d : Observed) → is_shown doppler (get_or os k d) ≡ false → is_shown doppler o ≡ false → k < length os
+      → flat_map (code_text doppler) (set os k o) ≡ flat_map (code_text doppler) os
+  code-none [] k o d none other lt = refl
+  code-none (x ∷ os) zero o d none other lt = ap (λ (t : List ℕ). t ++ flat_map (code_text doppler) os) (blank-code doppler o other ∙ sym (blank-code doppler x none))
+  code-none (x ∷ os) (suc k) o d none other lt = ap (λ (t : List ℕ). code_text doppler x ++ t) (code-none os k o d none other (omega arith))
 
-or-third : (a b c : Bool) → (a || (b || c)) ≡ (b || (a || c))
-or-third true true c = refl
-or-third true false c = refl
-or-third false true c = refl
-or-third false false c = refl
+  or-third : (a b c : Bool) → (a || (b || c)) ≡ (b || (a || c))
+  or-third true true c = refl
+  or-third true false c = refl
+  or-third false true c = refl
+  or-third false false c = refl
 
-or-free : (a b c : Bool) → b ≡ false → (a || c) ≡ (a || (b || c))
-or-free a true c h = cc
-or-free a false c h = refl
+  or-free : (a b c : Bool) → b ≡ false → (a || c) ≡ (a || (b || c))
+  or-free a true c h = cc
+  or-free a false c h = refl
 
--- is an observation written after one more code?
-pub any-put : (os : List Observed) (k : ℕ) (o d : Observed) → k < length os → has_observation (get_or os k d) ≡ false
-    → list_any has_observation (set os k o) ≡ (has_observation o || list_any has_observation os)
-any-put [] k o d lt none = absurd (omega arith)
-any-put (x ∷ os) zero o d lt none = or-free (has_observation o) (has_observation x) (list_any has_observation os) none
-any-put (x ∷ os) (suc k) o d lt none =
-    ap (λ (b : Bool). has_observation x || b) (any-put os k o d (omega arith) none) ∙ or-third (has_observation x) (has_observation o) (list_any has_observation os)
+  -- is an observation written after one more code?
+  pub any-put : (os : List Observed) (k : ℕ) (o d : Observed) → k < length os → is_shown doppler (get_or os k d) ≡ false
+      → list_any (is_shown doppler) (set os k o) ≡ (is_shown doppler o || list_any (is_shown doppler) os)
+  any-put [] k o d lt none = absurd (omega arith)
+  any-put (x ∷ os) zero o d lt none = or-free (is_shown doppler o) (is_shown doppler x) (list_any (is_shown doppler) os) none
+  any-put (x ∷ os) (suc k) o d lt none =
+      ap (λ (b : Bool). is_shown doppler x || b) (any-put os k o d (omega arith) none) ∙ or-third (is_shown doppler x) (is_shown doppler o) (list_any (is_shown doppler) os)
 
--- codes that show nothing
-pub codes-blank : (n : ℕ) → flat_map observations (replicate n no_observation) ≡ replicate (48 * n) 32
-codes-blank zero = refl
-codes-blank (suc n) =
-    let sum : 48 + 48 * n ≡ 48 * suc n = omega arith in
-    ap (λ (t : List ℕ). observations no_observation ++ t) (codes-blank n) ∙ replicate-append-replicate {A = ℕ} 48 (48 * n) 32 ∙ ap (λ (m : ℕ). replicate m 32) sum
+  -- codes that show nothing
+  pub codes-blank : (n : ℕ) → flat_map (code_text doppler) (replicate n no_observation) ≡ replicate (code_width doppler * n) 32
+  codes-blank zero = ap (λ (m : ℕ). replicate {A = ℕ} m 32) (sym (no-width doppler))
+  codes-blank (suc n) =
+      ap (λ (t : List ℕ). t ++ flat_map (code_text doppler) (replicate n no_observation)) (blank-code doppler no_observation (none-shown doppler))
+      ∙ ap (λ (t : List ℕ). replicate (code_width doppler) 32 ++ t) (codes-blank n)
+      ∙ replicate-append-replicate {A = ℕ} (code_width doppler) (code_width doppler * n) 32 ∙ ap (λ (m : ℕ). replicate {A = ℕ} m 32) (sym (more-width doppler n))
 
-pub none-written : (n : ℕ) → list_any has_observation (replicate n no_observation) ≡ false
-none-written zero = refl
-none-written (suc n) = none-written n
+  pub none-written : (n : ℕ) → list_any (is_shown doppler) (replicate n no_observation) ≡ false
+  none-written zero = refl
+  none-written (suc n) = ap (λ (b : Bool). b || list_any (is_shown doppler) (replicate n no_observation)) (none-shown doppler) ∙ none-written n
 
 -- ---- the line of a satellite
 
@@ -184,12 +240,13 @@ named-rest line name field end three long is =
     ap (drop end) is ∙ ap (λ (n : ℕ). drop n (name ++ drop 3 line)) e ∙ drop-append-add name (drop 3 line) j ∙ drop-drop j 3 line ∙ ap (λ (n : ℕ). drop n line) back
 
 -- the line of a satellite, from its columns and blanks after them
-pub ended-line : (columns name : List ℕ) (os : List Observed) (j : ℕ) → columns ≡ replicate 3 32 ++ (flat_map observations os ++ replicate j 32)
-    → ended name columns ≡ named_line name os
-ended-line columns name os j e =
-    let parts : name ++ (flat_map observations os ++ replicate j 32) ≡ (name ++ flat_map observations os) ++ replicate j 32 = sym (append_assoc name (flat_map observations os) (replicate j 32)) in
+pub ended-line : (doppler : Bool) (columns name : List ℕ) (os : List Observed) (j : ℕ) → columns ≡ replicate 3 32 ++ (flat_map (code_text doppler) os ++ replicate j 32)
+    → ended name columns ≡ named_line doppler name os
+ended-line doppler columns name os j e =
+    let text : List ℕ = flat_map (code_text doppler) os in
+    let parts : name ++ (text ++ replicate j 32) ≡ (name ++ text) ++ replicate j 32 = sym (append_assoc name text (replicate j 32)) in
     ap (λ (xs : List ℕ). trim_end (name ++ drop 3 xs) ++ 10 ∷ []) e
-    ∙ ap (λ (xs : List ℕ). xs ++ 10 ∷ []) (ap trim_end parts ∙ trim_end-blanks (name ++ flat_map observations os) j)
+    ∙ ap (λ (xs : List ℕ). xs ++ 10 ∷ []) (ap trim_end parts ∙ trim_end-blanks (name ++ text) j)
 
 -- ---- the lines of the satellites
 

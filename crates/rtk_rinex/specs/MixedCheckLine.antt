@@ -4,7 +4,7 @@ use Rattle.std.specs.Prelude.{◌≡◌, ◌≢◌, ◌≤◌, ◌<◌, ℕ, ◌
 use Rattle.std.specs.Int.{IsInRange}
 use Rattle.rtk_obs.specs.SatelliteIndex.{IsSatelliteIndex, index_name}
 use Rattle.rtk_obs.specs.Reading.{IsMoment, reading_of}
-use Rattle.rtk_rinex.specs.Record.{epoch_line}
+use Rattle.rtk_rinex.specs.Record.{epoch_line, code_width}
 use Rattle.rtk_rinex.specs.MixedRecord.{mixed_satellite_line}
 use Rattle.rtk_rinex.specs.MixedForm.{FormView, width_at, most_satellites}
 use Rattle.rtk_rinex.specs.MixedTable.{IsMixedRow}
@@ -27,10 +27,10 @@ IsMixedEpochFault f first last line _ = ⊥
 
 -- formula
 -- the form of a satellite line: the name of a satellite of a system with codes, at most 48 columns for each
--- of these codes, and no blank at the end
+-- of these codes, or 64 with Doppler shifts, and no blank at the end
 abbrev pub IsMixedForm : FormView → List ℕ → ℕ → Type 0
 IsMixedForm f line s =
-    IsSatelliteIndex s × (take 3 line ≡ index_name s) × (0 < width_at f s) × (length line ≤ 4 + 48 * width_at f s)
+    IsSatelliteIndex s × (take 3 line ≡ index_name s) × (0 < width_at f s) × (length line ≤ 4 + code_width f.doppler * width_at f s)
     × (slice_get line (length line - 2) ≢ Some 32)
 
 -- a satellite line out of form; or out of order; or no row of a file has this line
@@ -38,5 +38,5 @@ abbrev pub IsMixedSatelliteFault : FormView → Option ℕ → List ℕ → Caus
 IsMixedSatelliteFault f last line Columns = (s : ℕ) → ¬ (IsMixedForm f line s)
 IsMixedSatelliteFault f last line Order = (s : ℕ) × IsMixedForm f line s × ¬ (IsNextSatellite last s)
 IsMixedSatelliteFault f last line Value =
-    (s : ℕ) × IsMixedForm f line s × IsNextSatellite last s × ((r : SatelliteRow) → IsMixedRow f r → line ≢ mixed_satellite_line r)
+    (s : ℕ) × IsMixedForm f line s × IsNextSatellite last s × ((r : SatelliteRow) → IsMixedRow f r → line ≢ mixed_satellite_line f.doppler r)
 IsMixedSatelliteFault f last line _ = ⊥

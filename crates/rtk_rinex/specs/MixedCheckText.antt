@@ -31,7 +31,7 @@ pub record IsFaultOfMixedRows (f : FormView) (count before : ℕ) (bytes : List 
   pub rest : List ℕ
   pub are_rows : AreMixedRows f None rows
   pub due : length rows < count
-  pub text : bytes ≡ flat_map mixed_satellite_line rows ++ rest
+  pub text : bytes ≡ flat_map (mixed_satellite_line f.doppler) rows ++ rest
   pub line : fault.line ≡ before + length rows + 1
   pub cause : BeginsWithFault (IsMixedSatelliteFault f (last_satellite None rows)) rest fault.cause
 
@@ -64,5 +64,5 @@ pub record IsFaultOfMixedRecords (f : FormView) (first before : ℕ) (bytes : Li
   pub epochs : List EpochTableView
   pub rest : List ℕ
   pub are_epochs : AreMixedEpochs f first None epochs
-  pub text : bytes ≡ flat_map mixed_record_text epochs ++ rest
+  pub text : bytes ≡ flat_map (mixed_record_text f.doppler) epochs ++ rest
   pub next : IsFaultOfMixedRecord f first (last_time None epochs) (before + record_lines epochs) rest fault

@@ -7,7 +7,8 @@ use Rattle.rtk_obs.specs.SatelliteIndex.{satellites_of_system, system_at, bit_at
 use Rattle.rtk_rinex.specs.MixedHead.{GlonassView, MixedHeadView}
 use Rattle.rtk_rinex.specs.MixedHeader.{codes_of}
 
--- how many codes the header lists of each system, and what it tells of GLONASS
+-- how many codes the header lists of each system, what it tells of GLONASS, and whether the lines show Doppler
+-- shifts
 pub record FormView : Type 0 where
   pub gps : ℕ
   pub glonass : ℕ
@@ -17,6 +18,7 @@ pub record FormView : Type 0 where
   pub sbas : ℕ
   pub navic : ℕ
   pub told : Option GlonassView
+  pub doppler : Bool
 
 -- how many codes a system has
 abbrev pub codes_in : FormView → System → ℕ
@@ -80,4 +82,5 @@ form_of_head h =
       sbas = length (codes_of 83 h.listed);
       navic = length (codes_of 73 h.listed);
       told = h.glonass;
+      doppler = h.doppler;
     }

@@ -23,13 +23,14 @@ pub record IsGlonassView (g : GlonassView) : Type 0 where
   pub channels : AreChannels g.channels
   pub leap_seconds : g.leap_seconds ≤ 99
 
--- the marker's name, the listed codes, what the file tells of GLONASS, and the moment at which it is
--- made
+-- the marker's name, the listed codes, what the file tells of GLONASS, the moment at which it is made, and whether
+-- it shows Doppler shifts
 pub record MixedHeadView : Type 0 where
   pub marker : List ℕ
   pub listed : List AnyCode
   pub glonass : Option GlonassView
   pub made : ℕ
+  pub doppler : Bool
 
 -- formula
 -- two codes, of which the first stands before the second: they are unlike, and the systems stand in the

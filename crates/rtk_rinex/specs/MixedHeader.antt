@@ -1,7 +1,7 @@
 -- The header of an observation file of any systems (RINEX 3.05, Table A2); the order of the lines and
 -- their fixed entries are this project's.
 -- Source: RINEX 3.05, Table A2
-use Rattle.std.specs.Prelude.{◌≡◌, ℕ, zero, suc, ◌+◌, ◌*◌, List, [], ◌∷◌, ◌==◌, if◌then◌else◌, ◌++◌, take, drop, length, map, flat_map, codes, decimal, ℤ, pos, negsuc, Option, Some, None, is_some}
+use Rattle.std.specs.Prelude.{◌≡◌, ℕ, Bool, true, false, zero, suc, ◌+◌, ◌*◌, List, [], ◌∷◌, ◌==◌, if◌then◌else◌, ◌++◌, take, drop, length, map, flat_map, codes, decimal, ℤ, pos, negsuc, Option, Some, None, is_some}
 use Rattle.std.specs.List.{filter, list_all, count_by}
 use Rattle.rtk_obs.specs.declared.any_code.AnyCode.{AnyCode}
 use Rattle.rtk_obs.specs.Code as gps
@@ -33,29 +33,46 @@ codes_of system = filter (λ c. letter c == system)
 -- ---- the observation types
 
 -- formula
--- the three observation types of a code, each after a blank: pseudorange, carrier phase and signal
--- strength (this project's choice)
+-- the three observation types of a code in a file without Doppler shifts, each after a blank: pseudorange, carrier
+-- phase and signal strength (this project's choice)
 abbrev pub three_types : AnyCode → List ℕ
 three_types c = codes " C" ++ name_of c ++ codes " L" ++ name_of c ++ codes " S" ++ name_of c
 
+-- formula
+-- the four observation types of a code in a file with Doppler shifts: the shift stands before the signal strength (this
+-- project's choice)
+abbrev pub four_types : AnyCode → List ℕ
+four_types c = codes " C" ++ name_of c ++ codes " L" ++ name_of c ++ codes " D" ++ name_of c ++ codes " S" ++ name_of c
+
+-- the observation types of a code in a file with Doppler shifts (true), or without them
+abbrev pub code_types : Bool → AnyCode → List ℕ
+code_types false = three_types
+code_types true = four_types
+
+-- how many observation types a code has
+abbrev pub types_count : Bool → ℕ
+types_count false = 3
+types_count true = 4
+
 -- the observation types of all codes, four columns each
-abbrev pub types_text : List AnyCode → List ℕ
-types_text = flat_map three_types
+abbrev pub types_text : Bool → List AnyCode → List ℕ
+types_text doppler = flat_map (code_types doppler)
 
 -- formula
 -- the lines of n codes of a system with these observation types: its letter and their number, then
--- thirteen on a line; 16 codes have 48 types on four lines
-abbrev pub types_lines_of : ℕ → ℕ → List ℕ → List ℕ
-types_lines_of system n text =
-    header_line (system ∷ codes "  " ++ right 3 (decimal (3 * n)) ++ take 52 text) types_label
+-- thirteen on a line; 16 codes have 48 types on four lines, or 64 types on five
+abbrev pub types_lines_of : Bool → ℕ → ℕ → List ℕ → List ℕ
+types_lines_of doppler system n text =
+    header_line (system ∷ codes "  " ++ right 3 (decimal (types_count doppler * n)) ++ take 52 text) types_label
     ++ continuation_line (drop 52 text)
     ++ continuation_line (drop 104 text)
     ++ continuation_line (drop 156 text)
+    ++ continuation_line (drop 208 text)
 
 -- the lines of the observation types of a system; nothing without codes
-abbrev pub system_types_lines : ℕ → List AnyCode → List ℕ
-system_types_lines system [] = []
-system_types_lines system (c ∷ cs) = types_lines_of system (length (c ∷ cs)) (types_text (c ∷ cs))
+abbrev pub system_types_lines : Bool → ℕ → List AnyCode → List ℕ
+system_types_lines doppler system [] = []
+system_types_lines doppler system (c ∷ cs) = types_lines_of doppler system (length (c ∷ cs)) (types_text doppler (c ∷ cs))
 
 -- formula
 -- the phase shifts of a system are unknown; nothing without codes
@@ -140,7 +157,7 @@ mixed_header_text h s first =
     ++ marker_line h.marker
     ++ unknown_lines
     ++ position_lines s
-    ++ by_system system_types_lines h.listed
+    ++ by_system (system_types_lines h.doppler) h.listed
     ++ unit_line
     ++ first_line (reading_of first)
     ++ by_system phase_shift_line h.listed
@@ -150,12 +167,13 @@ mixed_header_text h s first =
 -- ---- GPS alone
 
 -- formula
--- the head of a file of any systems has the codes of GPS alone, and else the same parts
+-- the head of a file of any systems has the codes of GPS alone, no Doppler shifts, and else the same parts
 pub record IsOfGps (h : HeadView) (m : MixedHeadView) : Type 0 where
   pub marker : m.marker ≡ h.marker
   pub listed : map text_of m.listed ≡ map (λ c. 71 ∷ gps.name_of c) h.listed
   pub glonass : m.glonass ≡ None
   pub made : m.made ≡ h.made
+  pub doppler : m.doppler ≡ false
 
 -- the header of codes of GPS alone is the header of a file of GPS
 abbrev pub GpsFilesStay : Type 0

@@ -15,7 +15,7 @@ pub record MixedRecordsView : Type 0 where
 -- these are the epochs whose records are left
 pub record AreMixedLeft (r : MixedRecordsView) (epochs : List EpochTableView) : Type 0 where
   pub are_epochs : All (IsMixedEpoch r.form) epochs
-  pub text : r.text ≡ flat_map mixed_record_text epochs
+  pub text : r.text ≡ flat_map (mixed_record_text r.form.doppler) epochs
 
 -- what is left are the records of some epochs
 abbrev pub IsMixedRecordsView : MixedRecordsView → Type 0
@@ -34,7 +34,7 @@ pub record MixedRowsView : Type 0 where
 pub record AreRowsLeft (r : MixedRowsView) (rows : List SatelliteRow) : Type 0 where
   pub are_rows : All (IsMixedRow r.form) rows
   pub count : length rows ≡ r.count
-  pub text : r.lines ≡ flat_map mixed_satellite_line rows
+  pub text : r.lines ≡ flat_map (mixed_satellite_line r.form.doppler) rows
 
 -- what is left are the lines of some rows, which are at most as many as satellites of all systems
 abbrev pub IsMixedRowsView : MixedRowsView → Type 0
@@ -44,7 +44,7 @@ IsMixedRowsView r = (r.count ≤ 221) × ∥ ((rows : List SatelliteRow) × AreR
 -- this is the record of an epoch, of which no row was read
 pub record IsRecordOf (e : EpochTableView) (r : MixedRowsView) : Type 0 where
   pub time : r.time ≡ e.time
-  pub text : r.text ≡ mixed_record_text e
+  pub text : r.text ≡ mixed_record_text r.form.doppler e
   pub rows : AreRowsLeft r e.rows
 
 -- formula

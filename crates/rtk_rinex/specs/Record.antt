@@ -1,6 +1,6 @@
 -- The record of an epoch (RINEX 3.05, Table A3).
 -- Source: RINEX 3.05, Table A3
-use Rattle.std.specs.Prelude.{◌≡◌, ◌<◌, ℕ, ◌+◌, ◌/◌, ◌%◌, List, [], ◌∷◌, ◌++◌, length, replicate, codes, decimal, ℤ, pos, negsuc, int_le, Bool, false, ◌==◌, not, ◌&&◌, ◌||◌, if◌then◌else◌, Option, Some, None, is_some, min, max, All, AllPairs}
+use Rattle.std.specs.Prelude.{◌≡◌, ◌<◌, ℕ, ◌+◌, ◌/◌, ◌%◌, List, [], ◌∷◌, ◌++◌, length, replicate, codes, decimal, ℤ, pos, negsuc, int_le, Bool, true, false, ◌==◌, not, ◌&&◌, ◌||◌, if◌then◌else◌, Option, Some, None, is_some, min, max, All, AllPairs}
 use Rattle.std.specs.Int.{IsInRange}
 use Rattle.std.specs.List.{flat_map, filter, list_any}
 use Rattle.std.specs.Ordering.{int_eq}
@@ -69,8 +69,8 @@ strength_value None = None
 strength_value (Some s) = Some (pos s)
 
 -- formula
--- what a code shows: pseudorange, carrier phase and signal strength; only the phase has a
--- loss-of-lock indicator, and the strength itself has no digits
+-- what a code shows in a file without Doppler shifts: pseudorange, carrier phase and signal strength; only the
+-- phase has a loss-of-lock indicator, and the strength itself has no digits
 abbrev pub observations : Observed → List ℕ
 observations o =
     observation o.range_mm 32 (strength_digit o.strength_millidbhz)
@@ -79,7 +79,7 @@ observations o =
 
 -- what a code shows without any value
 abbrev pub no_observation : Observed
-no_observation = record { range_mm = None; phase_millicycles = None; strength_millidbhz = None; slip = false; half = false }
+no_observation = record { range_mm = None; phase_millicycles = None; doppler_millihertz = None; strength_millidbhz = None; slip = false; half = false }
 
 -- there is a value, and it is written (this project's rule)
 abbrev pub is_present : Option ℤ → Bool
@@ -93,6 +93,41 @@ has_observation o = is_present o.range_mm || is_present o.phase_millicycles || i
 -- the satellite has a line: an observation of a listed code is written (this project's rule)
 abbrev pub has_line : SatelliteRow → Bool
 has_line r = list_any has_observation r.observed.items
+
+-- ---- files with Doppler shifts (true), and without them
+
+-- formula
+-- what a code shows in a file with Doppler shifts: the shift stands between the phase and the strength, and has no
+-- digits (this project's choice)
+abbrev pub observations_with_doppler : Observed → List ℕ
+observations_with_doppler o =
+    observation o.range_mm 32 (strength_digit o.strength_millidbhz)
+    ++ observation o.phase_millicycles (lli_digit o.slip o.half) (strength_digit o.strength_millidbhz)
+    ++ observation o.doppler_millihertz 32 32
+    ++ observation (strength_value o.strength_millidbhz) 32 32
+
+-- what a code shows
+abbrev pub code_text : Bool → Observed → List ℕ
+code_text false = observations
+code_text true = observations_with_doppler
+
+-- how many columns a code has
+abbrev pub code_width : Bool → ℕ
+code_width false = 48
+code_width true = 64
+
+-- an observation of the code is written, be it the shift (this project's rule)
+abbrev pub has_observation_or_doppler : Observed → Bool
+has_observation_or_doppler o = has_observation o || is_present o.doppler_millihertz
+
+-- an observation of the code is written
+abbrev pub is_shown : Bool → Observed → Bool
+is_shown false = has_observation
+is_shown true = has_observation_or_doppler
+
+-- the satellite has a line (this project's rule)
+abbrev pub has_line_in : Bool → SatelliteRow → Bool
+has_line_in doppler r = list_any (is_shown doppler) r.observed.items
 
 -- formula
 -- a character before a text without the blanks at its end (this project's rule)

@@ -3,7 +3,7 @@ use Rattle.std.specs.Prelude.{◌≡◌, ◌<◌, ◌≤◌, ◌+◌, ◌-◌, �
 use Rattle.std.specs.List.{flat_map, filter, list_any}
 use Rattle.rtk_rinex.specs.declared.epoch_table.Observed.{Observed}
 use Rattle.rtk_rinex.specs.declared.epoch_table.SatelliteRow.{SatelliteRow}
-use Rattle.rtk_rinex.specs.Record.{has_line, has_observation, observations, satellite_line, trim_end}
+use Rattle.rtk_rinex.specs.Record.{has_line, code_text, code_width, is_shown, satellite_line, trim_end}
 
 pub record RecordLinesView : Type 0 where
   -- the 36 columns of the epoch line and the lines of the satellites, or nothing without a satellite
@@ -29,24 +29,24 @@ pub record KeepsLines (old new : RecordLinesView) : Type 0 where
 
 -- ---- the line that is written code by code
 
--- the codes of the next line show these values: their columns stand after those of the satellite, and
--- are followed by blanks, of which the first is for the line feed
-pub record HasOpenLine (l : RecordLinesView) (observed : List Observed) : Type 0 where
+-- the codes of the next line show these values, with Doppler shifts (true) or without them: their columns stand
+-- after those of the satellite, and are followed by blanks, of which the first is for the line feed
+pub record HasOpenLine (doppler : Bool) (l : RecordLinesView) (observed : List Observed) : Type 0 where
   pub few : length observed ≤ 16
-  pub room : 4 + 48 * length observed ≤ length l.rest
-  pub columns : l.rest ≡ replicate 3 32 ++ (flat_map observations observed ++ replicate (length l.rest - (3 + 48 * length observed)) 32)
-  pub written : l.is_written ≡ list_any has_observation observed
+  pub room : 4 + code_width doppler * length observed ≤ length l.rest
+  pub columns : l.rest ≡ replicate 3 32 ++ (flat_map (code_text doppler) observed ++ replicate (length l.rest - (3 + code_width doppler * length observed)) 32)
+  pub written : l.is_written ≡ list_any (is_shown doppler) observed
 
 -- the code at this place shows nothing
-pub record IsFreeIn (observed : List Observed) (place : ℕ) : Type 0 where
+pub record IsFreeIn (doppler : Bool) (observed : List Observed) (place : ℕ) : Type 0 where
   pub inside : place < length observed
-  pub free : (d : Observed) → has_observation (slice_index_or observed place d) ≡ false
+  pub free : (d : Observed) → is_shown doppler (slice_index_or observed place d) ≡ false
 
 -- a line is open in which the code at this place shows nothing
-pub record HasFreeCode (l : RecordLinesView) (place : ℕ) : Type 0 where
+pub record HasFreeCode (doppler : Bool) (l : RecordLinesView) (place : ℕ) : Type 0 where
   pub observed : List Observed
-  pub open_line : HasOpenLine l observed
-  pub free : IsFreeIn observed place
+  pub open_line : HasOpenLine doppler l observed
+  pub free : IsFreeIn doppler observed place
 
 -- the line of a satellite of this name with these columns, of which the first three are those of the name
 abbrev pub ended : List ℕ → List ℕ → List ℕ
@@ -59,11 +59,11 @@ pub record IsKeptText (text : List ℕ) (len end count : ℕ) : Type 0 where
   pub few : count ≤ 221
   pub within : end ≤ length text
   pub from : len ≤ end
-  pub short : len ≤ 36 + 772 * count
+  pub short : len ≤ 36 + 1028 * count
   pub none : count ≡ 0 → len ≡ 0
   pub some : 0 < count → 36 ≤ len
   pub blank : drop end text ≡ replicate (length text - end) 32
   pub begun : len < end → max len 36 + 3 ≤ end
   pub fits : len < end → end < length text
-  pub bound : end ≤ max len 36 + 771
-  pub most : length text ≤ 194_580
+  pub bound : end ≤ max len 36 + 1027
+  pub most : length text ≤ 259_092

@@ -1,10 +1,10 @@
 -- Well-formed tables of observations, and their text: what a file of this project can be.
-use Rattle.std.specs.Prelude.{◌≡◌, ◌≢◌, ◌<◌, nat_lt, ℕ, List, [], ◌∷◌, ◌++◌, length, flat_map, map, All, AllPairs, ℤ, Option, Some, None, Bool, false, ◌&&◌, if◌then◌else◌, IsTrue}
+use Rattle.std.specs.Prelude.{◌≡◌, ◌≢◌, ◌<◌, nat_lt, ℕ, List, [], ◌∷◌, ◌++◌, length, flat_map, map, All, AllPairs, ℤ, Option, Some, None, Bool, true, false, ◌&&◌, if◌then◌else◌, IsTrue}
 use Rattle.std.specs.Int.{IsInRange}
 use Rattle.std.specs.List.{filter}
 use Rattle.rtk_obs.specs.Reading.{IsMoment}
 use Rattle.rtk_rinex.specs.Header.{HeadView, PositionView, IsHeadView, IsPositionView, header_text}
-use Rattle.rtk_rinex.specs.Record.{EpochTableView, IsEpochTableView, IsStrengthOrNone, HasWidth, is_written, is_present, has_line, record_text}
+use Rattle.rtk_rinex.specs.Record.{EpochTableView, IsEpochTableView, IsStrengthOrNone, HasWidth, is_written, is_present, has_line, has_line_in, record_text}
 use Rattle.rtk_rinex.specs.declared.epoch_table.Observed.{Observed}
 use Rattle.rtk_rinex.specs.declared.epoch_table.SatelliteRow.{SatelliteRow}
 
@@ -26,12 +26,27 @@ IsLock None slip half = (slip ≡ false) × (half ≡ false)
 IsLock (Some v) slip half = Unit {0}
 
 -- formula
--- what a code of a file can show
+-- what a code of a file without Doppler shifts can show
 pub record IsObserved (o : Observed) : Type 0 where
   pub range : IsAbsentOrWritten o.range_mm
   pub phase : IsAbsentOrWritten o.phase_millicycles
   pub strength : IsStrengthOrNone o.strength_millidbhz
   pub lock : IsLock o.phase_millicycles o.slip o.half
+  pub doppler : o.doppler_millihertz ≡ None
+
+-- formula
+-- what a code of a file with Doppler shifts can show
+pub record IsObservedWithDoppler (o : Observed) : Type 0 where
+  pub range : IsAbsentOrWritten o.range_mm
+  pub phase : IsAbsentOrWritten o.phase_millicycles
+  pub strength : IsStrengthOrNone o.strength_millidbhz
+  pub lock : IsLock o.phase_millicycles o.slip o.half
+  pub doppler : IsAbsentOrWritten o.doppler_millihertz
+
+-- what a code of a file with Doppler shifts (true), or without them, can show
+abbrev pub IsObservedIn : Bool → Observed → Type 0
+IsObservedIn false = IsObserved
+IsObservedIn true = IsObservedWithDoppler
 
 -- formula
 -- a satellite of a file of n codes: it has a line
@@ -73,12 +88,13 @@ abbrev pub shown_value : Option ℤ → Option ℤ
 shown_value None = None
 shown_value (Some v) = if is_written v then Some v else None
 
--- an observation as the file shows it
+-- an observation as a file without Doppler shifts shows it
 abbrev pub shown : Observed → Observed
 shown o =
     record {
       range_mm = shown_value o.range_mm;
       phase_millicycles = shown_value o.phase_millicycles;
+      doppler_millihertz = None;
       strength_millidbhz = o.strength_millidbhz;
       slip = o.slip && is_present o.phase_millicycles;
       half = o.half && is_present o.phase_millicycles;
@@ -90,6 +106,30 @@ shown_row r = record { satellite = r.satellite; observed = record { items = map 
 -- an epoch as the file shows it: the satellites that have a line, with what is written of them
 abbrev pub shown_epoch : EpochTableView → EpochTableView
 shown_epoch e = record { time = e.time; rows = map shown_row (filter has_line e.rows) }
+
+-- an observation as a file with Doppler shifts shows it
+abbrev pub shown_with_doppler : Observed → Observed
+shown_with_doppler o =
+    record {
+      range_mm = shown_value o.range_mm;
+      phase_millicycles = shown_value o.phase_millicycles;
+      doppler_millihertz = shown_value o.doppler_millihertz;
+      strength_millidbhz = o.strength_millidbhz;
+      slip = o.slip && is_present o.phase_millicycles;
+      half = o.half && is_present o.phase_millicycles;
+    }
+
+-- an observation as a file with Doppler shifts (true), or without them, shows it
+abbrev pub shown_in : Bool → Observed → Observed
+shown_in false = shown
+shown_in true = shown_with_doppler
+
+abbrev pub shown_row_in : Bool → SatelliteRow → SatelliteRow
+shown_row_in doppler r = record { satellite = r.satellite; observed = record { items = map (shown_in doppler) r.observed.items } }
+
+-- an epoch as such a file shows it: the satellites that have a line, with what is written of them
+abbrev pub shown_epoch_in : Bool → EpochTableView → EpochTableView
+shown_epoch_in doppler e = record { time = e.time; rows = map (shown_row_in doppler) (filter (has_line_in doppler) e.rows) }
 
 -- the epoch as the file shows it has the same record; if it has a row, it is an epoch of a
 -- well-formed table, else the record is empty

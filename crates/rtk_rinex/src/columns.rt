@@ -5,12 +5,28 @@
 ghost use Rattle.std.specs.Prelude.{◌≡◌, ℕ, ◌+◌, ◌*◌, ◌/◌, ◌%◌, ◌^◌, ◌<◌, ◌≤◌, ◌∷◌, ◌++◌, length, take, set, replicate, decimal, if◌then◌else◌, false, pos, negsuc, ◌≤ℤ◌};
 ghost use Rattle.rtk_obs.specs.CivilText.{last_digits};
 ghost use Rattle.rtk_rinex.specs.Columns.{right, decimals, fixed, seconds_of};
+ghost use Rattle.rtk_rinex.specs.Record.{code_width};
 
 use arrayvec::ArrayVec;
 use rtk_obs::Civil;
 
 /// The columns of a code: the pseudorange, the carrier phase and the signal strength, 16 each.
 pub(crate) const CODE_COLUMNS: usize = 48;
+
+/// The columns of a code in a file with Doppler shifts.
+pub(crate) const DOPPLER_COLUMNS: usize = 64;
+
+/// Returns the columns of a code in a file with Doppler shifts, or without them.
+pub(crate) fn code_columns(doppler: bool) -> usize
+    ensures value { result ≡ code_width doppler }
+    ensures few { result ≤ 64 }
+{
+    if doppler {
+        DOPPLER_COLUMNS
+    } else {
+        CODE_COLUMNS
+    }
+}
 
 /// The bytes of an epoch line, its LF included.
 pub(crate) const EPOCH_LINE: usize = 36;

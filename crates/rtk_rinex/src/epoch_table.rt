@@ -14,6 +14,8 @@ pub struct Observed {
     pub range_mm: Option<i64>,
     /// The carrier phase in thousandths of a cycle.
     pub phase_millicycles: Option<i64>,
+    /// The Doppler shift in thousandths of a Hz. Only files of any systems show it, and only those whose head says so.
+    pub doppler_millihertz: Option<i64>,
     /// The signal strength in thousandths of a dB-Hz.
     pub strength_millidbhz: Option<u32>,
     /// The phase has slipped since the last one.

@@ -9,7 +9,7 @@ ghost use Rattle.rtk_rinex.specs.KeptTable.{TextIsKept};
 ghost use Rattle.rtk_rinex.specs.MixedCheckTable.{MixedOneFault, MixedFaultMeansNoTable, MixedOneTable, MixedTextIsAccepted};
 ghost use Rattle.rtk_rinex.specs.MixedHeader.{GpsFilesStay};
 ghost use Rattle.rtk_rinex.specs.MixedRecord.{GpsRecordsStay};
-ghost use Rattle.rtk_rinex.specs.MixedTable.{MixedFilesAreTables};
+ghost use Rattle.rtk_rinex.specs.MixedTable.{MixedFilesAreTables, TypesTellShifts, GpsShowsNoShifts};
 ghost use Rattle.rtk_rinex.specs.Table.{RecordsAreOfTables, FilesAreTables};
 ghost use Rattle.rtk_rinex.specs.declared.check_fault.Cause.{Cause};
 ghost use Rattle.rtk_rinex.specs.declared.check_fault.CheckFault.{CheckFault};
@@ -80,6 +80,15 @@ pub fn gps_files_stay()
     ensures header { GpsFilesStay }
     ensures records { GpsRecordsStay }
 {}
+
+/// The third observation type of the first code of a file of any systems, in its tenth line, tells whether the file has
+/// Doppler shifts. A file of GPS has no type of a Doppler shift there.
+pub fn types_tell_shifts()
+    ensures mixed { TypesTellShifts }
+    ensures gps { GpsShowsNoShifts }
+{
+    any_code_laws();
+}
 
 /// `==` says whether two causes are the same, whether two faults of a text are the same in line and
 /// cause, and whether two faults of a head are the same.

@@ -89,6 +89,7 @@ pub use header_text::header;
 pub use laws::{
     fault_laws, files_are_tables, gps_files_stay, mixed_files_are_tables, one_fault,
     one_mixed_fault, records_are_of_tables, text_of_a_mixed_table, text_of_a_table,
+    types_tell_shifts,
 };
 pub use marker_name::Marker;
 pub use mixed_head::{MixedHead, is_mixed_list};

@@ -12,7 +12,7 @@ use rtk_message::System;
 use rtk_obs::{SatelliteIndex, any_code_laws, satellite_laws};
 use std::marker::Model;
 
-/// How many codes a header lists of each system, and what it tells of GLONASS.
+/// How many codes a header lists of each system, what it tells of GLONASS, and whether the lines show Doppler shifts.
 #[derive(Clone, Copy)]
 pub(crate) struct RecordForm {
     gps: usize,
@@ -23,6 +23,7 @@ pub(crate) struct RecordForm {
     sbas: usize,
     navic: usize,
     told: Option<Glonass>,
+    doppler: bool,
 }
 
 impl Model for RecordForm {
@@ -39,6 +40,7 @@ impl Model for RecordForm {
       sbas = f.sbas;
       navic = f.navic;
       told = f.told;
+      doppler = f.doppler;
     } };
 
     ghost invariant = { λ f. IsFormView (record {
@@ -50,6 +52,7 @@ impl Model for RecordForm {
       sbas = f.sbas;
       navic = f.navic;
       told = f.told;
+      doppler = f.doppler;
     }) };
 
     ghost inverse = { λ v. record {
@@ -61,6 +64,7 @@ impl Model for RecordForm {
       sbas = v.sbas;
       navic = v.navic;
       told = v.told;
+      doppler = v.doppler;
     } };
 }
 
@@ -106,6 +110,7 @@ impl RecordForm {
             sbas: count_of(b'S', head),
             navic: count_of(b'I', head),
             told: head.glonass(),
+            doppler: head.has_doppler(),
         }
     }
 
@@ -123,6 +128,13 @@ impl RecordForm {
             System::Sbas => self.sbas,
             System::Navic => self.navic,
         }
+    }
+
+    /// Returns whether the lines show Doppler shifts.
+    pub fn has_doppler(&self) -> bool
+        ensures { result ≡ self.now.doppler }
+    {
+        self.doppler
     }
 
     /// Returns whether the line of a satellite may show phases.

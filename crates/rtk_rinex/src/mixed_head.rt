@@ -1,6 +1,6 @@
 //! What is known of a file of any systems before its observations.
 
-ghost use Rattle.std.specs.Prelude.{◌≡◌, ◌≢◌, ◌%◌, ℕ, ◌<◌, length, slice_index_or, Decides, IfOk, IfErr};
+ghost use Rattle.std.specs.Prelude.{◌≡◌, ◌≢◌, ◌%◌, ℕ, ◌<◌, true, false, length, slice_index_or, Decides, IfOk, IfErr};
 ghost use Rattle.rtk_obs.specs.declared.any_code.AnyCode.{AnyCode};
 ghost use Rattle.rtk_obs.specs.AnyCode.{system_of, codes_before};
 ghost use Rattle.rtk_rinex.specs.Header.{IsMarker};
@@ -18,14 +18,15 @@ use std::marker::Model;
 const MOST_CODES: usize = 69;
 
 /// What is known of a file of any systems before its observations: the marker's name, the listed codes
-/// in their order, what the file tells of GLONASS, and the moment at which it is made, which the file
-/// shows as UTC.
+/// in their order, what the file tells of GLONASS, the moment at which it is made, which the file
+/// shows as UTC, and whether it shows Doppler shifts.
 #[derive(Drop)]
 pub struct MixedHead {
     marker: Marker,
     listed: ArrayVec<AnyCode, MOST_CODES>,
     glonass: Option<Glonass>,
     made: CreationTime,
+    doppler: bool,
 }
 
 impl Model for MixedHead {
@@ -33,9 +34,9 @@ impl Model for MixedHead {
 
     ghost Value = { MixedHeadView };
 
-    ghost view = { λ h. record { marker = h.marker; listed = h.listed.items; glonass = h.glonass; made = h.made } };
+    ghost view = { λ h. record { marker = h.marker; listed = h.listed.items; glonass = h.glonass; made = h.made; doppler = h.doppler } };
 
-    ghost invariant = { λ h. IsMixedHead (record { marker = h.marker; listed = h.listed.items; glonass = h.glonass; made = h.made }) };
+    ghost invariant = { λ h. IsMixedHead (record { marker = h.marker; listed = h.listed.items; glonass = h.glonass; made = h.made; doppler = h.doppler }) };
 }
 
 // Returns how many codes stand before those of the system of a code.
@@ -136,15 +137,15 @@ fn kept_list(codes: &[AnyCode]) -> ArrayVec<AnyCode, MOST_CODES>
 }
 
 impl MixedHead {
-    /// Makes the head of these parts if they are good, else answers the first cause why they make no
-    /// head.
+    /// Makes the head of these parts, of a file without Doppler shifts, if they are good, else answers the first cause
+    /// why they make no head.
     pub fn new(
         marker: Marker,
         codes: &[AnyCode],
         glonass: Option<Glonass>,
         made: CreationTime,
     ) -> Result<MixedHead, MixedHeadFault>
-        ensures head { IfOk result (λ h. h ≡ record { marker = marker; listed = codes.now; glonass = glonass; made = made }) }
+        ensures head { IfOk result (λ h. h ≡ record { marker = marker; listed = codes.now; glonass = glonass; made = made; doppler = false }) }
         ensures good { IfOk result IsMixedHead }
         ensures fault { IfErr result (IsMixedHeadFault codes.now glonass) }
     {
@@ -158,7 +159,41 @@ impl MixedHead {
             listed,
             glonass,
             made,
+            doppler: false,
         })
+    }
+
+    /// Returns the head of a file that shows Doppler shifts, and is as this one else.
+    pub fn with_doppler(self) -> MixedHead
+        ensures { result ≡ record { marker = self.marker; listed = self.listed; glonass = self.glonass; made = self.made; doppler = true } }
+    {
+        MixedHead {
+            marker: self.marker,
+            listed: self.listed,
+            glonass: self.glonass,
+            made: self.made,
+            doppler: true,
+        }
+    }
+
+    /// Returns the head of a file that shows Doppler shifts or not, and is as this one else.
+    pub fn with_doppler_if(self, is_shown: bool) -> MixedHead
+        ensures { result ≡ record { marker = self.marker; listed = self.listed; glonass = self.glonass; made = self.made; doppler = is_shown } }
+    {
+        MixedHead {
+            marker: self.marker,
+            listed: self.listed,
+            glonass: self.glonass,
+            made: self.made,
+            doppler: is_shown,
+        }
+    }
+
+    /// Returns whether the file shows Doppler shifts.
+    pub fn has_doppler(&self) -> bool
+        ensures { result ≡ self.now.doppler }
+    {
+        self.doppler
     }
 
     /// Returns the marker's name.

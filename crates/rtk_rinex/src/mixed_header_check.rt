@@ -1,7 +1,7 @@
 //! The check of a header of any systems: what its parts show is written again, and the two texts are
 //! compared, as header_check.rt does it for a header of GPS.
 
-ghost use Rattle.std.specs.Prelude.{◌≡◌, ℕ, ◌+◌, ◌≤◌, List, [], ◌++◌, length, drop, Option, IfOk, IfErr, OnErr, IfSome};
+ghost use Rattle.std.specs.Prelude.{◌≡◌, ℕ, false, ◌+◌, ◌≤◌, List, [], ◌++◌, length, drop, Option, IfOk, IfErr, OnErr, IfSome};
 ghost use Rattle.rtk_rinex.specs.Header.{IsPositionView, position_view};
 ghost use Rattle.rtk_rinex.specs.HeaderFault.{AreLines};
 ghost use Rattle.rtk_rinex.specs.MixedHead.{GlonassView, IsMixedHead, TellsGlonass};
@@ -29,7 +29,7 @@ use crate::mixed_header_text::{
     put_phase_shift_lines, put_slots_lines,
 };
 use crate::mixed_slots_read::read_slots;
-use crate::mixed_types_read::read_types;
+use crate::mixed_types_read::{read_types, shows_doppler};
 use arrayvec::ArrayVec;
 use rtk_obs::{AnyCode, GpsMs, Position, any_code_laws, civil};
 
@@ -75,7 +75,7 @@ fn read_glonass(
     listed: &[AnyCode],
     out: &mut ArrayVec<u8, LONGEST_MIXED_HEADER>,
 ) -> Option<Glonass>
-    requires room { length out.old.items ≤ 2916 }
+    requires room { length out.old.items ≤ 3402 }
     ensures due { TellsGlonass listed.now result }
     ensures written { out.new.items ≡ out.old.items ++ glonass_lines result }
     ensures shown { Reads {V = Option GlonassView} (TellsGlonass listed.now) (λ g. g ≡ result) glonass_lines (drop (length out.old.items) text.now) result }
@@ -100,6 +100,14 @@ struct MixedHeaderParts {
     first: GpsMs,
 }
 
+// Returns the head of a file that shows Doppler shifts or not, and is as this one else, which shows none.
+fn head_of(head: MixedHead, doppler: bool) -> MixedHead
+    requires { head.doppler ≡ false }
+    ensures { result ≡ record { marker = head.marker; listed = head.listed; glonass = head.glonass; made = head.made; doppler = doppler } }
+{
+    if doppler { head.with_doppler() } else { head }
+}
+
 // Writes a header of the parts that a text shows, and returns them. If the text begins with a header, it
 // is this one, as `read_header` of header_check.rt has it.
 fn read_mixed_header(text: &[u8], out: &mut ArrayVec<u8, LONGEST_MIXED_HEADER>) -> MixedHeaderParts
@@ -122,7 +130,8 @@ fn read_mixed_header(text: &[u8], out: &mut ArrayVec<u8, LONGEST_MIXED_HEADER>) 
     put_place_line(out, &place);
     let height = read_height(after(text, out.len())).unwrap_or(0);
     put_height_line(out, height);
-    let listed = read_types(text, file, out);
+    let doppler = shows_doppler(after(text, out.len()));
+    let listed = read_types(text, doppler, file, out);
     let first = read_first(after(text, out.len())).unwrap_or(any_moment());
     put_first_line(out, civil(first));
     put_phase_shift_lines(out, listed.as_slice());
@@ -132,7 +141,7 @@ fn read_mixed_header(text: &[u8], out: &mut ArrayVec<u8, LONGEST_MIXED_HEADER>) 
         unreachable!();
     };
     MixedHeaderParts {
-        head,
+        head: head_of(head, doppler),
         position: with_height(&place, height),
         first,
     }

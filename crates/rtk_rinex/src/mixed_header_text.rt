@@ -4,8 +4,8 @@ ghost use Rattle.std.specs.Prelude.{◌≡◌, ◌+◌, ◌*◌, ◌≤◌, ◌<
 ghost use Rattle.rtk_rinex.specs.Columns.{right};
 ghost use Rattle.rtk_rinex.specs.Header.{header_line, position_view};
 ghost use Rattle.rtk_rinex.specs.MixedHead.{IsMixedList};
-ghost use Rattle.rtk_rinex.specs.MixedHeader.{version_letter, mixed_version_line, codes_of, three_types, types_text, system_types_lines, phase_shift_line, by_system, channel_text, slot_text, slots_text, further_slots_line, slots_lines, biases_line, leap_line, glonass_lines, mixed_header_text};
-ghost use Rattle.rtk_rinex.specs.Steps.MixedRoom.{types_line_count};
+ghost use Rattle.rtk_rinex.specs.MixedHeader.{version_letter, mixed_version_line, codes_of, three_types, four_types, code_types, types_count, types_text, system_types_lines, phase_shift_line, by_system, channel_text, slot_text, slots_text, further_slots_line, slots_lines, biases_line, leap_line, glonass_lines, mixed_header_text};
+ghost use Rattle.rtk_rinex.specs.Steps.MixedRoom.{types_line_count, all_types_room};
 
 use crate::columns::{append, integer_3, integer_6, put_last_digits};
 use crate::digits::{after, front};
@@ -21,9 +21,9 @@ use std::alloc::{AllocError, Global};
 
 const SLOTS: &[u8] = b"GLONASS SLOT / FRQ #";
 
-/// The bytes of the longest header of all systems: 43 lines of 81 bytes, 18 of them with observation
-/// types and four with slots.
-pub(crate) const LONGEST_MIXED_HEADER: usize = 3483;
+/// The bytes of the longest header of all systems: 49 lines of 81 bytes, 24 of them with observation
+/// types and four with slots. Without Doppler shifts 18 lines have observation types.
+pub(crate) const LONGEST_MIXED_HEADER: usize = 3969;
 
 /// Returns the letter of the system of all codes, or M for several systems.
 pub(crate) fn version_letter(listed: &[AnyCode]) -> u8
@@ -43,7 +43,7 @@ pub(crate) fn version_letter(listed: &[AnyCode]) -> u8
 
 /// Puts the line with the version, the kind of the file and the letter of its system, or M.
 pub(crate) fn put_mixed_version_line(out: &mut ArrayVec<u8, LONGEST_MIXED_HEADER>, file: u8)
-    requires room { length out.old.items + 81 ≤ 3483 }
+    requires room { length out.old.items + 81 ≤ 3969 }
     ensures items { out.new.items ≡ out.old.items ++ mixed_version_line file }
     ensures len { length out.new.items ≡ length out.old.items + 81 }
 {
@@ -78,15 +78,48 @@ fn three_types(code: AnyCode) -> [u8; 12]
     ]
 }
 
+// Returns the observation types of a code in a file with Doppler shifts: the shift stands before the strength.
+fn four_types(code: AnyCode) -> [u8; 16]
+    ensures { result ≡ four_types code }
+{
+    let [band, attribute] = code.name();
+    [
+        b' ', b'C', band, attribute, b' ', b'L', band, attribute, b' ', b'D', band, attribute,
+        b' ', b'S', band, attribute,
+    ]
+}
+
+// Returns how many observation types these codes have in a file with Doppler shifts, or without them.
+fn count_of_types(doppler: bool, codes: usize) -> usize
+    requires { codes ≤ 16 }
+    ensures value { result ≡ types_count doppler * codes }
+    ensures few { result ≤ 64 }
+{
+    if doppler { 4 * codes } else { 3 * codes }
+}
+
+// Appends the observation types of a code.
+fn put_code_types(text: &mut ArrayVec<u8, 256>, doppler: bool, code: AnyCode)
+    requires { length text.old.items + 16 ≤ 256 }
+    ensures items { text.new.items ≡ text.old.items ++ code_types doppler code }
+    ensures len { length text.new.items ≡ length text.old.items + 4 * types_count doppler }
+{
+    if doppler {
+        append(text, &four_types(code));
+    } else {
+        append(text, &three_types(code));
+    }
+}
+
 // Returns the observation types of the codes, four columns each.
-fn types_text(codes: &[AnyCode]) -> ArrayVec<u8, 192>
+fn types_text(doppler: bool, codes: &[AnyCode]) -> ArrayVec<u8, 256>
     requires { length codes.now ≤ 16 }
-    ensures value { result.items ≡ types_text codes.now }
-    ensures len { length result.items ≡ 12 * length codes.now }
+    ensures value { result.items ≡ types_text doppler codes.now }
+    ensures len { length result.items ≡ 4 * types_count doppler * length codes.now }
 {
     let mut text = ArrayVec::new();
     for code in codes {
-        append(&mut text, &three_types(*code));
+        put_code_types(&mut text, doppler, *code);
     }
     text
 }
@@ -94,7 +127,7 @@ fn types_text(codes: &[AnyCode]) -> ArrayVec<u8, 192>
 // Returns the columns of the first line of the observation types of a system: its letter, how many types
 // there are, and those that the line shows.
 fn types_content(system: u8, count: usize, shown: &[u8]) -> ArrayVec<u8, 60>
-    requires count { count ≤ 48 }
+    requires count { count ≤ 64 }
     requires shown { length shown.now ≤ 52 }
     ensures value { result.items ≡ system ∷ codes "  " ++ right 3 (decimal count) ++ shown.now }
     ensures len { length result.items ≤ 60 }
@@ -109,61 +142,71 @@ fn types_content(system: u8, count: usize, shown: &[u8]) -> ArrayVec<u8, 60>
 /// Puts the lines of the observation types of codes of one system.
 pub(crate) fn put_types_of(
     out: &mut ArrayVec<u8, LONGEST_MIXED_HEADER>,
+    doppler: bool,
     system: u8,
     codes: &[AnyCode],
 )
     requires few { length codes.now ≤ 16 }
-    requires room { length out.old.items + 324 ≤ 3483 }
-    ensures items { out.new.items ≡ out.old.items ++ system_types_lines system codes.now }
+    requires room { length out.old.items + 405 ≤ 3969 }
+    ensures items { out.new.items ≡ out.old.items ++ system_types_lines doppler system codes.now }
 {
     if codes.len() == 0 {
         return;
     }
-    let types = types_text(codes);
+    let count = count_of_types(doppler, codes.len());
+    let types = types_text(doppler, codes);
     let text = types.as_slice();
     put_header_line(
         out,
-        types_content(system, 3 * codes.len(), front(text, 52)).as_slice(),
+        types_content(system, count, front(text, 52)).as_slice(),
         TYPES,
     );
     put_continuation_line(out, after(text, 52));
     put_continuation_line(out, after(text, 104));
     put_continuation_line(out, after(text, 156));
+    put_continuation_line(out, after(text, 208));
 }
 
 /// Puts the lines of the observation types of the system of this letter.
 pub(crate) fn put_system_types_lines(
     out: &mut ArrayVec<u8, LONGEST_MIXED_HEADER>,
+    doppler: bool,
     system: u8,
     listed: &[AnyCode],
 )
     requires listed { IsMixedList listed.now }
-    requires room { length out.old.items + 324 ≤ 3483 }
-    ensures items { out.new.items ≡ out.old.items ++ system_types_lines system (codes_of system listed.now) }
-    ensures lines { length out.new.items ≤ length out.old.items + 81 * types_line_count (length (codes_of system listed.now)) }
+    requires room { length out.old.items + 405 ≤ 3969 }
+    ensures items { out.new.items ≡ out.old.items ++ system_types_lines doppler system (codes_of system listed.now) }
+    ensures lines { length out.new.items ≤ length out.old.items + 81 * types_line_count doppler (length (codes_of system listed.now)) }
+    ensures room { length out.new.items ≤ length out.old.items + 405 }
     ensures few { length (codes_of system listed.now) ≤ 16 }
 {
     // A law: a place belongs to one code of a system, and is below 16.
     any_code_laws();
-    put_types_of(out, system, codes_of(system, listed).as_slice());
+    put_types_of(out, doppler, system, codes_of(system, listed).as_slice());
 }
 
 /// Puts the lines of the observation types of all systems.
-pub(crate) fn put_all_types_lines(out: &mut ArrayVec<u8, LONGEST_MIXED_HEADER>, listed: &[AnyCode])
+pub(crate) fn put_all_types_lines(
+    out: &mut ArrayVec<u8, LONGEST_MIXED_HEADER>,
+    doppler: bool,
+    listed: &[AnyCode],
+)
     requires listed { IsMixedList listed.now }
-    requires room { length out.old.items + 2268 ≤ 3483 }
-    ensures items { out.new.items ≡ out.old.items ++ by_system system_types_lines listed.now }
-    ensures len { length out.new.items ≤ length out.old.items + 1458 }
+    requires room { length out.old.items + 2835 ≤ 3969 }
+    ensures items { out.new.items ≡ out.old.items ++ by_system (system_types_lines doppler) listed.now }
+    ensures len { length out.new.items ≤ length out.old.items + all_types_room doppler }
+    ensures room { length out.new.items ≤ length out.old.items + 2835 }
 {
     // A law: a place belongs to one code of a system.
     any_code_laws();
-    put_system_types_lines(out, b'G', listed);
-    put_system_types_lines(out, b'R', listed);
-    put_system_types_lines(out, b'E', listed);
-    put_system_types_lines(out, b'C', listed);
-    put_system_types_lines(out, b'J', listed);
-    put_system_types_lines(out, b'S', listed);
-    put_system_types_lines(out, b'I', listed);
+    put_system_types_lines(out, doppler, b'G', listed);
+    put_system_types_lines(out, doppler, b'R', listed);
+    put_system_types_lines(out, doppler, b'E', listed);
+    put_system_types_lines(out, doppler, b'C', listed);
+    put_system_types_lines(out, doppler, b'J', listed);
+    put_system_types_lines(out, doppler, b'S', listed);
+    put_system_types_lines(out, doppler, b'I', listed);
 }
 
 // Puts the line with the phase shifts of the system of this letter, which are unknown.
@@ -173,7 +216,7 @@ fn put_phase_shift_line(
     listed: &[AnyCode],
 )
     requires listed { length listed.now ≤ 69 }
-    requires room { length out.old.items + 81 ≤ 3483 }
+    requires room { length out.old.items + 81 ≤ 3969 }
     ensures items { out.new.items ≡ out.old.items ++ phase_shift_line system (codes_of system listed.now) }
     ensures len { length out.new.items ≤ length out.old.items + 81 }
 {
@@ -188,7 +231,7 @@ pub(crate) fn put_phase_shift_lines(
     listed: &[AnyCode],
 )
     requires listed { length listed.now ≤ 69 }
-    requires room { length out.old.items + 567 ≤ 3483 }
+    requires room { length out.old.items + 567 ≤ 3969 }
     ensures items { out.new.items ≡ out.old.items ++ by_system phase_shift_line listed.now }
     ensures len { length out.new.items ≤ length out.old.items + 567 }
 {
@@ -274,7 +317,7 @@ fn further_slots_content(text: &[u8]) -> ArrayVec<u8, 60>
 
 // Puts a further line of slots if any slots are left.
 fn put_further_slots_line(out: &mut ArrayVec<u8, LONGEST_MIXED_HEADER>, text: &[u8])
-    requires room { length out.old.items + 81 ≤ 3483 }
+    requires room { length out.old.items + 81 ≤ 3969 }
     ensures items { out.new.items ≡ out.old.items ++ further_slots_line text.now }
     ensures len { length out.new.items ≤ length out.old.items + 81 }
 {
@@ -286,7 +329,7 @@ fn put_further_slots_line(out: &mut ArrayVec<u8, LONGEST_MIXED_HEADER>, text: &[
 /// Puts the lines of the slots of GLONASS that have a channel. Eight slots of seven columns stand on a
 /// line, which are 56 columns. 27 slots have 189 columns.
 pub(crate) fn put_slots_lines(out: &mut ArrayVec<u8, LONGEST_MIXED_HEADER>, channels: Channels)
-    requires room { length out.old.items + 324 ≤ 3483 }
+    requires room { length out.old.items + 324 ≤ 3969 }
     ensures items { out.new.items ≡ out.old.items ++ slots_lines channels }
     ensures len { length out.new.items ≤ length out.old.items + 324 }
 {
@@ -304,7 +347,7 @@ pub(crate) fn put_slots_lines(out: &mut ArrayVec<u8, LONGEST_MIXED_HEADER>, chan
 
 /// Puts the line with the biases of GLONASS, which are unknown.
 pub(crate) fn put_biases_line(out: &mut ArrayVec<u8, LONGEST_MIXED_HEADER>)
-    requires room { length out.old.items + 81 ≤ 3483 }
+    requires room { length out.old.items + 81 ≤ 3969 }
     ensures items { out.new.items ≡ out.old.items ++ biases_line }
     ensures len { length out.new.items ≡ length out.old.items + 81 }
 {
@@ -313,7 +356,7 @@ pub(crate) fn put_biases_line(out: &mut ArrayVec<u8, LONGEST_MIXED_HEADER>)
 
 /// Puts the line with the leap seconds.
 pub(crate) fn put_leap_line(out: &mut ArrayVec<u8, LONGEST_MIXED_HEADER>, leap_seconds: u8)
-    requires room { length out.old.items + 81 ≤ 3483 }
+    requires room { length out.old.items + 81 ≤ 3969 }
     ensures items { out.new.items ≡ out.old.items ++ leap_line leap_seconds }
     ensures len { length out.new.items ≡ length out.old.items + 81 }
 {
@@ -322,7 +365,7 @@ pub(crate) fn put_leap_line(out: &mut ArrayVec<u8, LONGEST_MIXED_HEADER>, leap_s
 
 // Puts the lines of GLONASS if the file tells of it.
 fn put_glonass_lines(out: &mut ArrayVec<u8, LONGEST_MIXED_HEADER>, glonass: Option<Glonass>)
-    requires room { length out.old.items + 486 ≤ 3483 }
+    requires room { length out.old.items + 486 ≤ 3969 }
     ensures items { out.new.items ≡ out.old.items ++ glonass_lines glonass }
     ensures len { length out.new.items ≤ length out.old.items + 486 }
 {
@@ -335,7 +378,7 @@ fn put_glonass_lines(out: &mut ArrayVec<u8, LONGEST_MIXED_HEADER>, glonass: Opti
 
 /// Puts the line that ends a header.
 pub(crate) fn put_end_line(out: &mut ArrayVec<u8, LONGEST_MIXED_HEADER>)
-    requires room { length out.old.items + 81 ≤ 3483 }
+    requires room { length out.old.items + 81 ≤ 3969 }
     ensures items { out.new.items ≡ out.old.items ++ header_line [] (codes "END OF HEADER") }
     ensures len { length out.new.items ≡ length out.old.items + 81 }
 {
@@ -348,7 +391,8 @@ fn mixed_header_lines(
     position: &Position,
     first: GpsMs,
 ) -> ArrayVec<u8, LONGEST_MIXED_HEADER>
-    ensures { result.items ≡ mixed_header_text head.now (position_view position.now) first }
+    ensures value { result.items ≡ mixed_header_text head.now (position_view position.now) first }
+    ensures few { length result.items ≤ (if head.now.doppler then 3969 else 3483) }
 {
     let mut out = ArrayVec::new();
     put_mixed_version_line(&mut out, version_letter(head.codes()));
@@ -357,13 +401,20 @@ fn mixed_header_lines(
     put_unknown_lines(&mut out);
     put_place_line(&mut out, position);
     put_height_line(&mut out, position.height);
-    put_all_types_lines(&mut out, head.codes());
+    put_all_types_lines(&mut out, head.has_doppler(), head.codes());
     put_unit_line(&mut out);
     put_first_line(&mut out, civil(first));
     put_phase_shift_lines(&mut out, head.codes());
     put_glonass_lines(&mut out, head.glonass());
     put_end_line(&mut out);
     out
+}
+
+// Returns the bytes of the longest header of a file with Doppler shifts, or without them.
+fn longest_header(doppler: bool) -> usize
+    ensures { result ≡ (if doppler then 3969 else 3483) }
+{
+    if doppler { LONGEST_MIXED_HEADER } else { 3483 }
 }
 
 /// Returns the header of a file of this head, whose first observation is at `first`, as `header` does
@@ -378,10 +429,10 @@ pub fn mixed_header(
 ) -> Result<Vec<u8>, AllocError>
     // Fails only if memory is refused: tests/system/calls, rows `mixed_header ..`.
     ensures value { IfOk result (λ text. text.items ≡ mixed_header_text head.now (position_view position.now) first) }
-    ensures few { IfOk result (λ text. length text.items ≤ 3483) }
+    ensures few { IfOk result (λ text. length text.items ≤ (if head.now.doppler then 3969 else 3483)) }
 {
     let lines = mixed_header_lines(head, position, first);
-    let mut out = Vec::with_capacity(alloc, LONGEST_MIXED_HEADER)?;
+    let mut out = Vec::with_capacity(alloc, longest_header(head.has_doppler()))?;
     out.extend_from_slice(lines.as_slice())?;
     Ok(out)
 }

@@ -19,7 +19,7 @@ use crate::mixed_form::RecordForm;
 use crate::mixed_satellite_line_check::satellite_of_mixed_form;
 use crate::records::skip_rows;
 use crate::records_check::next_line;
-use crate::satellite_line_read::read_cells;
+use crate::satellite_line_read::read_cells_in;
 use arrayvec::ArrayVec;
 use rtk_obs::{GpsMs, SatelliteIndex};
 use std::marker::Model;
@@ -64,8 +64,8 @@ impl<'a> Model for MixedRows<'a> {
 // Returns the moment and the count of the epoch line that begins a text, and the text after this line.
 fn read_stamp<'a>(text: &'a [u8], form: &RecordForm) -> (EpochStamp, &'a [u8])
     requires { ∥ BeginsWithMixedRecord form.now text.now ∥₁ }
-    ensures stamp { (e : EpochTableView) (rest : List ℕ) → IsMixedEpoch form.now e → text.now ≡ mixed_record_text e ++ rest
-        → (result.0.time ≡ e.time) × (result.0.count ≡ length e.rows) × (result.1.now ≡ flat_map mixed_satellite_line e.rows ++ rest) }
+    ensures stamp { (e : EpochTableView) (rest : List ℕ) → IsMixedEpoch form.now e → text.now ≡ mixed_record_text form.now.doppler e ++ rest
+        → (result.0.time ≡ e.time) × (result.0.count ≡ length e.rows) × (result.1.now ≡ flat_map (mixed_satellite_line form.now.doppler) e.rows ++ rest) }
     ensures few { result.0.count ≤ 221 }
     ensures len { length result.1.now ≤ length text.now }
 {
@@ -94,24 +94,30 @@ fn read_mixed_row(
     observed: &mut ArrayVec<Observed, 16>,
 ) -> SatelliteIndex
     requires line { IsLine line.now }
-    requires some { ∥ ((r : SatelliteRow) × IsMixedRow form.now r × (line.now ≡ mixed_satellite_line r)) ∥₁ }
+    requires some { ∥ ((r : SatelliteRow) × IsMixedRow form.now r × (line.now ≡ mixed_satellite_line form.now.doppler r)) ∥₁ }
     ensures row { IsMixedRow form.now (record { satellite = result; observed = observed.new }) }
-    ensures text { line.now ≡ mixed_satellite_line (record { satellite = result; observed = observed.new }) }
+    ensures text { line.now ≡ mixed_satellite_line form.now.doppler (record { satellite = result; observed = observed.new }) }
 {
     let Some(satellite) = satellite_of_mixed_form(line, form) else {
         unreachable!();
     };
-    read_cells(&line[3..line.len() - 1], form.width(satellite), observed);
+    read_cells_in(
+        form.has_doppler(),
+        &line[3..line.len() - 1],
+        form.width(satellite),
+        observed,
+    );
     satellite
 }
 
 // Returns the record that begins a text, and the text after it.
 fn first_record<'a>(text: &'a [u8], form: &RecordForm) -> (MixedRows<'a>, &'a [u8])
     requires { ∥ BeginsWithMixedRecord form.now text.now ∥₁ }
-    ensures parts { (e : EpochTableView) (rest : List ℕ) → IsMixedEpoch form.now e → text.now ≡ mixed_record_text e ++ rest
+    ensures parts { (e : EpochTableView) (rest : List ℕ) → IsMixedEpoch form.now e → text.now ≡ mixed_record_text form.now.doppler e ++ rest
         → IsRecordOf e result.0 × (result.1.now ≡ rest) }
     ensures whole { text.now ≡ result.0.text ++ result.1.now }
     ensures few { result.0.count ≤ 221 }
+    ensures form { result.0.form ≡ form.now }
 {
     let (stamp, lines) = read_stamp(text, form);
     let skipped = skip_rows(lines, stamp.count);
@@ -157,6 +163,13 @@ impl<'a> MixedRows<'a> {
         ensures { result.now ≡ self.now.text }
     {
         self.text
+    }
+
+    /// Returns whether the lines of the record show Doppler shifts.
+    pub fn has_doppler(&self) -> bool
+        ensures { result ≡ self.now.form.doppler }
+    {
+        self.form.has_doppler()
     }
 
     /// Returns how many rows are still to be read.
@@ -229,6 +242,7 @@ impl<'a> MixedRecords<'a> {
             ((self.old.text ≡ []) × (self.new ≡ self.old))
             (λ rows. self.old.text ≡ rows.text ++ self.new.text) }
         ensures few { IfSome result (λ rows. rows.count ≤ 221) }
+        ensures same_form { IfSome result (λ rows. rows.form ≡ self.old.form) }
         ensures less { IfSome result (λ rows. length self.new.text < length self.old.text) }
         ensures form { self.new.form ≡ self.old.form }
     {

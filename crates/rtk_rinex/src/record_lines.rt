@@ -5,18 +5,19 @@
 //! gives the record. The text is kept from record to record; memory is taken at the first line, for 32
 //! satellites. mixed_record_lines.rt writes the records of any systems by the same steps.
 
-ghost use Rattle.std.specs.Prelude.{◌≡◌, ◌+◌, ◌*◌, ◌-◌, ◌<◌, ◌≤◌, List, [], ◌∷◌, ◌++◌, length, take, drop, replicate, slice_set, OnOk, OnErr, IfOk};
+ghost use Rattle.std.specs.Prelude.{◌≡◌, ◌+◌, ◌*◌, ◌-◌, ◌<◌, ◌≤◌, Bool, true, false, List, [], ◌∷◌, ◌++◌, length, take, drop, replicate, slice_set, OnOk, OnErr, IfOk};
 ghost use Rattle.rtk_rinex.specs.declared.epoch_table.Observed.{Observed};
 ghost use Rattle.rtk_rinex.specs.declared.epoch_table.SatelliteRow.{SatelliteRow};
-ghost use Rattle.rtk_rinex.specs.Record.{HasWidth, observations, record_text, no_observation};
+ghost use Rattle.rtk_rinex.specs.Record.{HasWidth, observations, observations_with_doppler, code_width, record_text, no_observation};
 ghost use Rattle.rtk_rinex.specs.RecordLines.{HasOpenLine, HasFreeCode, HoldsLines, IsFreeIn, KeepsLines, ended};
 ghost use Rattle.rtk_rinex.specs.Steps.WrittenLines.{AddsLine, PutsEpochLine};
 
-use crate::columns::{CODE_COLUMNS, EPOCH_LINE, GPS_SATELLITES};
+use crate::columns::{CODE_COLUMNS, DOPPLER_COLUMNS, EPOCH_LINE, GPS_SATELLITES};
 use crate::epoch_table::{EpochTable, Observed};
 use crate::head::Head;
 use crate::record_text::{
-    end_line, gps_name, has_line, has_observation, put_columns, put_epoch_line,
+    end_line, gps_name, has_line, has_observation, has_observation_or_doppler, put_columns,
+    put_doppler_columns, put_epoch_line,
 };
 use rtk_obs::{GpsMs, civil};
 use std::alloc::{AllocError, Global};
@@ -26,8 +27,8 @@ use std::marker::Model;
 /// contract sees its `RecordLinesView`.
 ///
 /// Blanks follow the text, over which the next line is written. The first line takes the memory for
-/// 32 satellites of its number of codes: 36 bytes, and at most 772 for each. A line that has no room takes
-/// it for 32 satellites more.
+/// 32 satellites of its number of codes: 36 bytes, and at most 772 for each, or 1,028 with Doppler shifts. A line that
+/// has no room takes it for 32 satellites more.
 #[derive(Drop)]
 pub struct RecordLines {
     text: Vec<u8>,
@@ -72,10 +73,10 @@ fn lengthen(text: &mut Vec<u8>, len: usize) -> Result<(), AllocError>
 // Lengthens a text by blanks if it has no room for a line at this place, and then for 32 lines of this
 // length.
 fn make_room(text: &mut Vec<u8>, at: usize, room: usize) -> Result<(), AllocError>
-    requires place { at ≤ 36 + 772 * 220 }
-    requires short { room ≤ 772 }
-    requires bound { length text.old.items ≤ 194_580 }
-    ensures bound { length text.new.items ≤ 194_580 }
+    requires place { at ≤ 36 + 1028 * 220 }
+    requires short { room ≤ 1028 }
+    requires bound { length text.old.items ≤ 259_092 }
+    ensures bound { length text.new.items ≤ 259_092 }
     ensures ok { OnOk result (text.new.items ≡ text.old.items ++ replicate (length text.new.items - length text.old.items) 32) }
     ensures room { OnOk result (at + room ≤ length text.new.items) }
     ensures err { OnErr result (text.new.items ≡ text.old.items) }
@@ -123,6 +124,30 @@ fn put_code_at(text: &mut [u8], at: usize, observed: &Observed)
     put_columns(&mut text[at..at + CODE_COLUMNS], observed);
 }
 
+// Writes the columns of a code with its Doppler shift over blanks at this place of a text, as `put_code_at` does without
+// one.
+#[inline(always)]
+fn put_doppler_code_at(text: &mut [u8], at: usize, observed: &Observed)
+    requires room { at + 64 ≤ length text.old }
+    requires blank { take 64 (drop at text.old) ≡ replicate 64 32 }
+    ensures { text.new ≡ take at text.old ++ (observations_with_doppler observed.now ++ drop 64 (drop at text.old)) }
+{
+    put_doppler_columns(&mut text[at..at + DOPPLER_COLUMNS], observed);
+}
+
+// Returns the most bytes of the line of a satellite with this number of codes, with Doppler shifts or without them.
+fn line_room(doppler: bool, codes: usize) -> usize
+    requires { codes ≤ 16 }
+    ensures value { result ≡ 4 + code_width doppler * codes }
+    ensures few { result ≤ 1028 }
+{
+    if doppler {
+        4 + DOPPLER_COLUMNS * codes
+    } else {
+        4 + CODE_COLUMNS * codes
+    }
+}
+
 // Ends the line of a satellite of this name that begins at this place of a text, and returns where the
 // text ends. It only hands on, and is here for its clauses.
 #[inline(always)]
@@ -168,12 +193,24 @@ impl RecordLines {
     pub fn open_line(&mut self, codes: usize) -> Result<(), AllocError>
         requires few { codes ≤ 16 }
         requires room { self.old.count < 221 }
-        ensures open { OnOk result (HasOpenLine self.new (replicate codes no_observation)) }
+        ensures open { OnOk result (HasOpenLine false self.new (replicate codes no_observation)) }
+        ensures lines { KeepsLines self.old self.new }
+        ensures err { OnErr result (self.new ≡ self.old) }
+    {
+        self.open_line_of(false, codes)
+    }
+
+    /// Begins the line of a satellite, as `open_line` does, in a file with Doppler shifts or without them.
+    #[inline(always)]
+    pub(crate) fn open_line_of(&mut self, doppler: bool, codes: usize) -> Result<(), AllocError>
+        requires few { codes ≤ 16 }
+        requires room { self.old.count < 221 }
+        ensures open { OnOk result (HasOpenLine doppler self.new (replicate codes no_observation)) }
         ensures lines { KeepsLines self.old self.new }
         ensures err { OnErr result (self.new ≡ self.old) }
     {
         let at = self.len.max(EPOCH_LINE);
-        make_room(&mut self.text, at, 4 + CODE_COLUMNS * codes)?;
+        make_room(&mut self.text, at, line_room(doppler, codes))?;
         if self.end > self.len {
             blank(&mut self.text, self.len, self.end);
             self.end = self.len;
@@ -184,9 +221,9 @@ impl RecordLines {
     /// Writes what a code shows at its place in the open line, in which it shows nothing yet.
     #[inline(always)]
     pub fn put_code(&mut self, place: usize, observed: &Observed)
-        requires { HasFreeCode self.old place }
-        ensures open { (row : List Observed) → HasOpenLine self.old row → IsFreeIn row place
-            → HasOpenLine self.new (slice_set row place observed.now) }
+        requires { HasFreeCode false self.old place }
+        ensures open { (row : List Observed) → HasOpenLine false self.old row → IsFreeIn false row place
+            → HasOpenLine false self.new (slice_set row place observed.now) }
         ensures lines { KeepsLines self.old self.new }
     {
         if has_observation(observed) {
@@ -196,12 +233,27 @@ impl RecordLines {
         }
     }
 
+    /// Writes what a code shows in a file with Doppler shifts at its place in the open line, in which it shows
+    /// nothing yet.
+    pub(crate) fn put_doppler_code(&mut self, place: usize, observed: &Observed)
+        requires { HasFreeCode true self.old place }
+        ensures open { (row : List Observed) → HasOpenLine true self.old row → IsFreeIn true row place
+            → HasOpenLine true self.new (slice_set row place observed.now) }
+        ensures lines { KeepsLines self.old self.new }
+    {
+        if has_observation_or_doppler(observed) {
+            let at = self.len.max(EPOCH_LINE) + 3 + DOPPLER_COLUMNS * place;
+            put_doppler_code_at(&mut self.text, at, observed);
+            self.end = self.end.max(at + DOPPLER_COLUMNS);
+        }
+    }
+
     /// Ends the open line as that of this satellite. A line without a written observation is left
     /// out. In a record of RINEX the satellites rise, and each line has the same codes. The caller
     /// has to see to that.
     pub fn close_line(&mut self, satellite: u8)
         requires { self.old.count < 221 }
-        ensures { (rows : List SatelliteRow) (observed : List Observed) → HoldsLines self.old rows → HasOpenLine self.old observed
+        ensures { (rows : List SatelliteRow) (observed : List Observed) → HoldsLines self.old rows → HasOpenLine false self.old observed
             → HoldsLines self.new (rows ++ record { satellite = satellite; observed = record { items = observed } } ∷ []) }
     {
         self.close_named(gps_name(satellite));
@@ -213,7 +265,7 @@ impl RecordLines {
     pub(crate) fn close_named(&mut self, name: [u8; 3])
         requires name { length name ≡ 3 }
         requires room { self.old.count < 221 }
-        ensures { (observed : List Observed) → HasOpenLine self.old observed → AddsLine name observed self.old self.new }
+        ensures { (doppler : Bool) (observed : List Observed) → HasOpenLine doppler self.old observed → AddsLine doppler name observed self.old self.new }
     {
         if self.end > self.len {
             let at = self.len.max(EPOCH_LINE);
@@ -225,8 +277,8 @@ impl RecordLines {
 
     /// Writes what the codes show in the open line, in which they show nothing yet.
     pub(crate) fn put_codes(&mut self, observed: &[Observed])
-        requires { HasOpenLine self.old (replicate (length observed.now) no_observation) }
-        ensures open { HasOpenLine self.new observed.now }
+        requires { HasOpenLine false self.old (replicate (length observed.now) no_observation) }
+        ensures open { HasOpenLine false self.new observed.now }
         ensures lines { KeepsLines self.old self.new }
     {
         for (place, shown) in observed.iter().enumerate() {

@@ -3,7 +3,7 @@
 ghost use Rattle.std.specs.Prelude.{◌≡◌, ◌+◌, ◌<◌, ◌≤◌, ◌-◌, [], ◌∷◌, ◌++◌, length, take, drop, replicate, codes, decimal, false, IsTrue};
 ghost use Rattle.std.specs.List.{list_any};
 ghost use Rattle.rtk_obs.specs.CivilText.{last_digits};
-ghost use Rattle.rtk_rinex.specs.Record.{is_written, is_present, observation, observations, strength_digit, strength_value, lli_digit, has_observation, has_line, trim_end, epoch_date_text, epoch_line};
+ghost use Rattle.rtk_rinex.specs.Record.{is_written, is_present, observation, observations, observations_with_doppler, strength_digit, strength_value, lli_digit, has_observation, has_observation_or_doppler, has_line, trim_end, epoch_date_text, epoch_line};
 ghost use Rattle.rtk_rinex.specs.Columns.{right, decimals, seconds_of};
 ghost use Rattle.rtk_rinex.specs.RecordLines.{ended};
 
@@ -129,6 +129,42 @@ pub(crate) fn put_columns(columns: &mut [u8], observed: &Observed)
     put_strength(&mut columns[32..], observed.strength_millidbhz);
 }
 
+// Writes a Doppler shift over 16 blanks.
+fn put_doppler(field: &mut [u8], shift: Option<i64>)
+    requires blank { field.old ≡ replicate 16 32 }
+    ensures value { field.new ≡ observation shift 32 32 }
+    ensures len { length field.new ≡ 16 }
+{
+    put_any_observation(field, shift, b' ', b' ');
+}
+
+// Writes a Doppler shift and a signal strength over 32 blanks.
+fn put_last_columns(columns: &mut [u8], observed: &Observed)
+    requires blank { columns.old ≡ replicate 32 32 }
+    ensures value { columns.new ≡ observation observed.now.doppler_millihertz 32 32 ++ observation (strength_value observed.now.strength_millidbhz) 32 32 }
+    ensures len { length columns.new ≡ 32 }
+{
+    put_doppler(&mut columns[..16], observed.doppler_millihertz);
+    put_strength(&mut columns[16..], observed.strength_millidbhz);
+}
+
+/// Writes the columns of a code in a file with Doppler shifts over 64 blanks.
+pub(crate) fn put_doppler_columns(columns: &mut [u8], observed: &Observed)
+    requires blank { columns.old ≡ replicate 64 32 }
+    ensures { columns.new ≡ observations_with_doppler observed.now }
+{
+    let digit = digit_of_strength(observed.strength_millidbhz);
+    let lock = digit_of_lock(observed.slip, observed.half);
+    put_observation(&mut columns[..16], observed.range_mm, b' ', digit);
+    put_observation(
+        &mut columns[16..32],
+        observed.phase_millicycles,
+        lock,
+        digit,
+    );
+    put_last_columns(&mut columns[32..], observed);
+}
+
 // Returns whether two blanks stand at the end and no third one, as at the end of the columns of a
 // strength.
 fn has_two_blanks(bytes: &[u8]) -> bool
@@ -174,6 +210,13 @@ pub(crate) fn has_observation(observed: &Observed) -> bool
     observed.strength_millidbhz.is_some()
         || is_present(observed.range_mm)
         || is_present(observed.phase_millicycles)
+}
+
+/// Returns whether an observation of the code is written, be it the Doppler shift.
+pub(crate) fn has_observation_or_doppler(observed: &Observed) -> bool
+    ensures { result ≡ has_observation_or_doppler observed.now }
+{
+    has_observation(observed) || is_present(observed.doppler_millihertz)
 }
 
 /// Returns whether an observation of these codes is written.

@@ -4,16 +4,16 @@ ghost use Rattle.std.specs.Prelude.{◌≡◌, ◌≢◌, ℕ, ◌*◌, ◌≤�
 ghost use Rattle.rtk_rinex.specs.CheckLine.{IsSatelliteForm};
 ghost use Rattle.rtk_rinex.specs.Columns.{left};
 ghost use Rattle.rtk_rinex.specs.Lines.{IsLine};
-ghost use Rattle.rtk_rinex.specs.Record.{observations, satellite_line};
-ghost use Rattle.rtk_rinex.specs.Table.{IsObserved, IsTableRow};
+ghost use Rattle.rtk_rinex.specs.Record.{observations, observations_with_doppler, code_text, code_width, satellite_line};
+ghost use Rattle.rtk_rinex.specs.Table.{IsObserved, IsObservedWithDoppler, IsObservedIn, IsTableRow};
 ghost use Rattle.rtk_rinex.specs.Steps.CheckValues.{IsCell, AreCells};
 ghost use Rattle.rtk_rinex.specs.declared.epoch_table.Observed.{Observed};
 ghost use Rattle.rtk_rinex.specs.declared.epoch_table.SatelliteRow.{SatelliteRow};
 
-use crate::columns::{CODE_COLUMNS, append};
+use crate::columns::{CODE_COLUMNS, DOPPLER_COLUMNS, append};
 use crate::digits::columns_at;
 use crate::epoch_table::Observed;
-use crate::value_check::shown_observed;
+use crate::value_check::{shown_observed, shown_with_doppler};
 use arrayvec::ArrayVec;
 
 // What a code shows without columns: the value of `Observed::default()`. It is answered, so its
@@ -21,6 +21,7 @@ use arrayvec::ArrayVec;
 const NOTHING: Observed = Observed {
     range_mm: None,
     phase_millicycles: None,
+    doppler_millihertz: None,
     strength_millidbhz: None,
     slip: false,
     half: false,
@@ -54,6 +55,46 @@ pub(crate) fn shown_cell(columns: &[u8]) -> Option<Observed>
         return shown_observed(columns);
     }
     shown_observed(padded(columns).as_slice())
+}
+
+// Returns the columns of a code in a file with Doppler shifts, of which blanks at the end may be missing.
+fn padded_with_doppler(columns: &[u8]) -> ArrayVec<u8, DOPPLER_COLUMNS>
+    requires { length columns.now ≤ 64 }
+    ensures value { result.items ≡ left 64 columns.now }
+    ensures len { length result.items ≡ 64 }
+{
+    let blanks = [b' '; DOPPLER_COLUMNS];
+    let mut whole = ArrayVec::new();
+    append(&mut whole, columns);
+    append(&mut whole, &blanks[..DOPPLER_COLUMNS - columns.len()]);
+    whole
+}
+
+// Returns what the columns of a code show in a file with Doppler shifts, of which blanks at the end may be missing, or
+// `None` exactly if nothing that a code can show there is written so.
+fn shown_doppler_cell(columns: &[u8]) -> Option<Observed>
+    requires { length columns.now ≤ 64 }
+    ensures { MatchOption result
+        ((o : Observed) → IsObservedWithDoppler o → left 64 columns.now ≢ observations_with_doppler o)
+        (λ o. IsObservedWithDoppler o × (left 64 columns.now ≡ observations_with_doppler o)) }
+{
+    shown_with_doppler(padded_with_doppler(columns).as_slice())
+}
+
+/// Returns what the columns of a code show in a file with Doppler shifts or without them, of which blanks at the end may
+/// be missing, or `None` exactly if nothing that a code can show there is written so.
+#[inline(always)]
+pub(crate) fn shown_cell_in(doppler: bool, columns: &[u8]) -> Option<Observed>
+    requires { length columns.now ≤ code_width doppler }
+    ensures { MatchOption result
+        ((o : Observed) → IsObservedIn doppler o → left (code_width doppler) columns.now ≢ code_text doppler o)
+        (λ o. IsObservedIn doppler o × (left (code_width doppler) columns.now ≡ code_text doppler o)) }
+{
+    if doppler {
+        shown_doppler_cell(columns)
+    } else {
+        shown_cell(columns)
+    }
 }
 
 // Returns whether these columns show what a code can show. Blanks at the end may be missing.

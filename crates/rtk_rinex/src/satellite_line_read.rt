@@ -3,16 +3,17 @@
 ghost use Rattle.std.specs.Prelude.{◌≡◌, ℕ, ◌*◌, ◌≤◌, length, All, flat_map};
 ghost use Rattle.rtk_rinex.specs.Columns.{left};
 ghost use Rattle.rtk_rinex.specs.Lines.{IsLine};
-ghost use Rattle.rtk_rinex.specs.Record.{observations, satellite_line};
-ghost use Rattle.rtk_rinex.specs.Table.{IsObserved, IsTableRow};
+ghost use Rattle.rtk_rinex.specs.Record.{observations, code_text, code_width, satellite_line};
+ghost use Rattle.rtk_rinex.specs.Table.{IsObserved, IsObservedIn, IsTableRow};
 ghost use Rattle.rtk_rinex.specs.Steps.CheckValues.{AreCells};
+ghost use Rattle.rtk_rinex.specs.Steps.MixedReadRecords.{AreCodes};
 ghost use Rattle.rtk_rinex.specs.declared.epoch_table.SatelliteRow.{SatelliteRow};
 
-use crate::columns::CODE_COLUMNS;
+use crate::columns::{CODE_COLUMNS, code_columns};
 use crate::digits::columns_at;
 use crate::epoch_table::{Observed, SatelliteRow};
 use crate::records_check::satellite_of_form;
-use crate::satellite_line_check::shown_cell;
+use crate::satellite_line_check::{shown_cell, shown_cell_in};
 use arrayvec::ArrayVec;
 
 /// Reads what `code_count` codes show in their columns, one after another. Blanks at the end may be missing.
@@ -29,6 +30,34 @@ pub(crate) fn read_cells(columns: &[u8], code_count: usize, observed: &mut Array
     observed.clear();
     for k in 0..code_count {
         let Some(shown) = shown_cell(columns_at(columns, CODE_COLUMNS * k, CODE_COLUMNS)) else {
+            unreachable!();
+        };
+        observed.push(shown);
+    }
+}
+
+/// Reads what `code_count` codes show in their columns, one after another, in a file with Doppler shifts or without them.
+/// Blanks at the end may be missing.
+// It is inlined, since each row of a file calls it.
+#[inline(always)]
+pub(crate) fn read_cells_in(
+    doppler: bool,
+    columns: &[u8],
+    code_count: usize,
+    observed: &mut ArrayVec<Observed, 16>,
+)
+    requires code_count { code_count ≤ 16 }
+    requires few { length columns.now ≤ code_width doppler * code_count }
+    requires cells { ∥ AreCodes doppler code_count columns.now ∥₁ }
+    ensures observed { All (IsObservedIn doppler) observed.new.items }
+    ensures code_count { length observed.new.items ≡ code_count }
+    ensures text { left (code_width doppler * code_count) columns.now ≡ flat_map (code_text doppler) observed.new.items }
+{
+    let width = code_columns(doppler);
+    observed.clear();
+    for k in 0..code_count {
+        let at = width * k;
+        let Some(shown) = shown_cell_in(doppler, columns_at(columns, at, width)) else {
             unreachable!();
         };
         observed.push(shown);

@@ -4,8 +4,8 @@ ghost use Rattle.std.specs.Prelude.{◌≡◌, ◌≢◌, ℕ, ℤ, pos, neg_ℤ
 ghost use Rattle.std.specs.Fmt.{sign_text};
 ghost use Rattle.rtk_obs.specs.CivilText.{last_digits};
 ghost use Rattle.rtk_rinex.specs.Columns.{right, fixed};
-ghost use Rattle.rtk_rinex.specs.Record.{is_written, observation, observations, strength_value, lli_digit, IsStrengthOrNone};
-ghost use Rattle.rtk_rinex.specs.Table.{IsAbsentOrWritten, IsLock, IsObserved};
+ghost use Rattle.rtk_rinex.specs.Record.{is_written, observation, observations, observations_with_doppler, strength_value, lli_digit, IsStrengthOrNone};
+ghost use Rattle.rtk_rinex.specs.Table.{IsAbsentOrWritten, IsLock, IsObserved, IsObservedWithDoppler};
 ghost use Rattle.rtk_rinex.specs.declared.epoch_table.Observed.{Observed};
 
 use crate::digits::is_same;
@@ -208,6 +208,34 @@ pub(crate) fn shown_observed(columns: &[u8]) -> Option<Observed>
     Some(Observed {
         range_mm,
         phase_millicycles,
+        doppler_millihertz: None,
+        strength_millidbhz: strength,
+        slip,
+        half,
+    })
+}
+
+/// Returns what 64 columns show of a code in a file with Doppler shifts, or `None` exactly if nothing that a code can
+/// show there is written so.
+pub(crate) fn shown_with_doppler(columns: &[u8]) -> Option<Observed>
+    requires { length columns.now ≡ 64 }
+    ensures { MatchOption result
+        ((o : Observed) → IsObservedWithDoppler o → columns.now ≢ observations_with_doppler o)
+        (λ o. IsObservedWithDoppler o × (columns.now ≡ observations_with_doppler o)) }
+{
+    let (range, others) = columns.split_at(16);
+    let (phase, last) = others.split_at(16);
+    let (shift, strength) = last.split_at(16);
+    let strength = shown_strength(strength)?;
+    let digit = digit_of_strength(strength);
+    let (slip, half) = shown_lock(phase[14])?;
+    let range_mm = shown_observation(range, b' ', digit)?;
+    let phase_millicycles = shown_observation(phase, phase[14], digit)?;
+    let doppler_millihertz = shown_observation(shift, b' ', b' ')?;
+    Some(Observed {
+        range_mm,
+        phase_millicycles,
+        doppler_millihertz,
         strength_millidbhz: strength,
         slip,
         half,

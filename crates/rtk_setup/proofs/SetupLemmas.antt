@@ -19,6 +19,7 @@ use Rattle.rtk_obs.specs.declared.code.Code.TheVariants as gps
 use Rattle.rtk_obs.specs.declared.signal_cells.SignalEntry.{SignalEntry}
 use Rattle.rtk_obs.specs.AnyCode.{code_of_gps, system_of, codes_before, number_of}
 use Rattle.rtk_obs.specs.Code.{place_of}
+use Rattle.rtk_obs.specs.Doppler.{doppler_entry_if, doppler_entry, entries_with_doppler}
 use Rattle.rtk_obs.specs.GlonassCells.{unless_other_in_1012, glonass_entries, slot_entries, first_of_slots}
 use Rattle.rtk_obs.specs.Mask.{join_from}
 use Rattle.rtk_obs.specs.MsmCells.{Slot, slots_of}
@@ -31,7 +32,7 @@ use Rattle.rtk_rinex.specs.Header.{IsCodeList}
 use Rattle.rtk_rinex.specs.MixedHead.{AreInOrder, IsMixedList, IsMixedHeadFault, has_glonass, letter}
 use Rattle.rtk_rinex.specs.declared.mixed_head_fault.MixedHeadFault.{MixedHeadFault}
 use Rattle.rtk_rinex.specs.declared.mixed_head_fault.MixedHeadFault.TheVariants.{Codes, Glonass as NotTold}
-use Rattle.rtk_setup.specs.Setup.{AreSameChannels}
+use Rattle.rtk_setup.specs.Setup.{AreSameChannels, plain_entries_as, entries_as}
 
 -- ---- the kinds
 
@@ -80,10 +81,25 @@ signals-same channels others (any.Msm m) h = cells-same channels others (any.Msm
 signals-same channels others (any.Obs1012 m) h = cells-same channels others (any.Obs1012 m) h
 
 -- by the same channels all cells are the same, with those of SBAS in a 1004 or without them
-pub all-cells-same : (sbas : Bool) (channels others : List (Option ℤ)) → AreSameChannels channels others
-    → (if sbas then entries_with_sbas channels else entries_of channels) ≡ (if sbas then entries_with_sbas others else entries_of others)
-all-cells-same true channels others h = fun_ext (λ m. signals-same channels others m h)
-all-cells-same false channels others h = fun_ext (λ m. cells-same channels others m h)
+plain-same : (sbas : Bool) (channels others : List (Option ℤ)) → AreSameChannels channels others → plain_entries_as sbas channels ≡ plain_entries_as sbas others
+plain-same true channels others h = fun_ext (λ m. signals-same channels others m h)
+plain-same false channels others h = fun_ext (λ m. cells-same channels others m h)
+
+shift-same : (channels others : List (Option ℤ)) (m : Msm) → AreSameChannels channels others → doppler_entry channels m ≡ doppler_entry others m
+shift-same channels others m h = fun_ext (λ k. fun_ext (λ (s : Slot).
+    ap (λ (o : Option ℤ). doppler_entry_if m k s.row o (index_in m.system (bit_of_row m s.row)) (code_in m.system s.signal))
+    (channel-same m.system channels others (bit_of_row m s.row) (field_of_row m s.row) h)))
+
+shifts-same : (sbas : Bool) (channels others : List (Option ℤ)) (m : Message) → AreSameChannels channels others
+    → entries_with_doppler (plain_entries_as sbas channels) channels m ≡ entries_with_doppler (plain_entries_as sbas others) others m
+shifts-same sbas channels others (any.Message m) h = ap (λ (f : Message → List SignalEntry). f (any.Message m)) (plain-same sbas channels others h)
+shifts-same sbas channels others (any.Msm m) h = ap (λ (f : ℕ → Slot → List SignalEntry). join_from f 0 (slots_of m.header m.cell_mask)) (shift-same channels others m h)
+shifts-same sbas channels others (any.Obs1012 m) h = ap (λ (f : Message → List SignalEntry). f (any.Obs1012 m)) (plain-same sbas channels others h)
+
+-- so are those with Doppler shifts
+pub all-cells-same : (doppler sbas : Bool) (channels others : List (Option ℤ)) → AreSameChannels channels others → entries_as doppler sbas channels ≡ entries_as doppler sbas others
+all-cells-same true sbas channels others h = fun_ext (λ m. shifts-same sbas channels others m h)
+all-cells-same false sbas channels others h = plain-same sbas channels others h
 
 -- ---- a head of GPS as one of any systems
 

@@ -1,3 +1,4 @@
 pub mod Setup
+pub mod Rates
 pub mod SetupFault
 pub mod Counts

@@ -1,5 +1,5 @@
 -- What a conversion is set up with, and which messages it takes.
-use Rattle.std.specs.Prelude.{◌≡◌, ℕ, ◌+◌, ◌≤◌, ◌==◌, ℤ, Bool, false, ◌&&◌, ◌||◌, List, [], map, Option, None, Some, IfSome, if◌then◌else◌}
+use Rattle.std.specs.Prelude.{◌≡◌, ℕ, ◌+◌, ◌≤◌, ◌==◌, ℤ, Bool, false, not, ◌&&◌, ◌||◌, List, [], map, Option, None, Some, IfSome, if◌then◌else◌}
 use Rattle.std.specs.Int.{IsInRange}
 use Rattle.std.specs.List.{list_any, list_all}
 use Rattle.rtk_message.specs.declared.accepted.Accepted.{Accepted}
@@ -16,6 +16,7 @@ use Rattle.rtk_obs.specs.AnyCode.{code_of_gps}
 use Rattle.rtk_obs.specs.Carriers.{channel_at}
 use Rattle.rtk_obs.specs.Dating.{IsReference}
 use Rattle.rtk_obs.specs.SatelliteIndex.{letter_of, satellites_of_system, satellites_before}
+use Rattle.rtk_obs.specs.Doppler.{entries_with_doppler}
 use Rattle.rtk_obs.specs.SbasCells.{entries_with_sbas}
 use Rattle.rtk_obs.specs.SignalCells.{entries_of}
 use Rattle.rtk_rinex.specs.Header.{HeadView}
@@ -70,7 +71,7 @@ with_kind ks Navic k = record ks { navic = k }
 
 -- the head of a file of GPS as one of a file of any systems
 abbrev pub mixed_head_of : HeadView → MixedHeadView
-mixed_head_of h = record { marker = h.marker; listed = map code_of_gps h.listed; glonass = None; made = h.made }
+mixed_head_of h = record { marker = h.marker; listed = map code_of_gps h.listed; glonass = None; made = h.made; doppler = false }
 
 -- the setup of these parts; its MSM of each system is MSM4, and 1012 is not asked for
 abbrev pub mixed_setup_of : ℕ → ℕ → MixedHeadView → ℕ → SetupView
@@ -145,9 +146,9 @@ takes_1004 s = lists_system s.head.listed Gps || lists_system s.head.listed Sbas
 abbrev pub takes : SetupView → ℕ → Bool
 takes s number = if number == 1004 then takes_1004 s else accepts (taken_by s) number
 
--- all listed codes are of GPS
+-- all listed codes are of GPS, and the file shows no Doppler shifts
 abbrev pub is_of_gps : SetupView → Bool
-is_of_gps s = list_all (λ c. letter c == letter_of Gps) s.head.listed
+is_of_gps s = not s.head.doppler && list_all (λ c. letter c == letter_of Gps) s.head.listed
 
 -- ---- what their cells are
 
@@ -161,12 +162,20 @@ abbrev pub AreSameChannels : List (Option ℤ) → List (Option ℤ) → Type 0
 AreSameChannels channels others = (slot : ℕ) → channel_at channels slot ≡ channel_at others slot
 
 -- formula
+-- the cells of a message by these channels: those of SBAS in a 1004 are among them or not, and those of an MSM have
+-- Doppler shifts or not
+abbrev pub plain_entries_as : Bool → List (Option ℤ) → Message → List SignalEntry
+plain_entries_as sbas channels = if sbas then entries_with_sbas channels else entries_of channels
+
+abbrev pub entries_as : Bool → Bool → List (Option ℤ) → Message → List SignalEntry
+entries_as doppler sbas channels = if doppler then entries_with_doppler (plain_entries_as sbas channels) channels else plain_entries_as sbas channels
+
+-- formula
 -- the cells of a message, each with its satellite and code; those of GLONASS have phases by the channels of
--- the setup, and those of SBAS in a 1004 are among them if some code of SBAS is listed
+-- the setup, those of SBAS in a 1004 are among them if some code of SBAS is listed, and those of an MSM have Doppler
+-- shifts if the file shows them
 abbrev pub cells_by : SetupView → Message → List SignalEntry
-cells_by s =
-    if lists_system s.head.listed Sbas then entries_with_sbas (channels_of s.head.glonass)
-    else entries_of (channels_of s.head.glonass)
+cells_by s = entries_as s.head.doppler (lists_system s.head.listed Sbas) (channels_of s.head.glonass)
 
 -- the last satellite of a system, if some code of it is listed, or else this one
 abbrev pub last_or : SetupView → System → ℕ → ℕ

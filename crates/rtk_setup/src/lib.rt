@@ -24,6 +24,7 @@
 mod counts;
 mod leap_seconds;
 mod links;
+mod rates;
 mod reference;
 mod setup;
 mod setup_fault;
@@ -34,6 +35,7 @@ mod window;
 pub use counts::Counts;
 pub use leap_seconds::LeapSeconds;
 pub use links::MOST_LINKS;
+pub use rates::without_rates;
 pub use reference::Reference;
 pub use setup::Setup;
 pub use setup_fault::SetupFault;

@@ -1,14 +1,14 @@
 //! What a conversion is set up with.
 
-ghost use Rattle.std.specs.Prelude.{◌≡◌, ◌≤◌, ◌&&◌, true, Some, IfSome, IfOk, IfErr, length, map, if◌then◌else◌};
+ghost use Rattle.std.specs.Prelude.{◌≡◌, ◌≤◌, ◌==◌, ◌&&◌, true, Some, IfSome, IfOk, IfErr, length, map, if◌then◌else◌};
+ghost use Rattle.std.specs.List.{list_all};
 ghost use Rattle.rtk_message.specs.declared.system.System.TheVariants.{Gps, Glonass, Sbas};
 ghost use Rattle.rtk_message.specs.Accepted.{only_kind, no_kind};
 ghost use Rattle.rtk_obs.specs.Dating.{IsReference};
 ghost use Rattle.rtk_obs.specs.AnyCode.{code_of_gps};
-ghost use Rattle.rtk_obs.specs.SbasCells.{entries_with_sbas};
-ghost use Rattle.rtk_obs.specs.SignalCells.{entries_of};
-ghost use Rattle.rtk_rinex.specs.MixedHead.{IsMixedHead};
-ghost use Rattle.rtk_setup.specs.Setup.{SetupView, IsSetupView, AreSameChannels, cells_by, is_of_gps, IsStation, IsWindow, IsLeapSeconds, all_of, with_kind, taken_by, takes_1004, channels_of, lists_system, mixed_head_of, mixed_setup_of, setup_of};
+ghost use Rattle.rtk_obs.specs.SatelliteIndex.{letter_of};
+ghost use Rattle.rtk_rinex.specs.MixedHead.{IsMixedHead, letter};
+ghost use Rattle.rtk_setup.specs.Setup.{SetupView, IsSetupView, AreSameChannels, entries_as, cells_by, is_of_gps, IsStation, IsWindow, IsLeapSeconds, all_of, with_kind, taken_by, takes_1004, channels_of, lists_system, mixed_head_of, mixed_setup_of, setup_of};
 
 use crate::leap_seconds::LeapSeconds;
 use crate::reference::Reference;
@@ -57,8 +57,8 @@ impl Model for Setup {
         × AreSameChannels s.channels (channels_of s.head.glonass) };
 }
 
-// Returns whether some of the codes is of a system.
-fn lists_system(listed: &[AnyCode], system: System) -> bool
+/// Returns whether some of the codes is of a system.
+pub(crate) fn lists_system(listed: &[AnyCode], system: System) -> bool
     ensures { result ≡ lists_system listed.now system }
 {
     for code in listed {
@@ -123,6 +123,18 @@ fn any_codes(codes: &[Code]) -> ArrayVec<AnyCode, 16>
         listed.push(AnyCode::of_gps(*code));
     }
     listed
+}
+
+// Returns whether all codes are of GPS.
+fn are_of_gps(listed: &[AnyCode]) -> bool
+    ensures { result ≡ list_all (λ c. letter c == letter_of Gps) listed.now }
+{
+    for code in listed {
+        if code.system() != System::Gps {
+            return false;
+        }
+    }
+    true
 }
 
 // Returns the head of a file of GPS as one of a file of any systems.
@@ -240,6 +252,24 @@ impl Setup {
         }
     }
 
+    /// Returns this setup for a file with Doppler shifts, which are those of MSM5 and MSM7. It is a file of any systems,
+    /// also if all its codes are of GPS.
+    pub fn with_doppler(self) -> Setup
+        ensures { result ≡ record self { head = record { marker = self.head.marker; listed = self.head.listed; glonass = self.head.glonass; made = self.head.made; doppler = true } } }
+    {
+        Setup {
+            station: self.station,
+            near: self.near,
+            head: self.head.with_doppler(),
+            window: self.window,
+            kinds: self.kinds,
+            leap_seconds: self.leap_seconds,
+            takes_1012: self.takes_1012,
+            accepted: self.accepted,
+            channels: self.channels,
+        }
+    }
+
     /// Returns the station whose messages are converted (DF003).
     pub fn station(&self) -> u16
         ensures value { result ≡ self.now.station }
@@ -301,16 +331,18 @@ impl Setup {
         lists_system(self.head.codes(), system)
     }
 
-    /// Returns whether all listed codes are of GPS.
+    /// Returns whether the file shows Doppler shifts.
+    pub fn has_doppler(&self) -> bool
+        ensures { result ≡ self.now.head.doppler }
+    {
+        self.head.has_doppler()
+    }
+
+    /// Returns whether all listed codes are of GPS, and the file shows no Doppler shifts.
     pub fn is_of_gps(&self) -> bool
         ensures { result ≡ is_of_gps self.now }
     {
-        for code in self.head.codes() {
-            if code.system() != System::Gps {
-                return false;
-            }
-        }
-        true
+        !self.head.has_doppler() && are_of_gps(self.head.codes())
     }
 
     /// Returns the messages that are read: those that are converted, and 1004.
@@ -345,7 +377,7 @@ impl Setup {
 
     /// Returns the channels by which phases of GLONASS are made.
     pub fn channels(&self) -> &Channels
-        ensures cells { (if lists_system self.now.head.listed Sbas then entries_with_sbas result.now else entries_of result.now) ≡ cells_by self.now }
+        ensures cells { entries_as self.now.head.doppler (lists_system self.now.head.listed Sbas) result.now ≡ cells_by self.now }
         ensures slots { AreSameChannels result.now (channels_of self.now.head.glonass) }
     {
         &self.channels

@@ -370,16 +370,16 @@ fn put_doppler_of(
     taken: Accepted,
     msm: MsmKind,
 ) -> Result<(), AllocError>
-    ensures { OnOk result (lines.new.items ≡ lines.old.items ++ spec.doppler_of taken surveys.now station msm) }
+    ensures { OnOk result (lines.new.items ≡ lines.old.items ++ spec.doppler_of_kind taken surveys.now station msm) }
 {
     let count = messages_in_captures(surveys, station, msm);
     put_doppler_numbered(lines, taken, msm.number(), count)?;
     Ok(())
 }
 
-/// Appends a line if an MSM of GPS that is taken has Doppler, which no file has.
+// Appends a line for each MSM of GPS that is taken and has Doppler.
 #[tactic(auto, unfolding(crate::specs::MessageLines::doppler_line))]
-pub fn put_doppler(
+fn put_doppler_lines(
     lines: &mut Vec<u8>,
     surveys: &[CaptureSurvey],
     station: u16,
@@ -390,6 +390,22 @@ pub fn put_doppler(
     put_doppler_of(lines, surveys, station, taken, MsmKind::Msm5)?;
     put_doppler_of(lines, surveys, station, taken, MsmKind::Msm7)?;
     Ok(())
+}
+
+/// Appends a line if an MSM of GPS that is taken has Doppler, unless the file shows Doppler shifts.
+pub fn put_doppler(
+    lines: &mut Vec<u8>,
+    surveys: &[CaptureSurvey],
+    station: u16,
+    taken: Accepted,
+    is_shown: bool,
+) -> Result<(), AllocError>
+    ensures { OnOk result (lines.new.items ≡ lines.old.items ++ spec.doppler_line_unless is_shown taken surveys.now station) }
+{
+    if is_shown {
+        return Ok(());
+    }
+    put_doppler_lines(lines, surveys, station, taken)
 }
 
 /// Appends a line of the 1004 of a station, unless they are taken.

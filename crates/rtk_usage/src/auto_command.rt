@@ -88,9 +88,11 @@ pub(crate) fn auto_command<'a>(alloc: Global) -> Result<Command<'a>, AllocError>
     let skip_empty = "Leave out captures in which nothing of the station was found";
     let links_as_given = "Take each capture for a link, as convert does";
     let report = "Show the report of convert";
+    let doppler = "Write the Doppler of MSM5 and MSM7, which each system must have";
     auto_with_systems(alloc)?
         .arg(switch_arg(alloc, "skip-empty", skip_empty))?
         .arg(switch_arg(alloc, "links-as-given", links_as_given))?
         .arg(switch_arg(alloc, "report", report))?
+        .arg(switch_arg(alloc, "doppler", doppler))?
         .arg(captures_arg(alloc))
 }

@@ -183,9 +183,11 @@ fn convert_with_kinds<'a>(alloc: Global, takes_lists: bool) -> Result<Command<'a
 fn convert_command<'a>(alloc: Global, takes_lists: bool) -> Result<Command<'a>, AllocError> {
     let seconds = "The leap seconds that date GLONASS, 0 to 99; those of the table if not given";
     let with_1012 = "Converts 1012 too, and dates it within half a day of --near";
+    let doppler = "Writes the Doppler of MSM5 and MSM7, which each system must have";
     convert_with_kinds(alloc, takes_lists)?
         .arg(leap_seconds_arg(alloc, seconds))?
         .arg(switch_arg(alloc, "with-1012", with_1012))?
+        .arg(switch_arg(alloc, "doppler", doppler))?
         .arg(links_arg(alloc))
 }
 

@@ -65,6 +65,10 @@ Which messages of GLONASS:
   --with-1012 converts 1012 too, which old stations send beside 1004. A 1012 tells
   no day, so all messages must lie within half a day of --near.
 
+Doppler:
+  --doppler writes the Doppler of each code behind its phase. MSM5 and MSM7 tell
+  it, so each system with a listed code must have one of them by --msm.
+
 Example:
   rtcm2rinex convert --station 2003 --near 2024-05-17T12:00:00 \\
       --made 2024-05-17T13:00:00 --marker BASE --codes 1C,2W \\

@@ -6,10 +6,12 @@ use Rattle.rtk_obs.specs.LeapSeconds.{IsLeapSecondsAt}
 use Rattle.rtk_obs.specs.declared.any_code.AnyCode.{AnyCode}
 use Rattle.rtk_rinex.specs.Header.{IsMarker}
 use Rattle.rtk_rinex.specs.MixedHead.{GlonassView, MixedHeadView, IsMixedList, has_glonass}
+use Rattle.rtk_setup.specs.Rates.{without_rates}
 use Rattle.rtk_setup.specs.Setup.{SetupView}
+use Rattle.rtk_setup.specs.declared.system_kinds.SystemKinds.{SystemKinds}
 use Rattle.rtk_cli.specs.declared.convert_words.ConvertOptions.{ConvertOptions}
 use Rattle.rtk_cli.specs.declared.words.BadWords.{BadWords}
-use Rattle.rtk_cli.specs.declared.words.BadWords.TheVariants.{Near, Made, Codes, CodeOfSystem, CodeOfGps, Marker, Channels, NoChannels, NoGlonass, Links}
+use Rattle.rtk_cli.specs.declared.words.BadWords.TheVariants.{Near, Made, Codes, CodeOfSystem, CodeOfGps, Marker, Channels, NoChannels, NoGlonass, NoRates, Links}
 use Rattle.rtk_cli.specs.declared.words.Job.{Job}
 use Rattle.rtk_cli.specs.declared.words.Job.TheVariants.{Convert}
 use Rattle.rtk_cli.specs.declared.words.WordsFault.{WordsFault}
@@ -58,20 +60,39 @@ IsGlonassCause o listed NoChannels = (o.channels ≡ None) × (has_glonass liste
 IsGlonassCause o listed NoGlonass = (o.channels ≡ None) × (has_glonass listed ≡ false) × (o.with_1012 ≡ true)
 IsGlonassCause o listed _ = ⊥
 
+-- the options tell something of GLONASS that is due
+abbrev pub TellsItsGlonass : ConvertOptions → List AnyCode → Type 0
+TellsItsGlonass o listed = (near : ℕ) × (g : Option GlonassView) × SaysGlonass o listed near g
+
+-- ---- Doppler shifts
+
+-- formula
+-- why a file of these codes can't show the Doppler shifts that are asked for (true): the MSM of a listed system has no range
+-- rates, and this is the first such system (this project's rule)
+abbrev pub IsShiftsCause : Bool → SystemKinds → List AnyCode → BadWords → Type 0
+IsShiftsCause is_asked kinds listed (NoRates s) = without_rates is_asked kinds listed ≡ Some s
+IsShiftsCause is_asked kinds listed _ = ⊥
+
 -- ---- the head
 
--- the head of these parts: the codes in the order of a file, and what the options tell of GLONASS
+-- the head of these parts: the codes in the order of a file, what the options tell of GLONASS, and Doppler shifts if they are
+-- asked for, which the MSM of each listed system has then
 pub record IsHeadOf (o : ConvertOptions) (name : List ℕ) (own : List AnyCode) (moment near : ℕ) (h : MixedHeadView) : Type 0 where
   pub marker : h.marker ≡ name
   pub listed : h.listed ≡ in_file_order own
   pub good : IsMixedList h.listed
   pub glonass : SaysGlonass o h.listed near h.glonass
   pub made : h.made ≡ moment
+  pub doppler : h.doppler ≡ o.doppler
+  pub rates : without_rates o.doppler o.kinds h.listed ≡ None
 
 -- formula
--- why there is no head with these codes: they are not good together; or what is due of GLONASS is not told
+-- why there is no head with these codes: they are not good together; or what is due of GLONASS is not told; or the MSM of a
+-- listed system has no Doppler shifts
 abbrev pub IsHeadCause : ConvertOptions → List AnyCode → BadWords → Type 0
 IsHeadCause o own Codes = ¬ (IsMixedList (in_file_order own))
+IsHeadCause o own (NoRates s) =
+    IsMixedList (in_file_order own) × TellsItsGlonass o (in_file_order own) × IsShiftsCause o.doppler o.kinds (in_file_order own) (NoRates s)
 IsHeadCause o own cause = IsMixedList (in_file_order own) × IsGlonassCause o (in_file_order own) cause
 
 -- ---- the whole
@@ -114,7 +135,7 @@ HasNames o = HasTimes o × ((own : List AnyCode) × ListsCodes o.codes.now own)
 abbrev pub HasMarker : ConvertOptions → Type 0
 HasMarker o = HasNames o × IsMarker o.marker.now
 
--- and the codes are good together, and what is due of GLONASS is told
+-- and the codes are good together, what is due of GLONASS is told, and Doppler shifts that are asked for can be shown
 abbrev pub HasHead : ConvertOptions → Type 0
 HasHead o = HasMarker o × ((own : List AnyCode) × (made : ℕ) × (near : ℕ) × (h : MixedHeadView) × ListsCodes o.codes.now own × IsHeadOf o o.marker.now own made near h)
 
@@ -125,8 +146,8 @@ HasHeadCause o cause = HasMarker o × ((own : List AnyCode) × ListsCodes o.code
 -- formula
 -- this is the first cause for which the words are refused, in this order: the form of the
 -- reference, the form of the time of making, the names of the codes, the marker, the codes
--- together, the channels, codes of GLONASS without channels, 1012 without such codes, the links, and last a reference near
--- which nothing is dated
+-- together, the channels, codes of GLONASS without channels, 1012 without such codes, a system without Doppler shifts, the
+-- links, and last a reference near which nothing is dated
 -- (this project's rule)
 abbrev pub IsFirstCause : ConvertOptions → List (List ℕ) → BadWords → Type 0
 IsFirstCause o names Near =
@@ -140,6 +161,7 @@ IsFirstCause o names Marker = HasNames o × ¬ (IsMarker o.marker.now)
 IsFirstCause o names Channels = HasHeadCause o Channels
 IsFirstCause o names NoChannels = HasHeadCause o NoChannels
 IsFirstCause o names NoGlonass = HasHeadCause o NoGlonass
+IsFirstCause o names (NoRates s) = HasHeadCause o (NoRates s)
 IsFirstCause o names Links = HasHead o × ¬ (AreLinkNames names)
 IsFirstCause o names _ = ⊥
 

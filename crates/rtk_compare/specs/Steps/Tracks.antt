@@ -1,5 +1,5 @@
 -- What is remembered of satellites and codes.
-use Rattle.std.specs.Prelude.{◌≡◌, ℕ, pos, ◌+◌, ◌*◌, ◌<◌, false, List, [], length, get_or, Option, None, Some}
+use Rattle.std.specs.Prelude.{◌≡◌, ℕ, pos, ◌+◌, ◌*◌, ◌<◌, Bool, false, List, [], length, get_or, Option, None, Some}
 use Rattle.rtk_obs.specs.SatelliteIndex.{IsSatelliteIndex}
 use Rattle.rtk_rinex.specs.declared.epoch_table.Observed.{Observed}
 use Rattle.rtk_rinex.specs.declared.epoch_table.SatelliteRow.{SatelliteRow}
@@ -42,6 +42,6 @@ abbrev pub AreTracksOf : List Track → (ℕ → List SharedCode) → List (List
 AreTracksOf tracks shared earlier = (s : ℕ) → IsSatelliteIndex s → AreTracksAt tracks shared earlier s
 
 -- the differences of a cell, if there is a place to tell them at
-abbrev pub lines_if_told : Option Place → List (Pair Observed) → Pair Observed → List Difference
-lines_if_told None earlier p = []
-lines_if_told (Some place) earlier p = cell_lines earlier p place
+abbrev pub lines_if_told : Bool → Option Place → List (Pair Observed) → Pair Observed → List Difference
+lines_if_told shifts None earlier p = []
+lines_if_told shifts (Some place) earlier p = cell_lines shifts earlier p place

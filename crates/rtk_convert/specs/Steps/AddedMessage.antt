@@ -40,7 +40,7 @@ closed_by Repeat = None
 -- known
 pub record RepresentsEpochs (s : SetupView) (e : EpochsView) (before : List Arrival) : Type 0 where
   pub kept : HoldsKept s e.collector before
-  pub closed : HasClosed e.closed s.head.listed (closed signals (cells_by s) s.window before)
+  pub closed : HasClosed e.closed s.head.doppler s.head.listed (closed signals (cells_by s) s.window before)
 
 -- one more arrival: its class, what the epochs represent after it, and what was written
 pub record AddsArrivalAs (s : SetupView) (old : EpochsView) (link : ℕ) (a : Arrival) (class : MessageClass) (before : List Arrival)

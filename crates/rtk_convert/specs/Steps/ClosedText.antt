@@ -14,7 +14,7 @@ with_header s site (Some first) text = header_at s site first ++ text
 
 -- the part of the file that is written once these epochs are closed
 abbrev pub closed_text : SetupView → PositionView → List (EpochSetView SignalEntry) → List ℕ
-closed_text s site closed = with_header s site (first_time s.head.listed closed) (records s.head.listed closed)
+closed_text s site closed = with_header s site (first_time s.head.doppler s.head.listed closed) (records s.head.doppler s.head.listed closed)
 
 -- the header before a first record, unless a header is written already
 abbrev pub header_before : SetupView → PositionView → ℕ → Bool → List ℕ
@@ -29,7 +29,7 @@ closing_text s site epoch is_header_out (x ∷ text) = header_before s site epoc
 
 -- what the closing of an epoch adds, given the epochs below it
 abbrev pub closing : SetupView → PositionView → EpochSetView SignalEntry → List (EpochSetView SignalEntry) → List ℕ
-closing s site e below = closing_text s site e.epoch (is_some (first_time s.head.listed below)) (record_of s.head.listed e below)
+closing s site e below = closing_text s site e.epoch (is_some (first_time s.head.doppler s.head.listed below)) (record_of s.head.doppler s.head.listed e below)
 
 abbrev pub is_any : List ℕ → Bool
 is_any [] = false

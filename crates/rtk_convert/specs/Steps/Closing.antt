@@ -32,24 +32,24 @@ AllAbove c epochs = All (λ e. AllBelow c.tracks e.epoch) epochs
 -- and before the first record the header
 pub record ClosesEpoch {T : Type 0} (s : SetupView) (site : PositionView) (old : ClosedEpochsView) (e : EpochSetView SignalEntry)
     (result : Result T ConvertFault) (new : ClosedEpochsView) (out_old out_new : Option (List ℕ)) : Type 0 where
-  pub follows : OnOk result ((below : List (EpochSetView SignalEntry)) → HasClosed old s.head.listed below → HasClosed new s.head.listed (e ∷ below))
-  pub puts : (below : List (EpochSetView SignalEntry)) → HasClosed old s.head.listed below → PutsText result out_old out_new (closing s site e below)
+  pub follows : OnOk result ((below : List (EpochSetView SignalEntry)) → HasClosed old s.head.doppler s.head.listed below → HasClosed new s.head.doppler s.head.listed (e ∷ below))
+  pub puts : (below : List (EpochSetView SignalEntry)) → HasClosed old s.head.doppler s.head.listed below → PutsText result out_old out_new (closing s site e below)
   pub later : OnOk result ((later : ℕ) → e.epoch < later → AllBelow new.tracks later)
 
 -- these epochs were closed, after the lower epochs `below`
 pub record ClosesEpochsAs (s : SetupView) (site : PositionView) (old : ClosedEpochsView) (epochs below : List (EpochSetView SignalEntry)) (new : ClosedEpochsView) (out_old out_new : Option (List ℕ)) : Type 0 where
-  pub follows : HasClosed new s.head.listed (epochs ++ below)
+  pub follows : HasClosed new s.head.doppler s.head.listed (epochs ++ below)
   pub out : WritesRest out_old out_new (closed_text s site below) (closed_text s site (epochs ++ below))
 
 -- these epochs were closed so, whatever epochs were closed before
 abbrev pub ClosesEpochs : SetupView → PositionView → ClosedEpochsView → List (EpochSetView SignalEntry) → ClosedEpochsView → Option (List ℕ) → Option (List ℕ) → Type 0
 ClosesEpochs s site old epochs new out_old out_new =
-    (below : List (EpochSetView SignalEntry)) → HasClosed old s.head.listed below → ClosesEpochsAs s site old epochs below new out_old out_new
+    (below : List (EpochSetView SignalEntry)) → HasClosed old s.head.doppler s.head.listed below → ClosesEpochsAs s site old epochs below new out_old out_new
 
 -- a first part of what these epochs add was written, whatever epochs were closed before
 abbrev pub ClosesEpochsInPart : SetupView → PositionView → ClosedEpochsView → List (EpochSetView SignalEntry) → Option (List ℕ) → Option (List ℕ) → Type 0
 ClosesEpochsInPart s site old epochs out_old out_new =
-    (below : List (EpochSetView SignalEntry)) → HasClosed old s.head.listed below → WritesPartOfRest out_old out_new (closed_text s site below) (closed_text s site (epochs ++ below))
+    (below : List (EpochSetView SignalEntry)) → HasClosed old s.head.doppler s.head.listed below → WritesPartOfRest out_old out_new (closed_text s site below) (closed_text s site (epochs ++ below))
 
 -- these epochs are closed, or the call breaks off at one of them
 pub record ClosesRemaining {T : Type 0} (s : SetupView) (site : PositionView) (old : ClosedEpochsView) (epochs : List (EpochSetView SignalEntry))
@@ -61,7 +61,7 @@ pub record ClosesRemaining {T : Type 0} (s : SetupView) (site : PositionView) (o
 -- its records; or the call breaks off, and a first part of the rest was written
 pub record EndsEpochs (s : SetupView) (e : EpochsView) (result : Result ℕ ConvertFault) (out_old out_new : Option (List ℕ)) : Type 0 where
   pub ok : IfOk result (λ count. (before : List Arrival) → RepresentsEpochs s e before
-      → (count ≡ record_count s.head.listed (kept signals (cells_by s) s.window before)) × WritesRest out_old out_new (file_so_far s before) (kept_file s before))
+      → (count ≡ record_count s.head.doppler s.head.listed (kept signals (cells_by s) s.window before)) × WritesRest out_old out_new (file_so_far s before) (kept_file s before))
   pub err : OnErr result ((before : List Arrival) → RepresentsEpochs s e before → WritesPartOfRest out_old out_new (file_so_far s before) (kept_file s before))
   pub fault : IfErr result IsFrameFault
 

@@ -4,7 +4,6 @@ use Rattle.std.specs.Prelude.{◌≡◌, ◌≢◌, ◌==◌, ◌<◌, ◌≤◌
 use Rattle.std.specs.List.{list_any}
 use Rattle.rtk_obs.specs.declared.any_code.AnyCode.{AnyCode}
 use Rattle.rtk_obs.specs.declared.any_code.AnyCode.TheVariants.{G1C}
-use Rattle.rtk_obs.specs.declared.cell.Cell.{Cell}
 use Rattle.rtk_obs.specs.declared.signal_cells.SignalEntry.{SignalEntry}
 use Rattle.rtk_obs.specs.declared.track.Track.{Track}
 use Rattle.rtk_message.specs.declared.system.System.{System}
@@ -17,7 +16,7 @@ use Rattle.rtk_collect.specs.Key.{KeysRise}
 use Rattle.rtk_collect.specs.Signals.{signals}
 use Rattle.rtk_rinex.specs.declared.epoch_table.Observed.{Observed}
 use Rattle.rtk_rinex.specs.declared.epoch_table.SatelliteRow.{SatelliteRow}
-use Rattle.rtk_rinex.specs.Record.{has_observation}
+use Rattle.rtk_rinex.specs.Record.{has_observation_or_doppler}
 use Rattle.rtk_convert.specs.LastPhases.{track_at}
 use Rattle.rtk_convert.specs.Rows.{rolling_frequency, codes_for, first_cell, observed_with, observed_after, or_nothing}
 use Rattle.rtk_convert.specs.Steps.RowLines.{Keeps}
@@ -28,9 +27,9 @@ use Rattle.rtk_convert.specs.Steps.RowLines.{Keeps}
 abbrev pub AllBelow : List (Option Track) → ℕ → Type 0
 AllBelow tracks epoch = (satellite : ℕ) (code : AnyCode) → IsSignal satellite code → IsLater (track_at tracks satellite code) epoch
 
-abbrev pub track_after : Option Track → AnyCode → ℕ → Option Cell → Option Track
+abbrev pub track_after : Option Track → AnyCode → ℕ → Option SignalEntry → Option Track
 track_after last code epoch None = last
-track_after last code epoch (Some c) = last_after (rolling_frequency code) last (epoch_cell epoch c)
+track_after last code epoch (Some e) = last_after (rolling_frequency code) last (epoch_cell epoch e.cell)
 
 -- these cells of an epoch were taken: of each satellite and code the phase of the first cell is the
 -- last one
@@ -133,7 +132,7 @@ with_place place shown (c ∷ codes) (x ∷ row) = (if is_at place c then shown 
 -- in a row of these codes the one with this place shows nothing
 pub record IsFreeOf (place : ℕ) (codes : List AnyCode) (row : List Observed) : Type 0 where
   pub width : length row ≡ length codes
-  pub free : (k : ℕ) (d : Observed) → k < length codes → is_at place (slice_index_or codes k G1C) ≡ true → has_observation (slice_index_or row k d) ≡ false
+  pub free : (k : ℕ) (d : Observed) → k < length codes → is_at place (slice_index_or codes k G1C) ≡ true → has_observation_or_doppler (slice_index_or row k d) ≡ false
 
 -- a line of these codes is open in which the one with this place shows nothing
 pub record HasFreeOf {L : Type 0} (HasLine : L → List Observed → Type 0) (lines : L) (place : ℕ) (codes : List AnyCode) : Type 0 where
@@ -160,7 +159,7 @@ pub record ShowsSome {L : Type 0} (HasLine : L → List Observed → Type 0) (ep
   pub shows : ShowsRow HasLine first epoch cells satellite codes tracks lines
 
 -- the cells between two places are of this satellite, and were taken after the earlier ones
-pub record TakesCells {L : Type 0} (HasRows : L → List SatelliteRow → Type 0) (HasLine : L → List Observed → Type 0) (epoch : ℕ)
+pub record TakesCells {L : Type 0} (HasRows : L → Bool → List SatelliteRow → Type 0) (HasLine : L → List Observed → Type 0) (epoch : ℕ)
     (earlier cells : List SignalEntry) (begin end satellite : ℕ) (codes : List AnyCode)
     (old : List (Option Track)) (before : L) (tracks : List (Option Track)) (lines : L) : Type 0 where
   pub from : begin ≤ end
@@ -173,10 +172,10 @@ pub record TakesCells {L : Type 0} (HasRows : L → List SatelliteRow → Type 0
 
 -- the first cell of a satellite and code takes a step of its track, and what it shows stands in the
 -- open line if its code is listed
-pub record StepsOver {L : Type 0} (HasRows : L → List SatelliteRow → Type 0) (HasLine : L → List Observed → Type 0) (epoch : ℕ) (e : SignalEntry)
+pub record StepsOver {L : Type 0} (HasRows : L → Bool → List SatelliteRow → Type 0) (HasLine : L → List Observed → Type 0) (epoch : ℕ) (e : SignalEntry)
     (codes : List AnyCode) (tracks after : List (Option Track)) (old new : L) : Type 0 where
   pub track : track_at after e.satellite e.code ≡ last_after (rolling_frequency e.code) (track_at tracks e.satellite e.code) (epoch_cell epoch e.cell)
   pub others : (s : ℕ) (c : AnyCode) → signal_place s c ≢ signal_place e.satellite e.code → track_at after s c ≡ track_at tracks s c
   pub row : (row : List Observed) → HasLine old row → IsFreeOf (place_of e.code) codes row
-      → HasLine new (with_place (place_of e.code) (observed_with e.cell (digits_since (rolling_frequency e.code) (track_at tracks e.satellite e.code) (epoch_cell epoch e.cell))) codes row)
+      → HasLine new (with_place (place_of e.code) (observed_with e (digits_since (rolling_frequency e.code) (track_at tracks e.satellite e.code) (epoch_cell epoch e.cell))) codes row)
   pub kept : Keeps HasRows old new

@@ -1,5 +1,5 @@
 -- What comes of the answer to a message is written: the record of the epoch that it closes, and its lines.
-use Rattle.std.specs.Prelude.{◌≡◌, ℕ, ◌<◌, List, [], ◌++◌, Option, None, Some, option_to_list, option_map, Result, OnOk, IfErr}
+use Rattle.std.specs.Prelude.{◌≡◌, ℕ, ◌<◌, List, [], ◌++◌, Option, None, Some, option_to_list, option_map, Result, OnOk, IfErr, Bool}
 use Rattle.rtk_obs.specs.declared.any_code.AnyCode.{AnyCode}
 use Rattle.rtk_obs.specs.declared.signal_cells.SignalEntry.{SignalEntry}
 use Rattle.rtk_collect.specs.Arrival.{message_of_1005, message_of_1006}
@@ -32,8 +32,8 @@ closing_if s site None below = []
 closing_if s site (Some set) below = closing s site set below
 
 -- an epoch that closes is closed then, whatever epochs were closed before
-abbrev pub ClosesMore : List AnyCode → ClosedEpochsView → Option (EpochSetView SignalEntry) → ClosedEpochsView → Type 0
-ClosesMore listed old set new = (below : List (EpochSetView SignalEntry)) → HasClosed old listed below → HasClosed new listed (option_to_list set ++ below)
+abbrev pub ClosesMore : Bool → List AnyCode → ClosedEpochsView → Option (EpochSetView SignalEntry) → ClosedEpochsView → Type 0
+ClosesMore doppler listed old set new = (below : List (EpochSetView SignalEntry)) → HasClosed old doppler listed below → HasClosed new doppler listed (option_to_list set ++ below)
 
 -- all last phases are of epochs below each later one than the epoch that closes, or as they were
 abbrev pub KeepsBelow : ClosedEpochsView → Option (EpochSetView SignalEntry) → ClosedEpochsView → Type 0
@@ -43,9 +43,9 @@ KeepsBelow old (Some set) new = (later : ℕ) → set.epoch < later → AllBelow
 -- the record of the epoch that closes, if one does, and then these lines were written, or a first part of them
 pub record WritesAnswer {T : Type 0} (s : SetupView) (old : EpochsView) (set : Option (EpochSetView SignalEntry)) (lines : List ℕ)
     (result : Result T ConvertFault) (new : EpochsView) (written_old written_new : Written) : Type 0 where
-  pub closes : OnOk result (ClosesMore s.head.listed old.closed set new.closed)
+  pub closes : OnOk result (ClosesMore s.head.doppler s.head.listed old.closed set new.closed)
   pub below : OnOk result (KeepsBelow old.closed set new.closed)
-  pub file : (below : List (EpochSetView SignalEntry)) → HasClosed old.closed s.head.listed below
+  pub file : (below : List (EpochSetView SignalEntry)) → HasClosed old.closed s.head.doppler s.head.listed below
       → PutsText result written_old.file written_new.file (closing_if s (site_of_window old.collector) set below)
   pub report : PutsText result written_old.report written_new.report lines
   pub fault : IfErr result IsFrameFault

@@ -20,7 +20,7 @@ gps_texts head site first = record { header = header_text head site; first = fir
 
 -- those of a file of any systems
 abbrev pub mixed_texts : MixedHeadView → PositionView → ℕ → FileTexts
-mixed_texts head site first = record { header = mixed_header_text head site; first = first; record_of = mixed_record_text }
+mixed_texts head site first = record { header = mixed_header_text head site; first = first; record_of = mixed_record_text head.doppler }
 
 -- the text of the file with these epochs of it
 abbrev pub text_with : Option ℕ → FileTexts → List EpochTableView → List ℕ

@@ -5,6 +5,7 @@ use Rattle.rtk_message.specs.declared.msm.Msm.{Msm}
 use Rattle.rtk_obs.specs.declared.signal_cells.SignalEntry.{SignalEntry}
 use Rattle.rtk_obs.specs.declared.signal_rows.SignalRow.{SignalRow}
 use Rattle.rtk_obs.specs.Cell.{is_satellite}
+use Rattle.rtk_obs.specs.Doppler.{rough_rate_at}
 use Rattle.rtk_obs.specs.MsmCells.{Slot, satellites_of, rough_at, slot_entry, cell_of_1074}
 use Rattle.rtk_obs.specs.SatelliteIndex.{index_in}
 use Rattle.rtk_obs.specs.SignalCells.{bit_of_row, field_of_row, channel_in, signal_of}
@@ -29,3 +30,10 @@ pub record IsRowOfMsm (channels : List (Option ℤ)) (m : Msm) (place : ℕ) (ro
   pub satellite : index_in m.system (bit_of_row m place) ≡ Some row.satellite
   pub channel : row.channel ≡ channel_in m.system channels (bit_of_row m place) (field_of_row m place)
   pub rough : row.rough ≡ rough_at m.rough_ms m.rough_fraction place
+
+-- and of a row whose cells have Doppler shifts
+pub record IsDopplerRow (channels : List (Option ℤ)) (m : Msm) (place : ℕ) (row : SignalRow) : Type 0 where
+  pub satellite : index_in m.system (bit_of_row m place) ≡ Some row.satellite
+  pub channel : row.channel ≡ channel_in m.system channels (bit_of_row m place) (field_of_row m place)
+  pub rough : row.rough ≡ rough_at m.rough_ms m.rough_fraction place
+  pub rough_rate : row.rough_rate ≡ rough_rate_at m place

@@ -20,3 +20,4 @@ pub record HasSetupParts (ss : List CaptureSurvey) (w : Wanted) (made station ne
   pub glonass_is : IsGlonassFound ss station taken listed w.channels seconds near s.head.glonass
   pub seconds_are : s.leap_seconds ≡ seconds
   pub takes_is : s.takes_1012 ≡ taken.obs1012
+  pub doppler_is : s.head.doppler ≡ w.doppler

@@ -8,9 +8,9 @@ use Rattle.rtk_obs.specs.Carriers.{AreChannels}
 use Rattle.rtk_rinex.specs.Header.{unit_line}
 use Rattle.rtk_rinex.specs.Lines.{HasNoEnd, text_of}
 use Rattle.rtk_rinex.specs.MixedHead.{IsMixedList, letter}
-use Rattle.rtk_rinex.specs.MixedHeader.{version_letter, by_system, system_types_lines, slots_text}
+use Rattle.rtk_rinex.specs.MixedHeader.{version_letter, by_system, system_types_lines, types_count, slots_text}
 use Rattle.rtk_rinex.specs.MixedHeaderFault.{BeginsMixedHeader}
-use Rattle.rtk_rinex.specs.Steps.HeaderShown.{line_at, name_at, number_at}
+use Rattle.rtk_rinex.specs.Steps.HeaderShown.{line_at, number_at}
 use Rattle.rtk_rinex.specs.Steps.MixedRoom.{codes_of_letter}
 
 -- whatever lines of a header begin the text, begin what is written too
@@ -47,12 +47,21 @@ pub record AreAllOf (system : ℕ) (all : List AnyCode) : Type 0 where
   pub distinct : AllPairs (λ c d. c ≢ d) all
   pub every : (c : AnyCode) → letter c ≡ system → Contains all c
 
+-- the name of the code after i codes, read from its type of pseudorange; each code has three types, or four
+-- with Doppler shifts, of which thirteen stand on a line
+abbrev pub code_name_at : Bool → ℕ → List ℕ → List ℕ
+code_name_at doppler i text = take 2 (drop (8 + 4 * (types_count doppler * i % 13)) (line_at (types_count doppler * i / 13) text))
+
+-- the first line of types shows a Doppler shift: the third type of its first code is one
+abbrev pub shows_doppler : List ℕ → Bool
+shows_doppler text = slice_index_or text 15 0 == 68
+
 -- the codes of a system that the lines of its types show, at which a text begins
-pub record ShowsGroup (system : ℕ) (text : List ℕ) (codes : List AnyCode) : Type 0 where
+pub record ShowsGroup (doppler : Bool) (system : ℕ) (text : List ℕ) (codes : List AnyCode) : Type 0 where
   pub group : IsGroup system codes
-  pub count : (n : ℕ) → IsInRange 1 (codes_of_letter system) n → number_at 3 3 text ≡ 3 * n → length codes ≡ n
+  pub count : (n : ℕ) → IsInRange 1 (codes_of_letter system) n → number_at 3 3 text ≡ types_count doppler * n → length codes ≡ n
   pub shown : (ds : List AnyCode) (i : ℕ) (d : AnyCode) → IsGroup system ds → i < length ds → i < length codes
-      → ((j : ℕ) → j ≤ i → name_at j text ≡ name_of (slice_index_or ds j d)) → slice_index_or codes i d ≡ slice_index_or ds i d
+      → ((j : ℕ) → j ≤ i → code_name_at doppler j text ≡ name_of (slice_index_or ds j d)) → slice_index_or codes i d ≡ slice_index_or ds i d
 
 -- the lines of this system are due after those of the listed codes, where its letter begins the text or
 -- not: the letter of the file is its letter; or the file has several systems, and the text begins with its
@@ -63,18 +72,18 @@ is_due file system listed begins =
     else file == system
 
 -- the lines of one system are written as they are due, and its codes are listed
-pub record ReadsSystem (text : List ℕ) (file system : ℕ) (old new : List AnyCode) (out written : List ℕ) : Type 0 where
+pub record ReadsSystem (doppler : Bool) (text : List ℕ) (file system : ℕ) (old new : List AnyCode) (out written : List ℕ) : Type 0 where
   pub codes : List AnyCode
   pub listed : new ≡ old ++ codes
-  pub put : written ≡ out ++ system_types_lines system codes
+  pub put : written ≡ out ++ system_types_lines doppler system codes
   pub begins : Bool
   pub letter : Decides begins (take 1 (drop (length out) text) ≡ system ∷ [])
-  pub due : is_due file system old begins ≡ true → ShowsGroup system (drop (length out) text) codes
+  pub due : is_due file system old begins ≡ true → ShowsGroup doppler system (drop (length out) text) codes
   pub none : is_due file system old begins ≡ false → codes ≡ []
 
 -- the types of all systems up to the line of the unit
-abbrev pub types_and_unit : List AnyCode → List ℕ
-types_and_unit listed = by_system system_types_lines listed ++ unit_line
+abbrev pub types_and_unit : Bool → List AnyCode → List ℕ
+types_and_unit doppler listed = by_system (system_types_lines doppler) listed ++ unit_line
 
 -- good codes of a file of this letter
 pub record IsListOf (file : ℕ) (listed : List AnyCode) : Type 0 where

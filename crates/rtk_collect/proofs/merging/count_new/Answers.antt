@@ -1,8 +1,7 @@
 use Rattle.std.proofs.Common.{◌+◌, ◌∙◌, [], ◌∷◌, not, Some, refl, sym, ap, arith, drop, get_or}
 use Rattle.std.proofs.lemmas.List.{append-nil}
-use Rattle.rtk_collect.specs.Equal.{equal_cells}
 use Rattle.rtk_collect.specs.Key.{key}
-use Rattle.rtk_collect.specs.EpochSet.{cell_under, one_more, fresh, conflicts}
+use Rattle.rtk_collect.specs.EpochSet.{cell_under, one_more, fresh, conflicts, equal_values}
 use Rattle.rtk_collect.proofs.CellsLemmas.{fresh-step, lower-length, push-few, conflict-is, kept-conflicts}
 use Rattle.rtk_collect.proofs.RisingLemmas.{none-conflicts}
 use Rattle.rtk_collect.proofs.merging.count_new.Goals as goal
@@ -36,7 +35,7 @@ loop-entry-preserved g c =
       | in-Some+then-differ w ↦
           let first = w.in-Some.first in
           let n = ap (λ t. one_more t rest) w.in-Some.is in
-          let other = w.differ.ensures ∙ ap (λ (x : _). not (equal_cells (g.E.Entry.entries.cell first) (g.E.Entry.entries.cell x))) is in
+          let other = w.differ.ensures ∙ ap (λ (x : _). not (equal_values g.E.Entry.entries first x)) is in
           let told = rw w.if-differ.true at (conflict-is g.E.Entry.entries cell first (Some first) w.differ.result refl other) ∙ ap (λ (x : _). g.E.Entry.entries.signal x ∷ []) (sym is) in
           record {
             at = omega arith;
@@ -49,7 +48,7 @@ loop-entry-preserved g c =
       | in-Some+else-differ w ↦
           let first = w.in-Some.first in
           let n = ap (λ t. one_more t rest) w.in-Some.is in
-          let other = w.differ.ensures ∙ ap (λ (x : _). not (equal_cells (g.E.Entry.entries.cell first) (g.E.Entry.entries.cell x))) is in
+          let other = w.differ.ensures ∙ ap (λ (x : _). not (equal_values g.E.Entry.entries first x)) is in
           let told = rw w.if-differ.false at (conflict-is g.E.Entry.entries cell first (Some first) w.differ.result refl other) in
           record {
             at = omega arith;

@@ -36,61 +36,61 @@ pub returns-clause-closes : goal.returns-clause-closes
 returns-clause-closes c = signals-close
 
 pub returns-clause-new : goal.returns-clause-new
-returns-clause-new c = λ sbas channels. new-window-is-empty signals (entries_by sbas channels)
+returns-clause-new c = λ sbas doppler channels. new-window-is-empty signals (entries_by sbas doppler channels)
 
 pub returns-clause-answers : goal.returns-clause-answers
-returns-clause-answers c = λ sbas channels. windows-answer signals (entries_by sbas channels)
+returns-clause-answers c = λ sbas doppler channels. windows-answer signals (entries_by sbas doppler channels)
 
 pub returns-clause-one_answer : goal.returns-clause-one_answer
-returns-clause-one_answer c = λ sbas channels. answers-unique signals (entries_by sbas channels)
+returns-clause-one_answer c = λ sbas doppler channels. answers-unique signals (entries_by sbas doppler channels)
 
 pub returns-clause-one_window : goal.returns-clause-one_window
-returns-clause-one_window c = λ sbas channels. windows-unique signals (entries_by sbas channels)
+returns-clause-one_window c = λ sbas doppler channels. windows-unique signals (entries_by sbas doppler channels)
 
 pub returns-clause-late_change_nothing : goal.returns-clause-late_change_nothing
-returns-clause-late_change_nothing c = λ sbas channels. late-change-nothing signals (entries_by sbas channels)
+returns-clause-late_change_nothing c = λ sbas doppler channels. late-change-nothing signals (entries_by sbas doppler channels)
 
 pub returns-clause-closed_grow : goal.returns-clause-closed_grow
-returns-clause-closed_grow c = λ sbas channels. closed-only-grow signals (entries_by sbas channels)
+returns-clause-closed_grow c = λ sbas doppler channels. closed-only-grow signals (entries_by sbas doppler channels)
 
 pub returns-clause-closed_fall : goal.returns-clause-closed_fall
-returns-clause-closed_fall c = λ sbas channels. closed-fall signals (entries_by sbas channels)
+returns-clause-closed_fall c = λ sbas doppler channels. closed-fall signals (entries_by sbas doppler channels)
 
 pub returns-clause-closed_after : goal.returns-clause-closed_after
-returns-clause-closed_after c = λ sbas channels. closed-after signals (entries_by sbas channels)
+returns-clause-closed_after c = λ sbas doppler channels. closed-after signals (entries_by sbas doppler channels)
 
 pub returns-clause-closed_rest : goal.returns-clause-closed_rest
-returns-clause-closed_rest c = λ sbas channels. closed-rest signals (entries_by sbas channels)
+returns-clause-closed_rest c = λ sbas doppler channels. closed-rest signals (entries_by sbas doppler channels)
 
 pub returns-clause-closed_count : goal.returns-clause-closed_count
-returns-clause-closed_count c = λ sbas channels. closed-length signals (entries_by sbas channels)
+returns-clause-closed_count c = λ sbas doppler channels. closed-length signals (entries_by sbas doppler channels)
 
 pub returns-clause-taken : goal.returns-clause-taken
-returns-clause-taken c = λ sbas channels. kept-are-taken signals (entries_by sbas channels)
+returns-clause-taken c = λ sbas doppler channels. kept-are-taken signals (entries_by sbas doppler channels)
 
 pub returns-clause-same : goal.returns-clause-same
-returns-clause-same c = λ sbas channels. set-decides signals (entries_by sbas channels)
+returns-clause-same c = λ sbas doppler channels. set-decides signals (entries_by sbas doppler channels)
 
 pub returns-clause-late : goal.returns-clause-late
-returns-clause-late c = λ sbas channels. kept-late signals (entries_by sbas channels)
+returns-clause-late c = λ sbas doppler channels. kept-late signals (entries_by sbas doppler channels)
 
 pub returns-clause-in_time : goal.returns-clause-in_time
-returns-clause-in_time c = λ sbas channels. kept-new signals (entries_by sbas channels)
+returns-clause-in_time c = λ sbas doppler channels. kept-new signals (entries_by sbas doppler channels)
 
 pub returns-clause-held : goal.returns-clause-held
-returns-clause-held c = λ sbas channels. held-length signals (entries_by sbas channels)
+returns-clause-held c = λ sbas doppler channels. held-length signals (entries_by sbas doppler channels)
 
 pub returns-clause-fall : goal.returns-clause-fall
-returns-clause-fall c = λ sbas channels. kept-falls signals (entries_by sbas channels)
+returns-clause-fall c = λ sbas doppler channels. kept-falls signals (entries_by sbas doppler channels)
 
 pub returns-clause-rise : goal.returns-clause-rise
-returns-clause-rise c = λ sbas channels. kept-rise signals (entries_by sbas channels)
+returns-clause-rise c = λ sbas doppler channels. kept-rise signals (entries_by sbas doppler channels)
 
 pub returns-clause-greatest : goal.returns-clause-greatest
-returns-clause-greatest c = λ sbas channels. kept-are-greatest signals (entries_by sbas channels)
+returns-clause-greatest c = λ sbas doppler channels. kept-are-greatest signals (entries_by sbas doppler channels)
 
 pub returns-clause-first : goal.returns-clause-first
-returns-clause-first c = λ sbas channels. first-is-kept signals (entries_by sbas channels)
+returns-clause-first c = λ sbas doppler channels. first-is-kept signals (entries_by sbas doppler channels)
 
 pub returns-clause-joins_greater : goal.returns-clause-joins_greater
 returns-clause-joins_greater c = with_arrival-new signals

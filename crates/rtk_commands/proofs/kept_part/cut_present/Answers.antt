@@ -6,7 +6,7 @@ use Rattle.rtk_commands.proofs.kept_part.cut_present.Goals as goal
 
 pub cut_plain-requires-clause-some : goal.cut_plain-requires-clause-some
 cut_plain-requires-clause-some g c =
-    kept-some_file c.kept_files_are_tables.ensures c.gps_files_stay.ensures.header c.gps_files_stay.ensures.records c.args.command.kept c.args.table.now.text _ c.requires.some
+    kept-some_file c.kept_files_are_tables.ensures c.gps_files_stay.ensures.header c.gps_files_stay.ensures.records c.types_tell_shifts.ensures.mixed c.args.command.kept c.args.table.now.text _ c.requires.some
     (λ t good is. of-some _ c.in-Ok.kept c.in-Some.narrow c.in-Some.is (c.in-Ok.ensures.some t good is))
     (λ t good is. c.as_slice.ensures.value ∙ match-some _ _ c.in-Ok.kept c.in-Some.narrow c.in-Some.is (c.in-Ok.ensures.text t good is))
 

@@ -10,5 +10,7 @@ unfolding cell_lines
 returns c = λ earlier track are.
     let p = c.args.place.now in
     adds-more
+    (adds-more
     (adds-more (adds-more c.put_gone.ensures (adds-as (ap (λ (d : Distances). value_lines d p) are) c.put_values.ensures)) (c.put_slips.ensures earlier track))
-    (adds-as (ap (λ (d : Distances). half_lines d (pair c.args.old.now c.args.new.now) p) are) c.put_halves.ensures)
+    (adds-as (ap (λ (d : Distances). half_lines d (pair c.args.old.now c.args.new.now) p) are) c.put_halves.ensures))
+    c.put_shifts.ensures

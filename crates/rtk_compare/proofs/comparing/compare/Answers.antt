@@ -1,4 +1,4 @@
-use Rattle.std.proofs.Common.{ℕ, List, ap, subst, ◌∙◌}
+use Rattle.std.proofs.Common.{ℕ, ◌&&◌, List, ap, subst, ◌∙◌}
 use Rattle.rtk_rinex.specs.Header.{PositionView, position_view}
 use Rattle.rtk_rinex.specs.MixedHead.{MixedHeadView}
 use Rattle.rtk_compare.specs.declared.shared_codes.SharedCode.{SharedCode}
@@ -15,10 +15,10 @@ returns-clause-added c = λ t u is_t old is_u new.
     let n = c.heading-new_heading.result in
     let old_parts = c.heading-old_heading.ensures.parts t is_t old in
     let new_parts = c.heading-new_heading.ensures.parts u is_u new in
-    let codes : ℕ → List SharedCode = shared_codes t.head.listed u.head.listed in
+    let codes : ℕ → List SharedCode = shared_codes (t.head.doppler && u.head.doppler) t.head.listed u.head.listed in
     let shared : HasShared c.of-shared.result codes =
-    subst (λ (h : MixedHeadView). HasShared c.of-shared.result (shared_codes t.head.listed h.listed)) new_parts.0
-    (subst (λ (h : MixedHeadView). HasShared c.of-shared.result (shared_codes h.listed n.head.listed)) old_parts.0 c.of-shared.ensures) in
+    subst (λ (h : MixedHeadView). HasShared c.of-shared.result (shared_codes (t.head.doppler && h.doppler) t.head.listed h.listed)) new_parts.0
+    (subst (λ (h : MixedHeadView). HasShared c.of-shared.result (shared_codes (h.doppler && n.head.doppler) h.listed n.head.listed)) old_parts.0 c.of-shared.ensures) in
     let headers = ap (λ (h : MixedHeadView). header_lines h (position_view o.position) n.head (position_view n.position)) old_parts.0 ∙ ap (λ (s : PositionView). header_lines t.head s n.head (position_view n.position)) old_parts.1
     ∙ ap (λ (h : MixedHeadView). header_lines t.head t.site h (position_view n.position)) new_parts.0 ∙ ap (λ (s : PositionView). header_lines t.head t.site u.head s) new_parts.1 in
     adds-more (adds-as headers c.compare_headers.ensures)

@@ -46,7 +46,7 @@ loop-k-preserved c =
           let own : IsTrackOf (track_at start s k) es =
           subst (λ (y : SharedCode). IsTrackOf (track_at start s k) (cells_before s y earlier)) (ap (λ (cs : List SharedCode). get_or cs k x) (sym same) ∙ sym (c.code_at-code.ensures x))
           (tracks k x (subst (λ (cs : List SharedCode). k < length cs) same lt)) in
-          adds-after (λ (code : SharedCode). lines_if_told (place_at c.args.time.now p code) (cells_before s code earlier) (cells_of code p)) (gone_line c.args.time.now p) codes k x (i.lines shared earlier same tracks)
+          adds-after (λ (code : SharedCode). lines_if_told code.shifts (place_at c.args.time.now p code) (cells_before s code earlier) (cells_of code p)) (gone_line c.args.time.now p) codes k x (i.lines shared earlier same tracks)
           (c.compare_code.ensures.lines es (own-track start l.tracks s k c.track_in-track.result es i.others was own))
           (take_more codes k x lt ∙ ap (λ (y : SharedCode). take k codes ++ y ∷ []) (sym (c.code_at-code.ensures x)));
       own = λ j code es low is.
@@ -65,7 +65,7 @@ returns-clause-lines c = λ shared earlier same tracks.
     let l = c.loop-k in
     let s : ℕ = c.args.row.now.satellite in
     let p : Pair SatelliteRow = row_view c.args.row.now in
-    let f = λ (code : SharedCode). lines_if_told (place_at c.args.time.now p code) (cells_before s code earlier) (cells_of code p) in
+    let f = λ (code : SharedCode). lines_if_told code.shifts (place_at c.args.time.now p code) (cells_before s code earlier) (cells_of code p) in
     adds-as (ap (λ (cs : List SharedCode). gone_line c.args.time.now p ++ flat_map f cs) (take_all l.k c.args.codes.now (omega (arith, c.loop-k-test.false)) ∙ same) ∙ row-told c.args.time.now shared earlier p)
     (l.invariant.lines shared earlier same tracks)
 

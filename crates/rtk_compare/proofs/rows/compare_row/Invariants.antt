@@ -15,7 +15,7 @@ invariant-loop-k l = record {
   size : AreTracks l.tracks;
   lines : (shared : ℕ → List SharedCode) (earlier : List (List (Pair SatelliteRow))) → l.codes ≡ shared l.row.satellite → AreTracksAt l.fn.tracks shared earlier l.row.satellite
       → Adds l.fn.findings l.findings (gone_line l.time (row_view l.row)
-      ++ flat_map (λ (code : SharedCode). lines_if_told (place_at l.time (row_view l.row) code) (cells_before l.row.satellite code earlier) (cells_of code (row_view l.row))) (take l.k l.codes));
+      ++ flat_map (λ (code : SharedCode). lines_if_told code.shifts (place_at l.time (row_view l.row) code) (cells_before l.row.satellite code earlier) (cells_of code (row_view l.row))) (take l.k l.codes));
   own : (j : ℕ) (code : SharedCode) (es : List (Pair Observed)) → j < l.k → IsTrackOf (track_at l.fn.tracks l.row.satellite j) es
       → IsTrackOf (track_at l.tracks l.row.satellite j) (cells_of (get_or l.codes j code) (row_view l.row) ∷ es);
   others : (n : ℕ) → (n < 16 * l.row.satellite) ⊎ (16 * l.row.satellite + l.k ≤ n) → get_or l.tracks n no_track ≡ get_or l.fn.tracks n no_track;

@@ -16,9 +16,9 @@ loop-old-preserved c =
     let more = c.put_shared.ensures.len in
     let few = l.invariant.few in
     record {
-      items = shared-more c.args.news.now c.args.olds.now k code before c.put_shared.new.shared.items c.loop-old-test.true l.invariant.items
-          (c.put_shared.ensures.items ∙ ap (λ (o : Option ℕ). before ++ with_places code k o) c.place_in-new.ensures
-          ∙ ap (λ (x : AnyCode). before ++ with_places x k (place_in x c.args.news.now)) (c.code_at-code.ensures code));
+      items = shared-more c.args.shifts c.args.news.now c.args.olds.now k code before c.put_shared.new.shared.items c.loop-old-test.true l.invariant.items
+          (c.put_shared.ensures.items ∙ ap (λ (o : Option ℕ). before ++ with_places c.args.shifts code k o) c.place_in-new.ensures
+          ∙ ap (λ (x : AnyCode). before ++ with_places c.args.shifts x k (place_in x c.args.news.now)) (c.code_at-code.ensures code));
       few = omega (arith, more, few);
     }
 
@@ -26,4 +26,4 @@ pub returns-clause-items : goal.returns-clause-items
 returns-clause-items c =
     let l = c.loop-old in
     sym (append-nil l.shared.items)
-    ∙ sym (l.invariant.items ∙ ap (λ (cs : List AnyCode). l.shared.items ++ shared_from c.args.news.now l.old cs) (drop_all l.old c.args.olds.now (omega (arith, c.loop-old-test.false))))
+    ∙ sym (l.invariant.items ∙ ap (λ (cs : List AnyCode). l.shared.items ++ shared_from c.args.shifts c.args.news.now l.old cs) (drop_all l.old c.args.olds.now (omega (arith, c.loop-old-test.false))))

@@ -45,4 +45,4 @@ returns-clause-shows g c =
     (c.show_cells-second.ensures.takes.shows (g.E.FileEntry.places c.args.phases.now) first)
 
 pub returns-clause-lines : goal.returns-clause-lines
-returns-clause-lines g c = λ rows h. c.show_cells-second.ensures.takes.kept rows (c.show_cells-first.ensures.takes.kept rows h)
+returns-clause-lines g c = λ doppler rows h. c.show_cells-second.ensures.takes.kept doppler rows (c.show_cells-first.ensures.takes.kept doppler rows h)

@@ -3,7 +3,6 @@ use Rattle.std.proofs.lemmas.List.{length-map}
 use Rattle.rtk_obs.specs.SatelliteIndex.{IsSatelliteIndex}
 use Rattle.rtk_obs.specs.SignalCells.{IsSignalInRange}
 use Rattle.rtk_obs.specs.declared.any_code.AnyCode.{AnyCode}
-use Rattle.rtk_obs.specs.declared.cell.Cell.{Cell}
 use Rattle.rtk_obs.specs.declared.signal_cells.SignalEntry.{SignalEntry}
 use Rattle.rtk_obs.specs.declared.track.Track.{Track}
 use Rattle.rtk_obs.specs.Tracks.{IsLater}
@@ -33,7 +32,7 @@ satellites-init g c =
         one = omega arith;
         last = omega arith;
         fills = fills-begin old c.args.set.now.epoch ms ls (all-map f _ IsSignalInRange laws.range _ c.msm_cells-msm.ensures.range) (all-map f _ IsSignalInRange laws.range _ c.legacy_left-legacy.ensures.range);
-        holds = subst (λ (rows : List SatelliteRow). g.E.Lines.RowLines.HasRows c.restart.new.self rows) (sym (rows_to-zero (shown_by old c.args.set.now.epoch (ms ++ ls)) c.args.listed.now)) c.restart.ensures;
+        holds = subst (λ (rows : List SatelliteRow). g.E.Lines.RowLines.HasRows c.restart.new.self c.args.doppler rows) (sym (rows_to-zero (shown_by old c.args.set.now.epoch (ms ++ ls)) c.args.listed.now)) c.restart.ensures;
         few = c.form_from-form.ensures.codes.few;
         codes_are = c.form_from-form.ensures.codes.codes_are;
       };
@@ -117,7 +116,7 @@ open_line-requires-clause-room g c =
     let at = fills-next old epoch ms c.satellites.at.msm ls c.satellites.at.legacy i.from n (g.E.FileEntry.places c.satellites.phases) i.fills rise-m rise-l least in
     let few = next-has (λ (s : ℕ). s ≤ g.E.Lines.RowLines.greatest) (all-map f _ (λ (e : SignalEntry). e.satellite ≤ g.E.Lines.RowLines.greatest) laws.lines _ c.msm_cells-msm.ensures.range)
     (all-map f _ (λ (e : SignalEntry). e.satellite ≤ g.E.Lines.RowLines.greatest) laws.lines _ c.legacy_left-legacy.ensures.range) least in
-    room-held g.E.Lines.RowLines.HasRows g.E.Lines.RowLines.greatest c.satellites.lines (shown_by old epoch (ms ++ ls)) c.args.listed.now (i.from - 1) i.holds (omega (arith, few, from, i.one))
+    room-held g.E.Lines.RowLines.HasRows c.args.doppler g.E.Lines.RowLines.greatest c.satellites.lines (shown_by old epoch (ms ++ ls)) c.args.listed.now (i.from - 1) i.holds (omega (arith, few, from, i.one))
 
 pub fill_line-at-requires-clause-satellite : goal.fill_line-at-requires-clause-satellite
 fill_line-at-requires-clause-satellite g c =
@@ -268,7 +267,7 @@ close_line-requires-clause-room g c =
     let at = fills-next old epoch ms c.satellites.at.msm ls c.satellites.at.legacy i.from n (g.E.FileEntry.places c.satellites.phases) i.fills rise-m rise-l least in
     let few = next-has (λ (s : ℕ). s ≤ g.E.Lines.RowLines.greatest) (all-map f _ (λ (e : SignalEntry). e.satellite ≤ g.E.Lines.RowLines.greatest) laws.lines _ c.msm_cells-msm.ensures.range)
     (all-map f _ (λ (e : SignalEntry). e.satellite ≤ g.E.Lines.RowLines.greatest) laws.lines _ c.legacy_left-legacy.ensures.range) least in
-    room-held g.E.Lines.RowLines.HasRows g.E.Lines.RowLines.greatest c.fill_line-at.new.lines (shown_by old epoch (ms ++ ls)) c.args.listed.now (i.from - 1) (c.fill_line-at.ensures.lines _ (c.in_ok-open_line.ensures.rows _ i.holds)) (omega (arith, few, from, i.one))
+    room-held g.E.Lines.RowLines.HasRows c.args.doppler g.E.Lines.RowLines.greatest c.fill_line-at.new.lines (shown_by old epoch (ms ++ ls)) c.args.listed.now (i.from - 1) (c.fill_line-at.ensures.lines c.args.doppler _ (c.in_ok-open_line.ensures.rows c.args.doppler _ i.holds)) (omega (arith, few, from, i.one))
 
 pub close_line-requires-clause-open : goal.close_line-requires-clause-open
 close_line-requires-clause-open g c = (_, c.fill_line-at.ensures.shows.row)
@@ -307,14 +306,14 @@ satellites-preserved g c =
     (slice_range ms c.satellites.at.msm filled.result.msm ++ slice_range ls c.satellites.at.legacy filled.result.legacy) n codes (g.E.FileEntry.places filled.new.phases) filled.new.lines) formed filled.ensures.shows in
     let h = shown_by old epoch (ms ++ ls) in
     let rows = rows_to h c.args.listed.now (n - 1) in
-    let before : g.E.Lines.RowLines.HasRows c.satellites.lines rows =
-    subst (λ (rs : List SatelliteRow). g.E.Lines.RowLines.HasRows c.satellites.lines rs)
+    let before : g.E.Lines.RowLines.HasRows c.satellites.lines c.args.doppler rows =
+    subst (λ (rs : List SatelliteRow). g.E.Lines.RowLines.HasRows c.satellites.lines c.args.doppler rs)
     (rows-between old epoch ms c.satellites.at.msm ls c.satellites.at.legacy i.from n (g.E.FileEntry.places c.satellites.phases) i.fills from at.msm at.legacy c.args.listed.now i.one (omega (arith, hn.1)))
     i.holds in
-    let held = filled.ensures.lines rows (c.in_ok-open_line.ensures.rows rows before) in
+    let held = filled.ensures.lines c.args.doppler rows (c.in_ok-open_line.ensures.rows c.args.doppler rows before) in
     let shown = fills-row old epoch ms c.satellites.at.msm ls c.satellites.at.legacy n (g.E.FileEntry.places c.satellites.phases) at _ filled.result.msm filled.result.legacy codes own
     (g.E.FileEntry.places filled.new.phases) filled.new.lines filled.ensures.msm.from filled.ensures.msm.next filled.ensures.legacy.from filled.ensures.legacy.next shows in
-    let closed = c.close_line.ensures rows (row_with h codes n).observed.items held shown in
+    let closed = c.close_line.ensures c.args.doppler rows (row_with h codes n).observed.items held shown in
     record {
       shows = record {
         from = n + 1;
@@ -322,9 +321,9 @@ satellites-preserved g c =
         last = omega (arith, hn.1);
         fills = fills-more old epoch ms c.satellites.at.msm ls c.satellites.at.legacy n (g.E.FileEntry.places c.satellites.phases) at _ filled.result.msm filled.result.legacy codes own
             (g.E.FileEntry.places filled.new.phases) filled.new.lines filled.ensures.msm.from filled.ensures.msm.next filled.ensures.legacy.from filled.ensures.legacy.next shows;
-        holds = subst (λ (all : List SatelliteRow). g.E.Lines.RowLines.HasRows c.close_line.new.self all)
+        holds = subst (λ (all : List SatelliteRow). g.E.Lines.RowLines.HasRows c.close_line.new.self c.args.doppler all)
             (rows-next h c.args.listed.now n rows (row_if_any h codes n) hn.0 refl (ap (λ (cs : List AnyCode). row_if_any h cs n) (sym same)))
-            (row-held g.E.Lines.RowLines.HasRows c.close_line.new.self (c.blank_rows_are_left_out.ensures c.close_line.new.self) h codes n rows closed);
+            (row-held (λ l rows. g.E.Lines.RowLines.HasRows l c.args.doppler rows) c.close_line.new.self (c.blank_rows_are_left_out.ensures c.close_line.new.self c.args.doppler) h codes n rows closed);
         few = c.renew_form.ensures.codes.few;
         codes_are = λ s more less. c.renew_form.ensures.codes.codes_are s (omega arith) less;
       };
@@ -355,10 +354,10 @@ returns-clause-lines g c =
     let turn : (s : ℕ) (k : AnyCode) → first_cell (ms ++ ls) s k ≡ cell_at e.cells s k =
     λ s k. ap (λ (xs : List _). first_cell (map f xs ++ ls) s k) c.msm_cells-msm.ensures.value
     ∙ turn-is f g.E.Entry.entries laws.values c.args.set.now.cells c.legacy_left-legacy.result.now (laws.left _ _ _ c.legacy_left-legacy.ensures.left) s k in
-    λ below has. subst (λ (rows : List SatelliteRow). g.E.Lines.RowLines.HasRows c.satellites.lines rows)
+    λ below has. subst (λ (rows : List SatelliteRow). g.E.Lines.RowLines.HasRows c.satellites.lines c.args.doppler rows)
     (last
     ∙ rows_to-same (shown_by old epoch (ms ++ ls)) (observed_at e below) c.args.listed.now 221 (omega arith)
-    (λ s k hs. ap (λ (o : Option Cell). observed_after (track_at old s k) k epoch o) (turn s k)
+    (λ s k hs. ap (λ (o : Option SignalEntry). observed_after (track_at old s k) k epoch o) (turn s k)
     ∙ ap (λ (o : Option Track). observed_after o k e.epoch (cell_at e.cells s k)) (has s k hs)))
     i.holds
 
@@ -383,7 +382,7 @@ returns-clause-phases g c =
     λ s k. ap (λ (xs : List _). first_cell (map f xs ++ ls) s k) c.msm_cells-msm.ensures.value
     ∙ turn-is f g.E.Entry.entries laws.values c.args.set.now.cells c.legacy_left-legacy.result.now (laws.left _ _ _ c.legacy_left-legacy.ensures.left) s k in
     λ below has s k hs. end.done s k hs (omega (arith, hs.0.1))
-    ∙ ap (λ (o : Option Cell). track_after (track_at old s k) k epoch o) (turn s k)
+    ∙ ap (λ (o : Option SignalEntry). track_after (track_at old s k) k epoch o) (turn s k)
     ∙ ap (λ (o : Option Track). track_after o k e.epoch (cell_at e.cells s k)) (has s k hs)
     ∙ track-below (cell_at e.cells s k) e.epoch k (cells_at_epochs below s k)
 

@@ -6,7 +6,7 @@ use Rattle.rtk_convert.proofs.epoch_rows.push_rows.Given as goal
 -- the satellites below one are written: which one no variable says
 abbrev pub invariant-satellites : goal.invariant-satellites
 invariant-satellites g l = record {
-  shows : ShowsBelow g.E.Lines.RowLines.HasRows (g.E.FileEntry.places l.fn.phases) l.fn.set.epoch (map g.E.FileEntry.signal_of l.msm) l.at.msm (map g.E.FileEntry.signal_of l.legacy) l.at.legacy l.listed
+  shows : ShowsBelow (λ lines rows. g.E.Lines.RowLines.HasRows lines l.doppler rows) (g.E.FileEntry.places l.fn.phases) l.fn.set.epoch (map g.E.FileEntry.signal_of l.msm) l.at.msm (map g.E.FileEntry.signal_of l.legacy) l.at.legacy l.listed
       l.form.last l.form.codes.now (g.E.FileEntry.places l.phases) l.lines;
   epoch : l.form.epoch ≡ l.fn.set.epoch;
   within : l.form.last ≤ 221;

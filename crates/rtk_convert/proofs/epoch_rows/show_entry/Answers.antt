@@ -1,11 +1,11 @@
-use Rattle.std.proofs.Common.{◌≡◌, ◌∙◌, ℕ, ap, subst}
+use Rattle.std.proofs.Common.{◌≡◌, ◌∙◌, ℕ, ℤ, ap, subst}
 use Rattle.rtk_obs.specs.declared.cell.Cell.{Cell}
 use Rattle.rtk_obs.specs.AnyCode.{place_of}
 use Rattle.rtk_obs.specs.Rollover.{digits_since}
 use Rattle.rtk_obs.specs.Slip.{epoch_cell}
 use Rattle.rtk_rinex.specs.declared.epoch_table.Observed.{Observed}
 use Rattle.rtk_convert.specs.LastPhases.{track_at}
-use Rattle.rtk_convert.specs.Rows.{rolling_frequency, observed_with}
+use Rattle.rtk_convert.specs.Rows.{rolling_frequency, observed_by, observed_with}
 use Rattle.rtk_convert.specs.Steps.ShownCells.{IsFreeOf, with_place}
 use Rattle.rtk_convert.proofs.epoch_rows.show_entry.Goals as goal
 
@@ -15,8 +15,10 @@ returns g c =
     let codes = c.args.form.now.codes.now in
     let last = track_at (g.E.FileEntry.places c.args.phases.now) e.satellite e.code in
     let cell = c.cell.ensures ∙ c.cells_are_signals.ensures.values c.args.entry.now in
-    let shown : c.observed-shown.result ≡ observed_with e.cell (digits_since (rolling_frequency e.code) last (epoch_cell c.args.form.now.epoch e.cell)) =
-    c.observed-shown.ensures ∙ ap (λ (x : Cell). observed_with x c.step-digits.result) cell ∙ ap (observed_with e.cell) c.step-digits.ensures.digits in
+    let shift = c.doppler.ensures ∙ c.cells_are_signals.ensures.shifts c.args.entry.now in
+    let shown : c.observed-shown.result ≡ observed_with e (digits_since (rolling_frequency e.code) last (epoch_cell c.args.form.now.epoch e.cell)) =
+    c.observed-shown.ensures ∙ ap (λ (x : Cell). observed_by x c.doppler.result c.step-digits.result) cell ∙ ap (λ (d : ℤ). observed_by e.cell d c.step-digits.result) shift
+    ∙ ap (observed_with e) c.step-digits.ensures.digits in
     record {
       track = c.step-digits.ensures.same;
       others = c.step-digits.ensures.others;

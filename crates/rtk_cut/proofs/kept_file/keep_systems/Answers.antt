@@ -1,6 +1,7 @@
 use Rattle.std.proofs.Common.{◌≡◌, ◌++◌, ◌∙◌, ℕ, List, None, sym, ap}
 use Rattle.std.specs.Prelude.{flat_map}
 use Rattle.rtk_rinex.specs.Header.{PositionView, position_view}
+use Rattle.rtk_rinex.specs.MixedForm.{FormView}
 use Rattle.rtk_rinex.specs.MixedHead.{MixedHeadView}
 use Rattle.rtk_rinex.specs.MixedHeader.{mixed_header_text}
 use Rattle.rtk_rinex.specs.MixedRecord.{mixed_record_text}
@@ -22,8 +23,10 @@ returns-clause-text c = λ t good text.
     let head = c.in-Some.ensures.head ∙ ap (kept_head ks) parts.0 in
     let first : c.first_kept-first.result ≡ first_of_part None t.first (kept_epochs ks t.epochs) =
     c.first_kept-first.ensures t.epochs (c.records.ensures.records t good text).1 ∙ ap (λ (n : ℕ). first_of_part None n (kept_epochs ks t.epochs)) parts.2 in
-    c.in_ok-put_kept_records.ensures t.epochs (c.records-2.ensures.records t good text).1
-    ∙ ap (λ (top : List ℕ). top ++ flat_map mixed_record_text (kept_epochs ks t.epochs))
+    let read = c.records-2.ensures.records t good text in
+    c.in_ok-put_kept_records.ensures t.epochs read.1
+    ∙ ap (λ (f : FormView). c.extend_from_slice.new.self.items ++ flat_map (mixed_record_text f.doppler) (kept_epochs ks t.epochs)) read.0
+    ∙ ap (λ (top : List ℕ). top ++ flat_map (mixed_record_text t.head.doppler) (kept_epochs ks t.epochs))
     (c.in_ok-extend_from_slice.ensures.items
     ∙ ap (λ (xs : List ℕ). xs ++ c.as_slice.result.now) c.in_ok-text.ensures.items
     ∙ c.as_slice.ensures.value ∙ c.in_ok-top.ensures.value

@@ -1,4 +1,4 @@
-use Rattle.std.proofs.Common.{◌≡◌, ◌≤◌, ℕ, List, length, take, drop, length-append, length-drop, refl, sym, ap, subst, ◌∙◌, arith}
+use Rattle.std.proofs.Common.{◌≡◌, ◌≤◌, ℕ, Bool, List, length, take, drop, length-append, length-drop, refl, sym, ap, subst, ◌∙◌, arith}
 use Rattle.std.proofs.lemmas.List.{length-take-le}
 use Rattle.rtk_rinex.specs.declared.epoch_table.SatelliteRow.{SatelliteRow}
 use Rattle.rtk_rinex.specs.MixedRecord.{mixed_record_text}
@@ -11,7 +11,8 @@ pub loop-satellite-init : goal.loop-satellite-init
 loop-satellite-init c = record {
   size = refl;
   room = refl;
-  so_far = made-none c.args.marks.now c.args.read.now c.again-rows.result c.new-lines.result c.new-lines.ensures c.again-rows.ensures.value c.again-rows.ensures.few;
+  so_far = made-none c.args.marks.now c.args.read.now c.again-rows.result c.restart_with.new.self c.restart_with.ensures.lines c.again-rows.ensures.value c.again-rows.ensures.few;
+  doppler = c.restart_with.ensures.doppler ∙ c.has_doppler.ensures;
 }
 
 pub push_row-requires-clause-room : goal.push_row-requires-clause-room
@@ -48,12 +49,15 @@ loop-satellite-preserved c =
             same = s.ensures.same;
           })
           (rw (sym c.index.ensures.value) at c.in_ok-push_row.ensures.ok);
+      doppler = c.push_row.ensures.doppler ∙ i.doppler;
     }
 
 pub returns : goal.returns
 returns c = λ e is.
     let l = c.loop-satellite in
     let f = l.invariant.so_far in
+    let doppler : Bool = c.args.read.now.form.doppler in
     c.into_text.ensures ∙ c.finish.ensures.text f.made f.holds
-    ∙ ap (λ (t : ℕ). mixed_record_text (record { time = t; rows = f.made })) (c.time.ensures ∙ is.0.time)
-    ∙ ap (λ (xs : List SatelliteRow). mixed_record_text (record { time = e.time; rows = xs })) (made-all c.args.marks.now l.marks e.rows l.rows f.made (f.so_far e is) c.in_default.ensures.next)
+    ∙ ap (λ (d : Bool). mixed_record_text d (record { time = c.time.result; rows = f.made })) l.invariant.doppler
+    ∙ ap (λ (t : ℕ). mixed_record_text doppler (record { time = t; rows = f.made })) (c.time.ensures ∙ is.0.time)
+    ∙ ap (λ (xs : List SatelliteRow). mixed_record_text doppler (record { time = e.time; rows = xs })) (made-all c.args.marks.now l.marks e.rows l.rows f.made (f.so_far e is) c.in_default.ensures.next)

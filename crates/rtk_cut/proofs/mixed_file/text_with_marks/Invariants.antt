@@ -7,6 +7,7 @@ invariant-loop-satellite l = record {
   size : length l.marks ≡ length l.fn.marks;
   room : length l.shown ≡ 16;
   so_far : HasMadeLines l.fn.marks l.marks l.read l.rows l.lines;
+  doppler : l.lines.doppler ≡ l.read.form.doppler;
 }
 
 abbrev pub decreases-loop-satellite : goal.decreases-loop-satellite

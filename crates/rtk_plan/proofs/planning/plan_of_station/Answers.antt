@@ -8,7 +8,7 @@ use Rattle.rtk_survey.specs.Surveys.{places_of}
 use Rattle.rtk_captures.specs.Linking.{AreLinksOf}
 use Rattle.rtk_captures.specs.Dating.{IsInReach, IsNearOf}
 use Rattle.rtk_captures.specs.declared.refusal.Refusal.{Refusal}
-use Rattle.rtk_captures.specs.declared.refusal.Refusal.TheVariants.{NoCode, OutsideDates}
+use Rattle.rtk_captures.specs.declared.refusal.Refusal.TheVariants.{NoCode, OutsideDates, NoRates}
 use Rattle.rtk_captures.specs.declared.station_capture.StationCapture.{StationCapture}
 use Rattle.rtk_plan.specs.declared.wanted.Wanted.{Wanted}
 use Rattle.rtk_plan.proofs.RefusedLemmas.{exit-also}
@@ -21,6 +21,7 @@ setup-cause : (ss : List CaptureSurvey) (links : List (List ℕ)) (w : Wanted) (
 setup-cause ss links w skip_empty as_given station cs near are first NoCode none = (links, are, (near, first, none))
 setup-cause ss links w skip_empty as_given station cs near are first OutsideDates outside =
     (first.0, first.1, (first.2.0, first.2.1, inl (subst (λ (n : ℕ). ¬ (IsReference n)) first.2.2 outside)))
+setup-cause ss links w skip_empty as_given station cs near are first (NoRates letter) lacks = (links, are, (near, first, lacks))
 setup-cause ss links w skip_empty as_given station cs near are first other never = absurd never
 
 -- there are too many of these links

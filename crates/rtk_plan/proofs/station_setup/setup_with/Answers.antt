@@ -23,7 +23,7 @@ returns c =
       kinds_are = ap (λ (s : SetupView). s.kinds) is ∙ ap (λ (h : MixedHeadView). kinds_listed taken.kinds h.listed) head;
       listed_are = ap (λ (s : SetupView). s.head.listed) is ∙ ap (λ (h : MixedHeadView). h.listed) head;
       marker_is =
-          ap (λ (s : SetupView). s.head.marker) is ∙ ap (λ (h : MixedHeadView). h.marker) head ∙ c.marker_of.ensures
+          ap (λ (s : SetupView). s.head.marker) is ∙ ap (λ (h : MixedHeadView). h.marker) head ∙ c.marker_of-marker.ensures
           ∙ ap (λ (n : ℕ). marker_chosen w.marker n) c.number-number.ensures.value;
       made_is = ap (λ (s : SetupView). s.head.made) is ∙ ap (λ (h : MixedHeadView). h.made) head;
       window_is = ap (λ (s : SetupView). s.window) is;
@@ -33,4 +33,5 @@ returns c =
           (subst (λ (n : ℕ). IsGlonassFound ss c.number-number.result taken listed w.channels seconds n c.glonass_found-glonass.result) c.moment-moment.ensures.value c.glonass_found-glonass.ensures.found));
       seconds_are = ap (λ (s : SetupView). s.leap_seconds) is;
       takes_is = ap (λ (s : SetupView). s.takes_1012) is;
+      doppler_is = ap (λ (s : SetupView). s.head.doppler) is ∙ ap (λ (h : MixedHeadView). h.doppler) head;
     }

@@ -13,7 +13,7 @@ returns-in-Some c = λ t is text.
     subst (λ (n : ℕ). IsTimesOf c.in_ok-times.times n (newest_first t.epochs)) c.unit_ms.ensures.value (c.in_ok-times.ensures t is text) in
     let last : newest_moment (newest_first t.epochs) ≡ Some c.in-Some.last = sym (ap (λ (r : RecordCounts). r.last) times.records) ∙ c.in-Some.is in
     c.in_ok-text-in-Some.ensures t is text times
-    ∙ ap (λ (i : Option ℕ). mixed_quality_text c.args.form t.head.marker t.head.listed t.first c.in-Some.last i t.epochs) (c.in_ok-interval.ensures t is text)
+    ∙ ap (λ (i : Option ℕ). mixed_quality_text t.head.doppler c.args.form t.head.marker t.head.listed t.first c.in-Some.last i t.epochs) (c.in_ok-interval.ensures t is text)
     ∙ ap (λ (o : Option ℕ). mixed_text_until c.args.form t o) (sym last)
 
 pub returns : goal.returns

@@ -1,11 +1,11 @@
-use Rattle.std.proofs.Common.{◌≡◌, ◌∙◌, ◌++◌, ℕ, List, [], length, drop, codes, ap, sym, subst, arith, Option, append_assoc}
+use Rattle.std.proofs.Common.{◌≡◌, ◌∙◌, ◌++◌, ℕ, Bool, List, [], length, drop, codes, ap, sym, subst, arith, Option, append_assoc}
 use Rattle.rtk_obs.specs.declared.any_code.AnyCode.{AnyCode}
 use Rattle.rtk_obs.specs.declared.time.Civil.{Civil}
 use Rattle.rtk_rinex.specs.Header.{position_view, header_line, made_line, marker_line, place_line, height_line, first_line}
-use Rattle.rtk_rinex.specs.MixedHead.{MixedHeadView, GlonassView, TellsGlonass}
+use Rattle.rtk_rinex.specs.MixedHead.{MixedHeadView, GlonassView, IsMixedHead, TellsGlonass}
 use Rattle.rtk_rinex.specs.MixedHeader.{version_letter, mixed_version_line, phase_shift_line, by_system, glonass_lines, unknown_lines}
 use Rattle.rtk_obs.specs.Reading.{reading_of}
-use Rattle.rtk_rinex.specs.Steps.MixedHeaderRead.{Reads, types_and_unit, IsListOf}
+use Rattle.rtk_rinex.specs.Steps.MixedHeaderRead.{Reads, shows_doppler, types_and_unit, IsListOf}
 use Rattle.rtk_rinex.proofs.HeaderShownLemmas.{shown_or, some_or}
 use Rattle.rtk_rinex.proofs.MixedPartsLemmas.{MixedValues, IsGoodMixed, mixed_values, mixed_text, whole_mixed}
 use Rattle.rtk_rinex.proofs.MixedReadLemmas.{MixedSteps, mixed_read, mixed_written}
@@ -16,38 +16,50 @@ use Rattle.rtk_rinex.proofs.mixed_header_check.read_mixed_header.Goals as goal
 -- ---- the parts that are read
 
 abbrev values : (c : goal.After-with_height) → MixedValues
-values c = mixed_values c.in-Ok.head (position_view c.with_height.result) c.unwrap_or-first.result
+values c = mixed_values c.head_of.result (position_view c.with_height.result) c.unwrap_or-first.result
+
+-- the head of what was read
+head_is : (c : goal.After-with_height) → c.head_of.result ≡ record { marker = c.unwrap_or-marker.result; listed = c.as_slice-3.result.now; glonass = c.read_glonass-glonass.result; made = c.unwrap_or-made.result; doppler = c.shows_doppler-doppler.result }
+head_is c = c.head_of.ensures ∙ ap (λ (h : MixedHeadView). record { marker = h.marker; listed = h.listed; glonass = h.glonass; made = h.made; doppler = c.shows_doppler-doppler.result }) c.in-Ok.ensures.head
+
+heading : (c : goal.After-with_height) → IsMixedHead c.head_of.result
+heading c =
+    let g = c.in-Ok.ensures.good in
+    subst IsMixedHead (sym c.head_of.ensures) (record { marker = g.marker; listed = g.listed; glonass = g.glonass; made = g.made; whole_second = g.whole_second })
+
+doppler_is : (c : goal.After-with_height) → c.head_of.result.doppler ≡ c.shows_doppler-doppler.result
+doppler_is c = ap (λ (h : MixedHeadView). h.doppler) (head_is c)
 
 good : (c : goal.After-with_height) → IsGoodMixed (values c)
 good c =
     let p = c.with_height.result in
-    record { heading = c.in-Ok.ensures.good; site = (p.x_fits, p.y_fits, p.z_fits, omega arith); first = omega arith }
+    record { heading = heading c; site = (p.x_fits, p.y_fits, p.z_fits, omega arith); first = omega arith }
 
-listed_is : (c : goal.After-with_height) → c.in-Ok.head.listed ≡ c.read_types-listed.result.items
-listed_is c = ap (λ (h : MixedHeadView). h.listed) c.in-Ok.ensures.head ∙ c.as_slice-3.ensures.value
+listed_is : (c : goal.After-with_height) → c.head_of.result.listed ≡ c.read_types-listed.result.items
+listed_is c = ap (λ (h : MixedHeadView). h.listed) (head_is c) ∙ c.as_slice-3.ensures.value
 
-glonass_is : (c : goal.After-with_height) → c.in-Ok.head.glonass ≡ c.read_glonass-glonass.result
-glonass_is c = ap (λ (h : MixedHeadView). h.glonass) c.in-Ok.ensures.head
+glonass_is : (c : goal.After-with_height) → c.head_of.result.glonass ≡ c.read_glonass-glonass.result
+glonass_is c = ap (λ (h : MixedHeadView). h.glonass) (head_is c)
 
-letter_is : (c : goal.After-with_height) → version_letter c.in-Ok.head.listed ≡ c.read_file_letter-file.result
+letter_is : (c : goal.After-with_height) → version_letter c.head_of.result.listed ≡ c.read_file_letter-file.result
 letter_is c = ap version_letter (listed_is c) ∙ c.read_types-listed.ensures.good.letter
 
 -- ---- each part as it is put
 
-version_put : (c : goal.After-with_height) → c.put_mixed_version_line.new.out.items ≡ [] ++ mixed_version_line (version_letter c.in-Ok.head.listed)
+version_put : (c : goal.After-with_height) → c.put_mixed_version_line.new.out.items ≡ [] ++ mixed_version_line (version_letter c.head_of.result.listed)
 version_put c =
     c.put_mixed_version_line.ensures.items ∙ ap (λ (o : List ℕ). o ++ mixed_version_line c.read_file_letter-file.result) c.requires.empty
     ∙ ap (λ (l : ℕ). [] ++ mixed_version_line l) (sym (letter_is c))
 
-made_put : (c : goal.After-with_height) → c.put_made_line.new.out.items ≡ c.put_mixed_version_line.new.out.items ++ made_line (reading_of c.in-Ok.head.made)
+made_put : (c : goal.After-with_height) → c.put_made_line.new.out.items ≡ c.put_mixed_version_line.new.out.items ++ made_line (reading_of c.head_of.result.made)
 made_put c =
-    let made : c.civil.result ≡ reading_of c.in-Ok.head.made =
-    reading_is c.moment.result c.civil.result c.civil.ensures.reading ∙ ap reading_of (c.moment.ensures.value ∙ sym (ap (λ (h : MixedHeadView). h.made) c.in-Ok.ensures.head)) in
+    let made : c.civil.result ≡ reading_of c.head_of.result.made =
+    reading_is c.moment.result c.civil.result c.civil.ensures.reading ∙ ap reading_of (c.moment.ensures.value ∙ sym (ap (λ (h : MixedHeadView). h.made) (head_is c))) in
     c.put_made_line.ensures.items ∙ ap (λ (d : Civil). c.put_mixed_version_line.new.out.items ++ made_line d) made
 
-marker_put : (c : goal.After-with_height) → c.put_marker_line.new.out.items ≡ c.put_made_line.new.out.items ++ marker_line c.in-Ok.head.marker
+marker_put : (c : goal.After-with_height) → c.put_marker_line.new.out.items ≡ c.put_made_line.new.out.items ++ marker_line c.head_of.result.marker
 marker_put c =
-    c.put_marker_line.ensures.items ∙ ap (λ (m : List ℕ). c.put_made_line.new.out.items ++ marker_line m) (c.as_bytes.ensures.value ∙ sym (ap (λ (h : MixedHeadView). h.marker) c.in-Ok.ensures.head))
+    c.put_marker_line.ensures.items ∙ ap (λ (m : List ℕ). c.put_made_line.new.out.items ++ marker_line m) (c.as_bytes.ensures.value ∙ sym (ap (λ (h : MixedHeadView). h.marker) (head_is c)))
 
 four : (out a b d e : List ℕ) → (((out ++ a) ++ b) ++ d) ++ e ≡ out ++ (((a ++ b) ++ d) ++ e)
 four out a b d e = simp append_assoc
@@ -64,18 +76,20 @@ place_put c = let same = c.with_height.ensures in rw (same.0, same.1, same.2) c.
 height_put : (c : goal.After-with_height) → c.put_height_line.new.out.items ≡ c.put_place_line.new.out.items ++ height_line c.with_height.result.height
 height_put c = rw c.with_height.ensures.3 c.put_height_line.ensures.items
 
-types_put : (c : goal.After-with_height) → c.read_types-listed.new.out.items ≡ c.put_height_line.new.out.items ++ types_and_unit c.in-Ok.head.listed
-types_put c = c.read_types-listed.ensures.written ∙ ap (λ (cs : List AnyCode). c.put_height_line.new.out.items ++ types_and_unit cs) (sym (listed_is c))
+types_put : (c : goal.After-with_height) → c.read_types-listed.new.out.items ≡ c.put_height_line.new.out.items ++ types_and_unit c.head_of.result.doppler c.head_of.result.listed
+types_put c =
+    c.read_types-listed.ensures.written ∙ ap (λ (cs : List AnyCode). c.put_height_line.new.out.items ++ types_and_unit c.shows_doppler-doppler.result cs) (sym (listed_is c))
+    ∙ ap (λ (d : Bool). c.put_height_line.new.out.items ++ types_and_unit d c.head_of.result.listed) (sym (doppler_is c))
 
 first_put : (c : goal.After-with_height) → c.put_first_line.new.out.items ≡ c.read_types-listed.new.out.items ++ first_line (reading_of c.unwrap_or-first.result)
 first_put c =
     c.put_first_line.ensures.items ∙ ap (λ (d : Civil). c.read_types-listed.new.out.items ++ first_line d) (reading_is c.unwrap_or-first.result c.civil-2.result c.civil-2.ensures.reading)
 
-shift_put : (c : goal.After-with_height) → c.put_phase_shift_lines.new.out.items ≡ c.put_first_line.new.out.items ++ by_system phase_shift_line c.in-Ok.head.listed
+shift_put : (c : goal.After-with_height) → c.put_phase_shift_lines.new.out.items ≡ c.put_first_line.new.out.items ++ by_system phase_shift_line c.head_of.result.listed
 shift_put c =
     c.put_phase_shift_lines.ensures.items ∙ ap (λ (cs : List AnyCode). c.put_first_line.new.out.items ++ by_system phase_shift_line cs) (c.as_slice.ensures.value ∙ sym (listed_is c))
 
-glonass_put : (c : goal.After-with_height) → c.read_glonass-glonass.new.out.items ≡ c.put_phase_shift_lines.new.out.items ++ glonass_lines c.in-Ok.head.glonass
+glonass_put : (c : goal.After-with_height) → c.read_glonass-glonass.new.out.items ≡ c.put_phase_shift_lines.new.out.items ++ glonass_lines c.head_of.result.glonass
 glonass_put c = c.read_glonass-glonass.ensures.written ∙ ap (λ (g : Option GlonassView). c.put_phase_shift_lines.new.out.items ++ glonass_lines g) (sym (glonass_is c))
 
 -- ---- each part as it is read
@@ -84,16 +98,21 @@ place_at : (text out read : List ℕ) (n : ℕ) → read ≡ drop n text → n �
 place_at text out read n e f = e ∙ ap (λ (k : ℕ). drop k text) f
 
 types_read : (c : goal.After-with_height)
-    → Reads {V = List AnyCode} (IsListOf c.read_file_letter-file.result) (λ ds. ds ≡ c.in-Ok.head.listed) types_and_unit (drop (length c.put_height_line.new.out.items) c.args.text.now) c.in-Ok.head.listed
+    → Reads {V = List AnyCode} (IsListOf c.read_file_letter-file.result) (λ ds. ds ≡ c.head_of.result.listed) (types_and_unit c.head_of.result.doppler) (drop (length c.put_height_line.new.out.items) c.args.text.now) c.head_of.result.listed
 types_read c =
-    subst (λ (cs : List AnyCode). Reads {V = List AnyCode} (IsListOf c.read_file_letter-file.result) (λ ds. ds ≡ cs) types_and_unit (drop (length c.put_height_line.new.out.items) c.args.text.now) cs)
-    (sym (listed_is c)) c.read_types-listed.ensures.shown
+    let rest : List ℕ = drop (length c.put_height_line.new.out.items) c.args.text.now in
+    subst (λ (d : Bool). Reads {V = List AnyCode} (IsListOf c.read_file_letter-file.result) (λ ds. ds ≡ c.head_of.result.listed) (types_and_unit d) rest c.head_of.result.listed) (sym (doppler_is c))
+    (subst (λ (cs : List AnyCode). Reads {V = List AnyCode} (IsListOf c.read_file_letter-file.result) (λ ds. ds ≡ cs) (types_and_unit c.shows_doppler-doppler.result) rest cs)
+    (sym (listed_is c)) c.read_types-listed.ensures.shown)
+
+flag_read : (c : goal.After-with_height) → c.head_of.result.doppler ≡ shows_doppler (drop (length c.put_height_line.new.out.items) c.args.text.now)
+flag_read c = doppler_is c ∙ c.shows_doppler-doppler.ensures ∙ ap shows_doppler (place_at c.args.text.now _ _ _ c.after-5.ensures c.len-5.ensures.value)
 
 glonass_read : (c : goal.After-with_height)
-    → Reads {V = Option GlonassView} (TellsGlonass c.in-Ok.head.listed) (λ g. g ≡ c.in-Ok.head.glonass) glonass_lines (drop (length c.put_phase_shift_lines.new.out.items) c.args.text.now) c.in-Ok.head.glonass
+    → Reads {V = Option GlonassView} (TellsGlonass c.head_of.result.listed) (λ g. g ≡ c.head_of.result.glonass) glonass_lines (drop (length c.put_phase_shift_lines.new.out.items) c.args.text.now) c.head_of.result.glonass
 glonass_read c =
     let rest : List ℕ = drop (length c.put_phase_shift_lines.new.out.items) c.args.text.now in
-    subst (λ (t : Option GlonassView). Reads {V = Option GlonassView} (TellsGlonass c.in-Ok.head.listed) (λ g. g ≡ t) glonass_lines rest t) (sym (glonass_is c))
+    subst (λ (t : Option GlonassView). Reads {V = Option GlonassView} (TellsGlonass c.head_of.result.listed) (λ g. g ≡ t) glonass_lines rest t) (sym (glonass_is c))
     (subst (λ (cs : List AnyCode). Reads {V = Option GlonassView} (TellsGlonass cs) (λ g. g ≡ c.read_glonass-glonass.result) glonass_lines rest c.read_glonass-glonass.result)
     (c.as_slice-2.ensures.value ∙ sym (listed_is c)) c.read_glonass-glonass.ensures.shown)
 
@@ -102,7 +121,7 @@ steps : (c : goal.After-with_height) → MixedSteps c.args.text.now c.read_file_
     c.read_types-listed.new.out.items c.put_first_line.new.out.items c.put_phase_shift_lines.new.out.items c.read_glonass-glonass.new.out.items c.put_end_line.new.out.items
 steps c =
     let text : List ℕ = c.args.text.now in
-    let head = c.in-Ok.ensures.head in
+    let head = head_is c in
     let same = c.with_height.ensures in
     record {
       good = good c;
@@ -132,10 +151,11 @@ steps c =
       read6 = λ h small line.
           same.3 ∙ shown_or c.read_height.result _ c.unwrap_or-height.result h c.unwrap_or-height.ensures
           (c.read_height.ensures h small (line.0, place_at text _ _ _ c.after-4.ensures c.len-4.ensures.value ∙ line.1));
+      flag = flag_read c;
       read7 = types_read c;
       read8 = λ t moment line.
           shown_or c.read_first.result _ c.unwrap_or-first.result t c.unwrap_or-first.ensures
-          (c.read_first.ensures t moment (line.0, place_at text _ _ _ c.after-5.ensures c.len-5.ensures.value ∙ line.1));
+          (c.read_first.ensures t moment (line.0, place_at text _ _ _ c.after-6.ensures c.len-6.ensures.value ∙ line.1));
       read10 = glonass_read c;
     }
 

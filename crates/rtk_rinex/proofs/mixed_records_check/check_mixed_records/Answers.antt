@@ -29,7 +29,7 @@ loop-rest-preserved c =
       record {
         epochs = r.epochs ++ e ∷ [];
         are_epochs = epochs-more c.args.form.now c.args.first None r.epochs e r.are_epochs read.is_epoch next;
-        text = text-more mixed_record_text r.epochs e c.args.text.now l.rest.now (mixed_record_text e) c.in-Ok.read.1.now r.text read.text refl;
+        text = text-more (mixed_record_text c.args.form.now.doppler) r.epochs e c.args.text.now l.rest.now (mixed_record_text c.args.form.now.doppler e) c.in-Ok.read.1.now r.text read.text refl;
       },
       sym (last_time-more None r.epochs e),
       omega (arith, lines, read.count, l.invariant.2),

@@ -21,5 +21,5 @@ returns-clause-record c =
       };
       next = is.1;
       count = r.count;
-      text = record-is c.args.text.now c.in-Some.epoch_line.now c.in-Some.after.now (reading_of stamp.time) r.rows stamp.count c.in_ok-rest.rest.now _ line.1 is.0.2 r.text r.count whole;
+      text = record-is c.args.form.now.doppler c.args.text.now c.in-Some.epoch_line.now c.in-Some.after.now (reading_of stamp.time) r.rows stamp.count c.in_ok-rest.rest.now _ line.1 is.0.2 r.text r.count whole;
     }

@@ -11,7 +11,7 @@ returns-clause-row c =
     let line = c.args.line.now in
     let row = c.is_mixed_row_line.ensures.0 c.if-not-is_mixed_row_line.false in
     let form = c.in-Some.ensures in
-    (row.0, row.1, row.2, one-satellite line row.0.satellite c.in-Some.satellite row.1.satellite form.0 (mixed-named line row.0 row.2) form.1 ∙ sym c.index-2.ensures.value)
+    (row.0, row.1, row.2, one-satellite line row.0.satellite c.in-Some.satellite row.1.satellite form.0 (mixed-named c.args.form.now.doppler line row.0 row.2) form.1 ∙ sym c.index-2.ensures.value)
 
 pub returns-then-not-is_mixed_row_line-clause-fault : goal.returns-then-not-is_mixed_row_line-clause-fault
 returns-then-not-is_mixed_row_line-clause-fault c = (

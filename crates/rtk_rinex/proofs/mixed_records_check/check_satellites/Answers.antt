@@ -42,7 +42,7 @@ loop-k-preserved c =
         rows = r.rows ++ row ∷ [];
         are_rows = rows-more c.args.form.now None r.rows row r.are_rows is.1 next;
         count = simp length-append (omega (arith, r.count));
-        text = text-more mixed_satellite_line r.rows row c.args.text.now l.rest.now c.in-Some.satellite_line.now c.in-Some.after.now r.text line.1 is.2;
+        text = text-more (mixed_satellite_line c.args.form.now.doppler) r.rows row c.args.text.now l.rest.now c.in-Some.satellite_line.now c.in-Some.after.now r.text line.1 is.2;
       },
       sym (last_satellite-more None r.rows row ∙ ap Some is.3),
       omega (arith, l.invariant.2, line.2),

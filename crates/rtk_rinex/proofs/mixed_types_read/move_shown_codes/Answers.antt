@@ -10,7 +10,7 @@ loop-i-preserved c =
       shown = λ ds k d group within lt agree.
           elim (cases_order k l.i) [
             | inl same ↦
-                let there = c.move_named_code.ensures.there (slice_index_or ds k d) (group.own k d within) (c.read_name.ensures ∙ (rw (← same) (agree k (omega arith))))
+                let there = c.move_named_code.ensures.there (slice_index_or ds k d) (group.own k d within) (c.read_code_name.ensures ∙ (rw (← same) (agree k (omega arith))))
                 (λ j e below is.
                 let old = l.invariant.shown ds j d group (omega (arith, below, same, within)) below (λ i le. agree i (omega (arith, le, below, same))) in
                 group.distinct j k d (omega (arith, below, same)) within (sym old ∙ get_or_default l.all j d e (omega (arith, below, c.loop-i-test.true)) ∙ is)) d in

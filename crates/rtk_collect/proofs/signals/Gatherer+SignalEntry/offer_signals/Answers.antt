@@ -33,11 +33,11 @@ returns-in_default-clause-answer c =
     let new : CollectorView SignalEntry = window_of n sets c.offer.new.self in
     let message = c.in-Message.message.now in
     let full = ap (λ t. eqb t n) (c.len.ensures ∙ c.self.inside.sets.ok.0) in
-    let here : AnswersArrival signals (entries_by c.args.sbas c.args.channels.now) old (At None (any.Message message)) c.offer.result [] new = c.offer.ensures.answer (entries_by c.args.sbas c.args.channels.now) n sets full in
+    let here : AnswersArrival signals (entries_by c.args.sbas c.args.doppler c.args.channels.now) old (At None (any.Message message)) c.offer.result [] new = c.offer.ensures.answer (entries_by c.args.sbas c.args.doppler c.args.channels.now) n sets full in
     let is = ap (λ m. At None (borrowed m)) (sym c.in-Message.is) ∙ ap (λ e. At e (borrowed c.dated.inside.message)) (sym c.in_default.is) ∙ c.dated.view_is in
-    subst (λ (w : CollectorView SignalEntry). AnswersArrival signals (entries_by c.args.sbas c.args.channels.now) w c.args.dated c.offer.result c.clear.new.self new) c.self.view_is
-    (subst (λ (a : Arrival). AnswersArrival signals (entries_by c.args.sbas c.args.channels.now) old a c.offer.result c.clear.new.self new) is
-    (subst (λ (l : List AnySatelliteCode). AnswersArrival signals (entries_by c.args.sbas c.args.channels.now) old (At None (any.Message message)) c.offer.result l new) (sym c.clear.ensures) here))
+    subst (λ (w : CollectorView SignalEntry). AnswersArrival signals (entries_by c.args.sbas c.args.doppler c.args.channels.now) w c.args.dated c.offer.result c.clear.new.self new) c.self.view_is
+    (subst (λ (a : Arrival). AnswersArrival signals (entries_by c.args.sbas c.args.doppler c.args.channels.now) old a c.offer.result c.clear.new.self new) is
+    (subst (λ (l : List AnySatelliteCode). AnswersArrival signals (entries_by c.args.sbas c.args.doppler c.args.channels.now) old (At None (any.Message message)) c.offer.result l new) (sym c.clear.ensures) here))
 
 pub returns-clause-answer : goal.returns-clause-answer
 returns-clause-answer c =
@@ -48,10 +48,10 @@ returns-clause-answer c =
     let message = borrowed c.dated.inside.message in
     let cells = c.as_slice-cells.result.now in
     IfOk-weaker c.offer_cells.result (λ (offer : Outcome SignalEntry AnySatelliteCode). AddsCells signals n c.in-Some.epoch cells sets c.offer_cells.new.sets.items offer c.offer_cells.new.found)
-    (λ (offer : Outcome SignalEntry AnySatelliteCode). AnswersArrival signals (entries_by c.args.sbas c.args.channels.now) c.args.self.now c.args.dated offer c.offer_cells.new.found new)
-    (λ offer h. subst (λ (w : CollectorView SignalEntry). AnswersArrival signals (entries_by c.args.sbas c.args.channels.now) w c.args.dated offer c.offer_cells.new.found new) c.self.view_is
-    (subst (λ (a : Arrival). AnswersArrival signals (entries_by c.args.sbas c.args.channels.now) old a offer c.offer_cells.new.found new) (ap (λ e. At e message) (sym c.in-Some.is) ∙ c.dated.view_is)
-    (observed-answers signals (entries_by c.args.sbas c.args.channels.now) old c.in-Some.epoch message cells c.offer_cells.new.sets.items offer c.offer_cells.new.found (sym (c.as_slice-cells.ensures.value ∙ c.put_entries.ensures.cells)) h)))
+    (λ (offer : Outcome SignalEntry AnySatelliteCode). AnswersArrival signals (entries_by c.args.sbas c.args.doppler c.args.channels.now) c.args.self.now c.args.dated offer c.offer_cells.new.found new)
+    (λ offer h. subst (λ (w : CollectorView SignalEntry). AnswersArrival signals (entries_by c.args.sbas c.args.doppler c.args.channels.now) w c.args.dated offer c.offer_cells.new.found new) c.self.view_is
+    (subst (λ (a : Arrival). AnswersArrival signals (entries_by c.args.sbas c.args.doppler c.args.channels.now) old a offer c.offer_cells.new.found new) (ap (λ e. At e message) (sym c.in-Some.is) ∙ c.dated.view_is)
+    (observed-answers signals (entries_by c.args.sbas c.args.doppler c.args.channels.now) old c.in-Some.epoch message cells c.offer_cells.new.sets.items offer c.offer_cells.new.found (sym (c.as_slice-cells.ensures.value ∙ c.put_entries.ensures.cells)) h)))
     c.offer_cells.ensures.added
 
 pub returns-clause-refused : goal.returns-clause-refused
@@ -62,7 +62,7 @@ returns-clause-refused c =
     let message = borrowed c.dated.inside.message in
     let cells = c.as_slice-cells.result.now in
     on_err_weaker c.offer_cells.result (λ (h : WouldTakeCells signals n c.in-Some.epoch cells sets).
-    subst (λ (w : CollectorView SignalEntry). WouldBeTaken signals (entries_by c.args.sbas c.args.channels.now) w c.args.dated) c.self.view_is
-    (subst (λ (a : Arrival). WouldBeTaken signals (entries_by c.args.sbas c.args.channels.now) old a) (ap (λ e. At e message) (sym c.in-Some.is) ∙ c.dated.view_is)
-    (observed-taken signals (entries_by c.args.sbas c.args.channels.now) old c.in-Some.epoch message cells (sym (c.as_slice-cells.ensures.value ∙ c.put_entries.ensures.cells)) h)))
+    subst (λ (w : CollectorView SignalEntry). WouldBeTaken signals (entries_by c.args.sbas c.args.doppler c.args.channels.now) w c.args.dated) c.self.view_is
+    (subst (λ (a : Arrival). WouldBeTaken signals (entries_by c.args.sbas c.args.doppler c.args.channels.now) old a) (ap (λ e. At e message) (sym c.in-Some.is) ∙ c.dated.view_is)
+    (observed-taken signals (entries_by c.args.sbas c.args.doppler c.args.channels.now) old c.in-Some.epoch message cells (sym (c.as_slice-cells.ensures.value ∙ c.put_entries.ensures.cells)) h)))
     c.offer_cells.ensures.refused

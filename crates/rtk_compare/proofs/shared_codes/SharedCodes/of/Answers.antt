@@ -1,9 +1,10 @@
+use Rattle.std.specs.Prelude.{◌&&◌}
 use Rattle.rtk_compare.proofs.CodeLemmas.{has-shared}
 use Rattle.rtk_compare.proofs.shared_codes.SharedCodes.of.Goals as goal
 
 pub returns : goal.returns
 returns c =
-    has-shared _ c.args.old.now.listed c.args.new.now.listed
+    has-shared _ (c.args.old.now.doppler && c.args.new.now.doppler) c.args.old.now.listed c.args.new.now.listed
     (record {
       gps = c.shared_in.ensures.items;
       glonass = c.shared_in-2.ensures.items;

@@ -1,4 +1,4 @@
-use Rattle.std.proofs.Common.{ℕ, true, List, refl, sym, ap, subst, ◌∙◌}
+use Rattle.std.proofs.Common.{ℕ, Bool, true, List, refl, sym, ap, subst, ◌∙◌}
 use Rattle.std.proofs.lemmas.Result.{err_from_is_err_and}
 use Rattle.rtk_frame.specs.Stream.{with_more, TakesPart}
 use Rattle.rtk_obs.specs.declared.any_code.AnyCode.{AnyCode}
@@ -17,30 +17,35 @@ use Rattle.rtk_convert.proofs.RecordsLemmas.{closing-is, follows-no, follows-yes
 use Rattle.rtk_convert.proofs.WritingLemmas.{takes-none}
 use Rattle.rtk_convert.proofs.closed_epochs.ClosedEpochs.close.Goals as goal
 
+pub push_rows-requires-clause-shows : goal.push_rows-requires-clause-shows
+push_rows-requires-clause-shows g c = subst g.E.Lines.RowLines.CanShow (sym c.has_doppler-doppler.ensures) c.requires.shows
+
 pub returns-then-not-has_record-clause-closes : goal.returns-then-not-has_record-clause-closes
 returns-then-not-has_record-clause-closes g c = record {
   follows = λ below f.
       let e : EpochSetView SignalEntry = set_of g.E.FileEntry.signal_of c.args.set.now in
       let listed = c.codes-listed.ensures.value ∙ ap (λ (h : MixedHeadView). h.listed) c.head.ensures.value in
       let old : ClosedEpochsView = record { tracks = g.E.FileEntry.places c.self.inside.phases.value; is_header_out = c.self.inside.is_header_out; count = c.self.inside.count } in
-      let before = subst (λ (x : ClosedEpochsView). HasClosed x c.args.setup.now.head.listed below) (sym c.self.view_is) f in
-      let inside = subst (λ (l : List AnyCode). HasClosed old l below) (sym listed) before in
+      let before = subst (λ (x : ClosedEpochsView). HasClosed x c.args.setup.now.head.doppler c.args.setup.now.head.listed below) (sym c.self.view_is) f in
+      let inside = subst (λ (l : List AnyCode). HasClosed old c.args.setup.now.head.doppler l below) (sym listed) before in
       let phases = subst (λ (p : _). HasLastPhases (g.E.FileEntry.places p) below) (sym c.deref_mut.ensures.value) inside.phases in
       let rows = (table_of c.codes-listed.result.now e below).rows in
-      let shown = c.text-text.ensures ∙ c.finish.ensures.text rows (c.in_ok-push_rows.ensures.lines below phases) ∙ ap (λ (t : ℕ). mixed_record_text (record { time = t; rows = rows })) c.epoch-epoch.ensures in
-      let text = c.in_ok-has_record.ensures.any ∙ ap is_any shown ∙ ap (λ (l : List AnyCode). is_any (record_of l e below)) listed in
-      follows-no old (record { tracks = g.E.FileEntry.places c.push_rows.new.phases; is_header_out = c.self.inside.is_header_out; count = c.self.inside.count }) c.args.setup.now.head.listed e below
+      let shown = c.text-text.ensures ∙ c.finish.ensures.text c.has_doppler-doppler.result rows (c.in_ok-push_rows.ensures.lines below phases) ∙ ap (λ (t : ℕ). mixed_record_text c.has_doppler-doppler.result (record { time = t; rows = rows })) c.epoch-epoch.ensures
+      ∙ ap (λ (d : Bool). mixed_record_text d (record { time = e.epoch; rows = rows })) c.has_doppler-doppler.ensures in
+      let text = c.in_ok-has_record.ensures.any ∙ ap is_any shown ∙ ap (λ (l : List AnyCode). is_any (record_of c.args.setup.now.head.doppler l e below)) listed in
+      follows-no old (record { tracks = g.E.FileEntry.places c.push_rows.new.phases; is_header_out = c.self.inside.is_header_out; count = c.self.inside.count }) c.args.setup.now.head.doppler c.args.setup.now.head.listed e below
       (c.in_ok-push_rows.ensures.phases below phases) refl refl (sym text ∙ c.if-not-has_record.true) before;
   puts = λ below f.
       let e : EpochSetView SignalEntry = set_of g.E.FileEntry.signal_of c.args.set.now in
       let listed = c.codes-listed.ensures.value ∙ ap (λ (h : MixedHeadView). h.listed) c.head.ensures.value in
       let old : ClosedEpochsView = record { tracks = g.E.FileEntry.places c.self.inside.phases.value; is_header_out = c.self.inside.is_header_out; count = c.self.inside.count } in
-      let before = subst (λ (x : ClosedEpochsView). HasClosed x c.args.setup.now.head.listed below) (sym c.self.view_is) f in
-      let inside = subst (λ (l : List AnyCode). HasClosed old l below) (sym listed) before in
+      let before = subst (λ (x : ClosedEpochsView). HasClosed x c.args.setup.now.head.doppler c.args.setup.now.head.listed below) (sym c.self.view_is) f in
+      let inside = subst (λ (l : List AnyCode). HasClosed old c.args.setup.now.head.doppler l below) (sym listed) before in
       let phases = subst (λ (p : _). HasLastPhases (g.E.FileEntry.places p) below) (sym c.deref_mut.ensures.value) inside.phases in
       let rows = (table_of c.codes-listed.result.now e below).rows in
-      let shown = c.text-text.ensures ∙ c.finish.ensures.text rows (c.in_ok-push_rows.ensures.lines below phases) ∙ ap (λ (t : ℕ). mixed_record_text (record { time = t; rows = rows })) c.epoch-epoch.ensures in
-      let text = shown ∙ ap (λ (l : List AnyCode). record_of l e below) listed in
+      let shown = c.text-text.ensures ∙ c.finish.ensures.text c.has_doppler-doppler.result rows (c.in_ok-push_rows.ensures.lines below phases) ∙ ap (λ (t : ℕ). mixed_record_text c.has_doppler-doppler.result (record { time = t; rows = rows })) c.epoch-epoch.ensures
+      ∙ ap (λ (d : Bool). mixed_record_text d (record { time = e.epoch; rows = rows })) c.has_doppler-doppler.ensures in
+      let text = shown ∙ ap (λ (l : List AnyCode). record_of c.args.setup.now.head.doppler l e below) listed in
       let same = closing-is c.args.setup.now (position_view c.args.position.now) e below c.epoch-epoch.result c.self.inside.is_header_out c.text-text.result.now c.epoch-epoch.ensures before.is_header_out text in
       record {
         all = c.in_ok-has_record.ensures.puts.all ∙ ap (with_more (g.O.Sink.taken c.args.out.now)) same;
@@ -55,24 +60,26 @@ returns-clause-closes g c = record {
       let e : EpochSetView SignalEntry = set_of g.E.FileEntry.signal_of c.args.set.now in
       let listed = c.codes-listed.ensures.value ∙ ap (λ (h : MixedHeadView). h.listed) c.head.ensures.value in
       let old : ClosedEpochsView = record { tracks = g.E.FileEntry.places c.self.inside.phases.value; is_header_out = c.self.inside.is_header_out; count = c.self.inside.count } in
-      let before = subst (λ (x : ClosedEpochsView). HasClosed x c.args.setup.now.head.listed below) (sym c.self.view_is) f in
-      let inside = subst (λ (l : List AnyCode). HasClosed old l below) (sym listed) before in
+      let before = subst (λ (x : ClosedEpochsView). HasClosed x c.args.setup.now.head.doppler c.args.setup.now.head.listed below) (sym c.self.view_is) f in
+      let inside = subst (λ (l : List AnyCode). HasClosed old c.args.setup.now.head.doppler l below) (sym listed) before in
       let phases = subst (λ (p : _). HasLastPhases (g.E.FileEntry.places p) below) (sym c.deref_mut.ensures.value) inside.phases in
       let rows = (table_of c.codes-listed.result.now e below).rows in
-      let shown = c.text-text.ensures ∙ c.finish.ensures.text rows (c.in_ok-push_rows.ensures.lines below phases) ∙ ap (λ (t : ℕ). mixed_record_text (record { time = t; rows = rows })) c.epoch-epoch.ensures in
-      let text = c.in_ok-has_record.ensures.any ∙ ap is_any shown ∙ ap (λ (l : List AnyCode). is_any (record_of l e below)) listed in
-      follows-yes old (record { tracks = g.E.FileEntry.places c.push_rows.new.phases; is_header_out = true; count = c.saturating_add-self-inside.result }) c.args.setup.now.head.listed e below
+      let shown = c.text-text.ensures ∙ c.finish.ensures.text c.has_doppler-doppler.result rows (c.in_ok-push_rows.ensures.lines below phases) ∙ ap (λ (t : ℕ). mixed_record_text c.has_doppler-doppler.result (record { time = t; rows = rows })) c.epoch-epoch.ensures
+      ∙ ap (λ (d : Bool). mixed_record_text d (record { time = e.epoch; rows = rows })) c.has_doppler-doppler.ensures in
+      let text = c.in_ok-has_record.ensures.any ∙ ap is_any shown ∙ ap (λ (l : List AnyCode). is_any (record_of c.args.setup.now.head.doppler l e below)) listed in
+      follows-yes old (record { tracks = g.E.FileEntry.places c.push_rows.new.phases; is_header_out = true; count = c.saturating_add-self-inside.result }) c.args.setup.now.head.doppler c.args.setup.now.head.listed e below
       (c.in_ok-push_rows.ensures.phases below phases) refl c.saturating_add-self-inside.ensures (sym text ∙ c.if-not-has_record.false) before;
   puts = λ below f.
       let e : EpochSetView SignalEntry = set_of g.E.FileEntry.signal_of c.args.set.now in
       let listed = c.codes-listed.ensures.value ∙ ap (λ (h : MixedHeadView). h.listed) c.head.ensures.value in
       let old : ClosedEpochsView = record { tracks = g.E.FileEntry.places c.self.inside.phases.value; is_header_out = c.self.inside.is_header_out; count = c.self.inside.count } in
-      let before = subst (λ (x : ClosedEpochsView). HasClosed x c.args.setup.now.head.listed below) (sym c.self.view_is) f in
-      let inside = subst (λ (l : List AnyCode). HasClosed old l below) (sym listed) before in
+      let before = subst (λ (x : ClosedEpochsView). HasClosed x c.args.setup.now.head.doppler c.args.setup.now.head.listed below) (sym c.self.view_is) f in
+      let inside = subst (λ (l : List AnyCode). HasClosed old c.args.setup.now.head.doppler l below) (sym listed) before in
       let phases = subst (λ (p : _). HasLastPhases (g.E.FileEntry.places p) below) (sym c.deref_mut.ensures.value) inside.phases in
       let rows = (table_of c.codes-listed.result.now e below).rows in
-      let shown = c.text-text.ensures ∙ c.finish.ensures.text rows (c.in_ok-push_rows.ensures.lines below phases) ∙ ap (λ (t : ℕ). mixed_record_text (record { time = t; rows = rows })) c.epoch-epoch.ensures in
-      let text = shown ∙ ap (λ (l : List AnyCode). record_of l e below) listed in
+      let shown = c.text-text.ensures ∙ c.finish.ensures.text c.has_doppler-doppler.result rows (c.in_ok-push_rows.ensures.lines below phases) ∙ ap (λ (t : ℕ). mixed_record_text c.has_doppler-doppler.result (record { time = t; rows = rows })) c.epoch-epoch.ensures
+      ∙ ap (λ (d : Bool). mixed_record_text d (record { time = e.epoch; rows = rows })) c.has_doppler-doppler.ensures in
+      let text = shown ∙ ap (λ (l : List AnyCode). record_of c.args.setup.now.head.doppler l e below) listed in
       let same = closing-is c.args.setup.now (position_view c.args.position.now) e below c.epoch-epoch.result c.self.inside.is_header_out c.text-text.result.now c.epoch-epoch.ensures before.is_header_out text in
       record {
         all = c.in_ok-has_record.ensures.puts.all ∙ ap (with_more (g.O.Sink.taken c.args.out.now)) same;

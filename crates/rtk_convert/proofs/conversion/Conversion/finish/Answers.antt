@@ -9,7 +9,7 @@ use Rattle.rtk_convert.proofs.WritingLemmas.{takes-none}
 use Rattle.rtk_convert.proofs.conversion.Conversion.finish.Goals as goal
 
 pub finish-requires : goal.finish-requires
-finish-requires g c = record { places = c.self.invariant.2.places; ahead = c.self.invariant.2.ahead c.if-self.false }
+finish-requires g c = record { form = c.self.invariant.1; places = c.self.invariant.2.places; ahead = c.self.invariant.2.ahead c.if-self.false }
 
 pub returns-in_err-counts-clause-ends : goal.returns-in_err-counts-clause-ends
 returns-in_err-counts-clause-ends g c = λ going.

@@ -2,7 +2,8 @@ use Rattle.std.proofs.Common.{arith, ◌≡◌, sym, subst}
 use Rattle.rtk_convert.specs.declared.epochs.AnyEpochs.{AnyEpochs}
 use Rattle.rtk_convert.specs.Conversion.{IsAhead}
 use Rattle.rtk_convert.specs.Steps.Closing.{EndsEpochs}
-use Rattle.rtk_convert.specs.Steps.EpochsSteps.{epochs_in}
+use Rattle.rtk_convert.specs.Steps.EpochsSteps.{AreEpochsOf, epochs_in}
+use Rattle.rtk_convert.proofs.GpsOfferLemmas.{shows-none}
 use Rattle.rtk_convert.proofs.epochs.AnyEpochs.finish.Goals as goal
 
 pub finish-requires : goal.finish-requires
@@ -11,6 +12,7 @@ finish-requires g c = (
   (
     omega arith,
     (
+      shows-none c.args.setup.now (subst (AreEpochsOf c.args.setup.now) c.in-Gps.is c.requires.form),
       subst (λ (e : AnyEpochs). (epochs_in e).collector.places ≡ c.args.setup.now.window) c.in-Gps.is c.requires.places,
       subst (λ (e : AnyEpochs). IsAhead (epochs_in e).collector (epochs_in e).closed) c.in-Gps.is c.requires.ahead,
     ),
@@ -26,6 +28,7 @@ finish-requires-in-Any g c = (
   (
     omega arith,
     (
+      tt,
       subst (λ (e : AnyEpochs). (epochs_in e).collector.places ≡ c.args.setup.now.window) c.in-Any.is c.requires.places,
       subst (λ (e : AnyEpochs). IsAhead (epochs_in e).collector (epochs_in e).closed) c.in-Any.is c.requires.ahead,
     ),

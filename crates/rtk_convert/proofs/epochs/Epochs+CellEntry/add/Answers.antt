@@ -13,7 +13,7 @@ use Rattle.rtk_convert.specs.Steps.OfferLines.{class_named, offer_lines}
 use Rattle.rtk_convert.specs.Steps.OfferedMessage.{AnswersMessage, name_of_gps}
 use Rattle.rtk_convert.proofs.AheadLemmas.{closes-above}
 use Rattle.rtk_convert.proofs.EpochsLemmas.{adds-message, adds-in-part, adds-none, ahead-written, hands-on, hands-back}
-use Rattle.rtk_convert.proofs.GpsOfferLemmas.{gps-answers}
+use Rattle.rtk_convert.proofs.GpsOfferLemmas.{gps-answers, shows-none}
 use Rattle.rtk_convert.proofs.OutcomeLemmas.{failed-err}
 use Rattle.rtk_convert.proofs.WindowLemmas.{below-map, least-map, never-map}
 use Rattle.rtk_convert.proofs.epochs.Epochs+CellEntry.add.Goals as goal
@@ -21,7 +21,7 @@ use Rattle.rtk_convert.proofs.epochs.Epochs+CellEntry.add.Goals as goal
 pub write_answer-requires : goal.write_answer-requires
 write_answer-requires g c =
     let ahead = subst (λ (x : _). IsAhead x.collector x.closed) (sym c.self.view_is) c.requires.ahead in
-    (omega arith, (omega arith, closes-above (window_of signal_of c.self.inside.collector) c.self.inside.closed (outcome_of signal_of c.in_ok-offer.offer) (least-map signal_of c.self.inside.collector.places c.self.inside.collector.sets c.in_ok-offer.offer c.in_ok-offer.ensures.least_closes) ahead))
+    (omega arith, (omega arith, (shows-none c.args.setup.now c.requires.gps, closes-above (window_of signal_of c.self.inside.collector) c.self.inside.closed (outcome_of signal_of c.in_ok-offer.offer) (least-map signal_of c.self.inside.collector.places c.self.inside.collector.sets c.in_ok-offer.offer c.in_ok-offer.ensures.least_closes) ahead)))
 
 pub returns-clause-adds : goal.returns-clause-adds
 returns-clause-adds g c =

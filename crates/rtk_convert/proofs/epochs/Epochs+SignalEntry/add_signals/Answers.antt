@@ -4,6 +4,8 @@ use Rattle.std.proofs.lemmas.Result.{err_from_is_err_and}
 use Rattle.rtk_obs.specs.declared.signal_cells.SignalEntry.{SignalEntry}
 use Rattle.rtk_collect.specs.Collector.{CollectorView, RepresentsArrivals}
 use Rattle.rtk_collect.specs.Signals.{signals, entries_by}
+use Rattle.rtk_message.specs.declared.system.System.TheVariants.{Sbas}
+use Rattle.rtk_setup.specs.Setup.{lists_system}
 use Rattle.rtk_collect.specs.declared.outcome.Outcome.{Outcome}
 use Rattle.rtk_collect.specs.declared.conflicts.AnySatelliteCode.{AnySatelliteCode}
 use Rattle.rtk_message.specs.AnyDecoded.{number_of}
@@ -29,17 +31,18 @@ name_same s = s
 pub write_answer-requires : goal.write_answer-requires
 write_answer-requires g c =
     let ahead = subst (λ (x : _). IsAhead x.collector x.closed) (sym c.self.view_is) c.requires.ahead in
-    (omega arith, (omega arith, closes-above (window_of same c.self.inside.collector) c.self.inside.closed (outcome_of same c.in_ok-offer.offer) (least-map same c.self.inside.collector.places c.self.inside.collector.sets c.in_ok-offer.offer c.in_ok-offer.ensures.least_closes) ahead))
+    (omega arith, (omega arith, (tt, closes-above (window_of same c.self.inside.collector) c.self.inside.closed (outcome_of same c.in_ok-offer.offer) (least-map same c.self.inside.collector.places c.self.inside.collector.sets c.in_ok-offer.offer c.in_ok-offer.ensures.least_closes) ahead)))
 
 pub returns-clause-adds : goal.returns-clause-adds
 returns-clause-adds g c =
     let meets : AnswersMessage c.args.setup.now (window_of same c.self.inside.collector) c.args.dated (outcome_of same c.in_ok-offer.offer) (map name_same c.offer_signals.new.conflicts) (window_of same c.offer_signals.new.self) =
-    signal-answers c.args.setup.now (entries_by c.takes_sbas-sbas.result c.channels-channels.result.now) (window_of same c.self.inside.collector) (window_of same c.offer_signals.new.self) c.args.dated (outcome_of same c.in_ok-offer.offer) (map name_same c.offer_signals.new.conflicts) (ap (λ (b : Bool). entries_by b c.channels-channels.result.now) c.takes_sbas-sbas.ensures ∙ c.channels-channels.ensures.cells)
+    signal-answers c.args.setup.now (entries_by c.takes_sbas-sbas.result c.has_doppler-doppler.result c.channels-channels.result.now) (window_of same c.self.inside.collector) (window_of same c.offer_signals.new.self) c.args.dated (outcome_of same c.in_ok-offer.offer) (map name_same c.offer_signals.new.conflicts) (ap (λ (b : Bool). entries_by b c.has_doppler-doppler.result c.channels-channels.result.now) c.takes_sbas-sbas.ensures
+    ∙ ap (λ (d : Bool). entries_by (lists_system c.args.setup.now.head.listed Sbas) d c.channels-channels.result.now) c.has_doppler-doppler.ensures ∙ c.channels-channels.ensures.cells)
     (λ before rep.
-    let m = c.in_ok-offer.ensures.answer before (subst (λ (w : CollectorView SignalEntry). RepresentsArrivals signals (entries_by c.takes_sbas-sbas.result c.channels-channels.result.now) w before) (window-id c.self.inside.collector) rep) in (
-      subst (λ (o : Outcome SignalEntry AnySatelliteCode). IsRightAnswer signals (entries_by c.takes_sbas-sbas.result c.channels-channels.result.now) c.self.inside.collector.places c.args.dated before o (map name_same c.offer_signals.new.conflicts)) (sym (outcome-id c.in_ok-offer.offer))
-          (subst (λ (xs : List AnySatelliteCode). IsRightAnswer signals (entries_by c.takes_sbas-sbas.result c.channels-channels.result.now) c.self.inside.collector.places c.args.dated before c.in_ok-offer.offer xs) (sym (map-id name_same (λ x. refl) c.offer_signals.new.conflicts)) m.0),
-      subst (λ (w : CollectorView SignalEntry). RepresentsArrivals signals (entries_by c.takes_sbas-sbas.result c.channels-channels.result.now) w (c.args.dated ∷ before)) (sym (window-id c.offer_signals.new.self)) m.1,
+    let m = c.in_ok-offer.ensures.answer before (subst (λ (w : CollectorView SignalEntry). RepresentsArrivals signals (entries_by c.takes_sbas-sbas.result c.has_doppler-doppler.result c.channels-channels.result.now) w before) (window-id c.self.inside.collector) rep) in (
+      subst (λ (o : Outcome SignalEntry AnySatelliteCode). IsRightAnswer signals (entries_by c.takes_sbas-sbas.result c.has_doppler-doppler.result c.channels-channels.result.now) c.self.inside.collector.places c.args.dated before o (map name_same c.offer_signals.new.conflicts)) (sym (outcome-id c.in_ok-offer.offer))
+          (subst (λ (xs : List AnySatelliteCode). IsRightAnswer signals (entries_by c.takes_sbas-sbas.result c.has_doppler-doppler.result c.channels-channels.result.now) c.self.inside.collector.places c.args.dated before c.in_ok-offer.offer xs) (sym (map-id name_same (λ x. refl) c.offer_signals.new.conflicts)) m.0),
+      subst (λ (w : CollectorView SignalEntry). RepresentsArrivals signals (entries_by c.takes_sbas-sbas.result c.has_doppler-doppler.result c.channels-channels.result.now) w (c.args.dated ∷ before)) (sym (window-id c.offer_signals.new.self)) m.1,
     )) in
     let text : c.deref.result.now ≡ offer_lines c.args.link (number_of (message_of c.args.dated)) (epoch_of c.args.dated) (outcome_of same c.in_ok-offer.offer) (map name_same c.offer_signals.new.conflicts) =
     c.deref.ensures.value ∙ c.in_ok-lines.ensures
@@ -52,12 +55,13 @@ returns-clause-adds g c =
 pub returns-clause-stays : goal.returns-clause-stays
 returns-clause-stays g c =
     let meets : AnswersMessage c.args.setup.now (window_of same c.self.inside.collector) c.args.dated (outcome_of same c.in_ok-offer.offer) (map name_same c.offer_signals.new.conflicts) (window_of same c.offer_signals.new.self) =
-    signal-answers c.args.setup.now (entries_by c.takes_sbas-sbas.result c.channels-channels.result.now) (window_of same c.self.inside.collector) (window_of same c.offer_signals.new.self) c.args.dated (outcome_of same c.in_ok-offer.offer) (map name_same c.offer_signals.new.conflicts) (ap (λ (b : Bool). entries_by b c.channels-channels.result.now) c.takes_sbas-sbas.ensures ∙ c.channels-channels.ensures.cells)
+    signal-answers c.args.setup.now (entries_by c.takes_sbas-sbas.result c.has_doppler-doppler.result c.channels-channels.result.now) (window_of same c.self.inside.collector) (window_of same c.offer_signals.new.self) c.args.dated (outcome_of same c.in_ok-offer.offer) (map name_same c.offer_signals.new.conflicts) (ap (λ (b : Bool). entries_by b c.has_doppler-doppler.result c.channels-channels.result.now) c.takes_sbas-sbas.ensures
+    ∙ ap (λ (d : Bool). entries_by (lists_system c.args.setup.now.head.listed Sbas) d c.channels-channels.result.now) c.has_doppler-doppler.ensures ∙ c.channels-channels.ensures.cells)
     (λ before rep.
-    let m = c.in_ok-offer.ensures.answer before (subst (λ (w : CollectorView SignalEntry). RepresentsArrivals signals (entries_by c.takes_sbas-sbas.result c.channels-channels.result.now) w before) (window-id c.self.inside.collector) rep) in (
-      subst (λ (o : Outcome SignalEntry AnySatelliteCode). IsRightAnswer signals (entries_by c.takes_sbas-sbas.result c.channels-channels.result.now) c.self.inside.collector.places c.args.dated before o (map name_same c.offer_signals.new.conflicts)) (sym (outcome-id c.in_ok-offer.offer))
-          (subst (λ (xs : List AnySatelliteCode). IsRightAnswer signals (entries_by c.takes_sbas-sbas.result c.channels-channels.result.now) c.self.inside.collector.places c.args.dated before c.in_ok-offer.offer xs) (sym (map-id name_same (λ x. refl) c.offer_signals.new.conflicts)) m.0),
-      subst (λ (w : CollectorView SignalEntry). RepresentsArrivals signals (entries_by c.takes_sbas-sbas.result c.channels-channels.result.now) w (c.args.dated ∷ before)) (sym (window-id c.offer_signals.new.self)) m.1,
+    let m = c.in_ok-offer.ensures.answer before (subst (λ (w : CollectorView SignalEntry). RepresentsArrivals signals (entries_by c.takes_sbas-sbas.result c.has_doppler-doppler.result c.channels-channels.result.now) w before) (window-id c.self.inside.collector) rep) in (
+      subst (λ (o : Outcome SignalEntry AnySatelliteCode). IsRightAnswer signals (entries_by c.takes_sbas-sbas.result c.has_doppler-doppler.result c.channels-channels.result.now) c.self.inside.collector.places c.args.dated before o (map name_same c.offer_signals.new.conflicts)) (sym (outcome-id c.in_ok-offer.offer))
+          (subst (λ (xs : List AnySatelliteCode). IsRightAnswer signals (entries_by c.takes_sbas-sbas.result c.has_doppler-doppler.result c.channels-channels.result.now) c.self.inside.collector.places c.args.dated before c.in_ok-offer.offer xs) (sym (map-id name_same (λ x. refl) c.offer_signals.new.conflicts)) m.0),
+      subst (λ (w : CollectorView SignalEntry). RepresentsArrivals signals (entries_by c.takes_sbas-sbas.result c.has_doppler-doppler.result c.channels-channels.result.now) w (c.args.dated ∷ before)) (sym (window-id c.offer_signals.new.self)) m.1,
     )) in
     let ahead = ahead-written _ (outcome_of same c.in_ok-offer.offer) c.self.view_is refl c.write_answer.ensures.window (least-map same c.self.inside.collector.places c.self.inside.collector.sets c.in_ok-offer.offer c.in_ok-offer.ensures.least_closes) (below-map same c.in_ok-offer.offer c.offer_signals.new.self.sets c.in_ok-offer.ensures.closed) (never-map same c.self.inside.collector c.offer_signals.new.self c.offer_signals.ensures.least) c.requires.ahead c.in_ok-write_answer.ensures.writes in
     hands-on _ (outcome_of same c.in_ok-offer.offer) (map name_same c.offer_signals.new.conflicts) c.self.view_is c.requires.taken c.offer_signals.ensures.places (omega (arith, c.offer_signals.ensures.bound, length-map c.offer_signals.new.self.sets (set_of same))) meets c.write_answer.ensures.window ahead
@@ -70,12 +74,13 @@ pub returns-in_err-write_answer-clause-adds : goal.returns-in_err-write_answer-c
 returns-in_err-write_answer-clause-adds g c =
     let p = err_from_is_err_and c.from_residual-in_err-write_answer.result c.from_residual-in_err-write_answer.ensures.1 in
     let meets : AnswersMessage c.args.setup.now (window_of same c.self.inside.collector) c.args.dated (outcome_of same c.in_ok-offer.offer) (map name_same c.offer_signals.new.conflicts) (window_of same c.offer_signals.new.self) =
-    signal-answers c.args.setup.now (entries_by c.takes_sbas-sbas.result c.channels-channels.result.now) (window_of same c.self.inside.collector) (window_of same c.offer_signals.new.self) c.args.dated (outcome_of same c.in_ok-offer.offer) (map name_same c.offer_signals.new.conflicts) (ap (λ (b : Bool). entries_by b c.channels-channels.result.now) c.takes_sbas-sbas.ensures ∙ c.channels-channels.ensures.cells)
+    signal-answers c.args.setup.now (entries_by c.takes_sbas-sbas.result c.has_doppler-doppler.result c.channels-channels.result.now) (window_of same c.self.inside.collector) (window_of same c.offer_signals.new.self) c.args.dated (outcome_of same c.in_ok-offer.offer) (map name_same c.offer_signals.new.conflicts) (ap (λ (b : Bool). entries_by b c.has_doppler-doppler.result c.channels-channels.result.now) c.takes_sbas-sbas.ensures
+    ∙ ap (λ (d : Bool). entries_by (lists_system c.args.setup.now.head.listed Sbas) d c.channels-channels.result.now) c.has_doppler-doppler.ensures ∙ c.channels-channels.ensures.cells)
     (λ before rep.
-    let m = c.in_ok-offer.ensures.answer before (subst (λ (w : CollectorView SignalEntry). RepresentsArrivals signals (entries_by c.takes_sbas-sbas.result c.channels-channels.result.now) w before) (window-id c.self.inside.collector) rep) in (
-      subst (λ (o : Outcome SignalEntry AnySatelliteCode). IsRightAnswer signals (entries_by c.takes_sbas-sbas.result c.channels-channels.result.now) c.self.inside.collector.places c.args.dated before o (map name_same c.offer_signals.new.conflicts)) (sym (outcome-id c.in_ok-offer.offer))
-          (subst (λ (xs : List AnySatelliteCode). IsRightAnswer signals (entries_by c.takes_sbas-sbas.result c.channels-channels.result.now) c.self.inside.collector.places c.args.dated before c.in_ok-offer.offer xs) (sym (map-id name_same (λ x. refl) c.offer_signals.new.conflicts)) m.0),
-      subst (λ (w : CollectorView SignalEntry). RepresentsArrivals signals (entries_by c.takes_sbas-sbas.result c.channels-channels.result.now) w (c.args.dated ∷ before)) (sym (window-id c.offer_signals.new.self)) m.1,
+    let m = c.in_ok-offer.ensures.answer before (subst (λ (w : CollectorView SignalEntry). RepresentsArrivals signals (entries_by c.takes_sbas-sbas.result c.has_doppler-doppler.result c.channels-channels.result.now) w before) (window-id c.self.inside.collector) rep) in (
+      subst (λ (o : Outcome SignalEntry AnySatelliteCode). IsRightAnswer signals (entries_by c.takes_sbas-sbas.result c.has_doppler-doppler.result c.channels-channels.result.now) c.self.inside.collector.places c.args.dated before o (map name_same c.offer_signals.new.conflicts)) (sym (outcome-id c.in_ok-offer.offer))
+          (subst (λ (xs : List AnySatelliteCode). IsRightAnswer signals (entries_by c.takes_sbas-sbas.result c.has_doppler-doppler.result c.channels-channels.result.now) c.self.inside.collector.places c.args.dated before c.in_ok-offer.offer xs) (sym (map-id name_same (λ x. refl) c.offer_signals.new.conflicts)) m.0),
+      subst (λ (w : CollectorView SignalEntry). RepresentsArrivals signals (entries_by c.takes_sbas-sbas.result c.has_doppler-doppler.result c.channels-channels.result.now) w (c.args.dated ∷ before)) (sym (window-id c.offer_signals.new.self)) m.1,
     )) in
     let text : c.deref.result.now ≡ offer_lines c.args.link (number_of (message_of c.args.dated)) (epoch_of c.args.dated) (outcome_of same c.in_ok-offer.offer) (map name_same c.offer_signals.new.conflicts) =
     c.deref.ensures.value ∙ c.in_ok-lines.ensures
@@ -89,12 +94,13 @@ pub returns-in_err-write_answer-clause-stays : goal.returns-in_err-write_answer-
 returns-in_err-write_answer-clause-stays g c =
     let p = err_from_is_err_and c.from_residual-in_err-write_answer.result c.from_residual-in_err-write_answer.ensures.1 in
     let meets : AnswersMessage c.args.setup.now (window_of same c.self.inside.collector) c.args.dated (outcome_of same c.in_ok-offer.offer) (map name_same c.offer_signals.new.conflicts) (window_of same c.offer_signals.new.self) =
-    signal-answers c.args.setup.now (entries_by c.takes_sbas-sbas.result c.channels-channels.result.now) (window_of same c.self.inside.collector) (window_of same c.offer_signals.new.self) c.args.dated (outcome_of same c.in_ok-offer.offer) (map name_same c.offer_signals.new.conflicts) (ap (λ (b : Bool). entries_by b c.channels-channels.result.now) c.takes_sbas-sbas.ensures ∙ c.channels-channels.ensures.cells)
+    signal-answers c.args.setup.now (entries_by c.takes_sbas-sbas.result c.has_doppler-doppler.result c.channels-channels.result.now) (window_of same c.self.inside.collector) (window_of same c.offer_signals.new.self) c.args.dated (outcome_of same c.in_ok-offer.offer) (map name_same c.offer_signals.new.conflicts) (ap (λ (b : Bool). entries_by b c.has_doppler-doppler.result c.channels-channels.result.now) c.takes_sbas-sbas.ensures
+    ∙ ap (λ (d : Bool). entries_by (lists_system c.args.setup.now.head.listed Sbas) d c.channels-channels.result.now) c.has_doppler-doppler.ensures ∙ c.channels-channels.ensures.cells)
     (λ before rep.
-    let m = c.in_ok-offer.ensures.answer before (subst (λ (w : CollectorView SignalEntry). RepresentsArrivals signals (entries_by c.takes_sbas-sbas.result c.channels-channels.result.now) w before) (window-id c.self.inside.collector) rep) in (
-      subst (λ (o : Outcome SignalEntry AnySatelliteCode). IsRightAnswer signals (entries_by c.takes_sbas-sbas.result c.channels-channels.result.now) c.self.inside.collector.places c.args.dated before o (map name_same c.offer_signals.new.conflicts)) (sym (outcome-id c.in_ok-offer.offer))
-          (subst (λ (xs : List AnySatelliteCode). IsRightAnswer signals (entries_by c.takes_sbas-sbas.result c.channels-channels.result.now) c.self.inside.collector.places c.args.dated before c.in_ok-offer.offer xs) (sym (map-id name_same (λ x. refl) c.offer_signals.new.conflicts)) m.0),
-      subst (λ (w : CollectorView SignalEntry). RepresentsArrivals signals (entries_by c.takes_sbas-sbas.result c.channels-channels.result.now) w (c.args.dated ∷ before)) (sym (window-id c.offer_signals.new.self)) m.1,
+    let m = c.in_ok-offer.ensures.answer before (subst (λ (w : CollectorView SignalEntry). RepresentsArrivals signals (entries_by c.takes_sbas-sbas.result c.has_doppler-doppler.result c.channels-channels.result.now) w before) (window-id c.self.inside.collector) rep) in (
+      subst (λ (o : Outcome SignalEntry AnySatelliteCode). IsRightAnswer signals (entries_by c.takes_sbas-sbas.result c.has_doppler-doppler.result c.channels-channels.result.now) c.self.inside.collector.places c.args.dated before o (map name_same c.offer_signals.new.conflicts)) (sym (outcome-id c.in_ok-offer.offer))
+          (subst (λ (xs : List AnySatelliteCode). IsRightAnswer signals (entries_by c.takes_sbas-sbas.result c.has_doppler-doppler.result c.channels-channels.result.now) c.self.inside.collector.places c.args.dated before c.in_ok-offer.offer xs) (sym (map-id name_same (λ x. refl) c.offer_signals.new.conflicts)) m.0),
+      subst (λ (w : CollectorView SignalEntry). RepresentsArrivals signals (entries_by c.takes_sbas-sbas.result c.has_doppler-doppler.result c.channels-channels.result.now) w (c.args.dated ∷ before)) (sym (window-id c.offer_signals.new.self)) m.1,
     )) in
     rw (p.1, p.2) (hands-on _ (outcome_of same c.in_ok-offer.offer) (map name_same c.offer_signals.new.conflicts) c.self.view_is c.requires.taken c.offer_signals.ensures.places (omega (arith, c.offer_signals.ensures.bound, length-map c.offer_signals.new.self.sets (set_of same))) meets c.write_answer.ensures.window tt)
 
@@ -112,12 +118,13 @@ pub returns-in_err-lines-clause-stays : goal.returns-in_err-lines-clause-stays
 returns-in_err-lines-clause-stays g c =
     let p = err_from_is_err_and c.from_residual-in_err-lines.result c.from_residual-in_err-lines.ensures.1 in
     let meets : AnswersMessage c.args.setup.now (window_of same c.self.inside.collector) c.args.dated (outcome_of same c.in_ok-offer.offer) (map name_same c.offer_signals.new.conflicts) (window_of same c.offer_signals.new.self) =
-    signal-answers c.args.setup.now (entries_by c.takes_sbas-sbas.result c.channels-channels.result.now) (window_of same c.self.inside.collector) (window_of same c.offer_signals.new.self) c.args.dated (outcome_of same c.in_ok-offer.offer) (map name_same c.offer_signals.new.conflicts) (ap (λ (b : Bool). entries_by b c.channels-channels.result.now) c.takes_sbas-sbas.ensures ∙ c.channels-channels.ensures.cells)
+    signal-answers c.args.setup.now (entries_by c.takes_sbas-sbas.result c.has_doppler-doppler.result c.channels-channels.result.now) (window_of same c.self.inside.collector) (window_of same c.offer_signals.new.self) c.args.dated (outcome_of same c.in_ok-offer.offer) (map name_same c.offer_signals.new.conflicts) (ap (λ (b : Bool). entries_by b c.has_doppler-doppler.result c.channels-channels.result.now) c.takes_sbas-sbas.ensures
+    ∙ ap (λ (d : Bool). entries_by (lists_system c.args.setup.now.head.listed Sbas) d c.channels-channels.result.now) c.has_doppler-doppler.ensures ∙ c.channels-channels.ensures.cells)
     (λ before rep.
-    let m = c.in_ok-offer.ensures.answer before (subst (λ (w : CollectorView SignalEntry). RepresentsArrivals signals (entries_by c.takes_sbas-sbas.result c.channels-channels.result.now) w before) (window-id c.self.inside.collector) rep) in (
-      subst (λ (o : Outcome SignalEntry AnySatelliteCode). IsRightAnswer signals (entries_by c.takes_sbas-sbas.result c.channels-channels.result.now) c.self.inside.collector.places c.args.dated before o (map name_same c.offer_signals.new.conflicts)) (sym (outcome-id c.in_ok-offer.offer))
-          (subst (λ (xs : List AnySatelliteCode). IsRightAnswer signals (entries_by c.takes_sbas-sbas.result c.channels-channels.result.now) c.self.inside.collector.places c.args.dated before c.in_ok-offer.offer xs) (sym (map-id name_same (λ x. refl) c.offer_signals.new.conflicts)) m.0),
-      subst (λ (w : CollectorView SignalEntry). RepresentsArrivals signals (entries_by c.takes_sbas-sbas.result c.channels-channels.result.now) w (c.args.dated ∷ before)) (sym (window-id c.offer_signals.new.self)) m.1,
+    let m = c.in_ok-offer.ensures.answer before (subst (λ (w : CollectorView SignalEntry). RepresentsArrivals signals (entries_by c.takes_sbas-sbas.result c.has_doppler-doppler.result c.channels-channels.result.now) w before) (window-id c.self.inside.collector) rep) in (
+      subst (λ (o : Outcome SignalEntry AnySatelliteCode). IsRightAnswer signals (entries_by c.takes_sbas-sbas.result c.has_doppler-doppler.result c.channels-channels.result.now) c.self.inside.collector.places c.args.dated before o (map name_same c.offer_signals.new.conflicts)) (sym (outcome-id c.in_ok-offer.offer))
+          (subst (λ (xs : List AnySatelliteCode). IsRightAnswer signals (entries_by c.takes_sbas-sbas.result c.has_doppler-doppler.result c.channels-channels.result.now) c.self.inside.collector.places c.args.dated before c.in_ok-offer.offer xs) (sym (map-id name_same (λ x. refl) c.offer_signals.new.conflicts)) m.0),
+      subst (λ (w : CollectorView SignalEntry). RepresentsArrivals signals (entries_by c.takes_sbas-sbas.result c.has_doppler-doppler.result c.channels-channels.result.now) w (c.args.dated ∷ before)) (sym (window-id c.offer_signals.new.self)) m.1,
     )) in
     rw (p.1, p.2) (hands-on _ (outcome_of same c.in_ok-offer.offer) (map name_same c.offer_signals.new.conflicts) c.self.view_is c.requires.taken c.offer_signals.ensures.places (omega (arith, c.offer_signals.ensures.bound, length-map c.offer_signals.new.self.sets (set_of same))) meets refl tt)
 

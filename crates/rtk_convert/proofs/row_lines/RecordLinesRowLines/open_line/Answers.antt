@@ -1,6 +1,9 @@
 use Rattle.std.proofs.Common.{arith}
-use Rattle.rtk_convert.proofs.RowLinesLemmas.{gps-room}
+use Rattle.rtk_convert.proofs.RowLinesLemmas.{gps-room, gps-kept}
 use Rattle.rtk_convert.proofs.row_lines.RecordLinesRowLines.open_line.Goals as goal
 
 pub open_line-requires-clause-room : goal.open_line-requires-clause-room
 open_line-requires-clause-room c = omega (arith, gps-room c.args.self.now c.requires.room)
+
+pub returns-clause-rows : goal.returns-clause-rows
+returns-clause-rows c = gps-kept c.args.self.now c.open_line.new.self c.open_line.ensures.lines

@@ -1,4 +1,4 @@
 use Rattle.rtk_rinex.proofs.mixed_record_lines.MixedRecordLines.new.Goals as goal
 
-pub returns : goal.returns
-returns c = record { lines = c.new.ensures.lines; count = c.new.ensures.count }
+pub returns-clause-lines : goal.returns-clause-lines
+returns-clause-lines c = record { lines = c.new.ensures.lines; count = c.new.ensures.count }

@@ -15,14 +15,14 @@ pub unreachable-requires : goal.unreachable-requires
 unreachable-requires c =
     not_there c.self.invariant.1 (λ left.
     let due = row-due _ left.0 left.1 c.if-self-eq0.false in
-    no_line c.self.inside.lines.now (mixed_satellite_line due.row) due.rest c.in_default.ensures (mixed_line-line due.row) due.text)
+    no_line c.self.inside.lines.now (mixed_satellite_line c.self.inside.form.doppler due.row) due.rest c.in_default.ensures (mixed_line-line c.self.inside.form.doppler due.row) due.text)
 
 pub read_mixed_row-satellite-requires-clause-some : goal.read_mixed_row-satellite-requires-clause-some
 read_mixed_row-satellite-requires-clause-some c =
     let line = c.in-Some.ensures in
     ∥∥₁_map c.self.invariant.1 (λ left.
     let due = row-due _ left.0 left.1 c.if-self-eq0.false in
-    (due.row, due.is_row, (line-due c.in-Some.line.now c.in-Some.after.now c.self.inside.lines.now due.row due.rest line.0 line.1 due.text).0))
+    (due.row, due.is_row, (line-due c.self.inside.form.doppler c.in-Some.line.now c.in-Some.after.now c.self.inside.lines.now due.row due.rest line.0 line.1 due.text).0))
 
 pub invariant_of-self : goal.invariant_of-self
 invariant_of-self c =

@@ -12,5 +12,5 @@ unreachable-requires c =
 pub returns-clause-parts : goal.returns-clause-parts
 returns-clause-parts c = λ t is e.
     let text = ap (λ (v : TableView). v.text) c.self.view_is ∙ e in
-    let one = c.in-Ok.ensures.only t.head t.site t.first (flat_map mixed_record_text t.epochs) is.head is.site is.first text in
+    let one = c.in-Ok.ensures.only t.head t.site t.first (flat_map (mixed_record_text t.head.doppler) t.epochs) is.head is.site is.first text in
     (sym one.0, sym one.1, sym one.2)

@@ -1,4 +1,4 @@
-use Rattle.std.proofs.Common.{◌≡◌, ℕ, ◌+◌, ◌*◌, ◌<◌, ◌≤◌, ◌++◌, List, length, take, drop, set, ltb, ap, refl, sym, subst, ◌∙◌, arith, inl, inr}
+use Rattle.std.proofs.Common.{◌≡◌, ℕ, ◌+◌, ◌*◌, ◌<◌, ◌≤◌, ◌++◌, List, length, take, drop, set, ltb, ap, refl, sym, subst, ◌∙◌, arith, inl, inr, false}
 use Rattle.std.specs.Prelude.{max}
 use Rattle.std.proofs.lemmas.Bool.{cases_lt, lt-ltb}
 use Rattle.std.proofs.lemmas.List.{take_at, drop_at, drop-drop, length-take, length-drop}
@@ -6,7 +6,7 @@ use Rattle.std.proofs.lemmas.Slice.{drop-put_mid}
 use borrow.Rule.Slice.PartMut.{put_mid}
 use Rattle.rtk_rinex.specs.Record.{observations}
 use Rattle.rtk_rinex.specs.RecordLines.{RecordLinesView, HasOpenLine}
-use Rattle.rtk_rinex.proofs.WrittenLemmas.{length-cell}
+use Rattle.rtk_rinex.proofs.WrittenLemmas.{length-code}
 use Rattle.rtk_rinex.proofs.RecordLinesLemmas.{blank-later, free-blank, put-at, open-put, open-none}
 use Rattle.rtk_rinex.proofs.record_lines.RecordLines.put_code.Goals as goal
 
@@ -15,10 +15,10 @@ put_code_at-requires-clause-blank c =
     let text = c.self.inside.text.items in
     let n = 3 + 48 * c.args.place in
     let at = max c.self.inside.len 36 in
-    let held = subst (λ (v : RecordLinesView). HasOpenLine v c.requires.observed) (sym c.self.view_is) c.requires.open_line in
+    let held = subst (λ (v : RecordLinesView). HasOpenLine false v c.requires.observed) (sym c.self.view_is) c.requires.open_line in
     let place : c.max.result + 3 + 48 * c.args.place ≡ at + n = omega (arith, c.max.ensures) in
     rw c.deref_mut.ensures.value
-    (ap (λ (k : ℕ). take 48 (drop k text)) place ∙ ap (take 48) (sym (drop-drop n at text)) ∙ free-blank _ c.requires.observed c.args.place held c.requires.free)
+    (ap (λ (k : ℕ). take 48 (drop k text)) place ∙ ap (take 48) (sym (drop-drop n at text)) ∙ free-blank false _ c.requires.observed c.args.place held c.requires.free)
 
 pub invariant_of-self : goal.invariant_of-self
 invariant_of-self c =
@@ -27,15 +27,16 @@ invariant_of-self c =
     let now = c.put_code_at.new.text in
     let end = c.max-self-inside.result in
     let place = c.max.result + 3 + 48 * c.args.place in
-    let held = subst (λ (v : RecordLinesView). HasOpenLine v c.requires.observed) (sym c.self.view_is) c.requires.open_line in
-    let room : place + 48 < length text = omega (arith, c.max.ensures, held.room, c.requires.free.inside, length-drop (max c.self.inside.len 36) text) in
-    let bound : place + 48 ≤ max c.self.inside.len 36 + 771 = omega (arith, c.max.ensures, held.few, c.requires.free.inside) in
+    let held = subst (λ (v : RecordLinesView). HasOpenLine false v c.requires.observed) (sym c.self.view_is) c.requires.open_line in
+    let enough : 4 + 48 * length c.requires.observed ≤ length (drop (max c.self.inside.len 36) text) = held.room in
+    let room : place + 48 < length text = omega (arith, c.max.ensures, enough, c.requires.free.inside, length-drop (max c.self.inside.len 36) text) in
+    let bound : place + 48 ≤ max c.self.inside.len 36 + 1027 = omega (arith, c.max.ensures, held.few, c.requires.free.inside) in
     let long : length now ≡ length text = omega arith in
     let whole : take c.self.inside.text.len (now ++ drop (length now) text) ≡ now = take_at now (drop (length now) text) c.self.inside.text.len (omega arith) in
     let later : c.self.inside.end ≤ end = omega arith in
     let is : now ≡ put_mid place 48 text (observations c.args.observed.now) = rw c.deref_mut.ensures.value at c.put_code_at.ensures in
     let after : drop end now ≡ drop end text =
-    ap (drop end) is ∙ drop-put_mid place 48 text (observations c.args.observed.now) end (omega arith) (omega arith) (length-cell c.args.observed.now) in (
+    ap (drop end) is ∙ drop-put_mid place 48 text (observations c.args.observed.now) end (omega arith) (omega arith) (length-code false c.args.observed.now) in (
       rw whole (record {
         few = i.few;
         within = omega arith;
@@ -63,18 +64,19 @@ returns-then-has_observation-clause-open c = λ row h f.
     let g : List ℕ = observations c.args.observed.now in
     let place = c.max.result + 3 + 48 * c.args.place in
     let old : RecordLinesView = record { text = take len text; count = c.self.inside.count; rest = drop at text; is_written = ltb len c.self.inside.end } in
-    let held : HasOpenLine old row = subst (λ (v : RecordLinesView). HasOpenLine v row) (sym c.self.view_is) h in
+    let held : HasOpenLine false old row = subst (λ (v : RecordLinesView). HasOpenLine false v row) (sym c.self.view_is) h in
     let e : place ≡ at + n = omega (arith, c.max.ensures) in
-    let inside : at ≤ length text = omega (arith, held.room, length-drop at text) in
+    let enough : 4 + 48 * length row ≤ length (drop at text) = held.room in
+    let inside : at ≤ length text = omega (arith, enough, length-drop at text) in
     let size : length (take at text) ≡ at = omega (arith, length-take at text) in
     let whole : take c.self.inside.text.len (now ++ drop (length now) text) ≡ now = take_at now (drop (length now) text) c.self.inside.text.len (omega arith) in
-    let parts : now ≡ take at text ++ (take n (drop at text) ++ (g ++ drop 48 (drop n (drop at text)))) = put-at text now g at place n e inside (rw c.deref_mut.ensures.value at c.put_code_at.ensures) in
+    let parts : now ≡ take at text ++ (take n (drop at text) ++ (g ++ drop 48 (drop n (drop at text)))) = put-at false text now g at place n e inside (rw c.deref_mut.ensures.value at c.put_code_at.ensures) in
     let is : drop at now ≡ take n (drop at text) ++ (g ++ drop 48 (drop n (drop at text))) =
     ap (drop at) parts ∙ drop_at (take at text) (take n (drop at text) ++ (g ++ drop 48 (drop n (drop at text)))) at size in
     let new : RecordLinesView = record { text = take len now; count = c.self.inside.count; rest = drop at now; is_written = ltb len end } in
-    subst (λ (t : List ℕ). HasOpenLine (record { text = take len t; count = c.self.inside.count; rest = drop at t; is_written = ltb len end }) (set row c.args.place c.args.observed.now)) (sym whole)
-    (open-put old new row c.args.place c.args.observed.now held f (sym c.has_observation.ensures ∙ c.if-has_observation.true) is (lt-ltb len end (omega arith)))
+    subst (λ (t : List ℕ). HasOpenLine false (record { text = take len t; count = c.self.inside.count; rest = drop at t; is_written = ltb len end }) (set row c.args.place c.args.observed.now)) (sym whole)
+    (open-put false old new row c.args.place c.args.observed.now held f (sym c.has_observation.ensures ∙ c.if-has_observation.true) is (lt-ltb len end (omega arith)))
 
 pub returns-else-has_observation-clause-open : goal.returns-else-has_observation-clause-open
 returns-else-has_observation-clause-open c = λ row h f.
-    open-none c.args.self.now row c.args.place c.args.observed.now h f (sym c.has_observation.ensures ∙ c.if-has_observation.false)
+    open-none false c.args.self.now row c.args.place c.args.observed.now h f (sym c.has_observation.ensures ∙ c.if-has_observation.false)

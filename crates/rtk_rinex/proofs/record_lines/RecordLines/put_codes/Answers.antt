@@ -1,4 +1,4 @@
-use Rattle.std.proofs.Common.{◌-◌, ◌++◌, List, length, replicate, take, get_or, refl, subst, ◌∙◌}
+use Rattle.std.proofs.Common.{◌-◌, ◌++◌, List, length, replicate, take, get_or, refl, subst, ◌∙◌, false}
 use Rattle.rtk_rinex.specs.declared.epoch_table.Observed.{Observed}
 use Rattle.rtk_rinex.specs.Record.{no_observation}
 use Rattle.rtk_rinex.specs.RecordLines.{HasOpenLine}
@@ -11,8 +11,8 @@ loop-place-preserved c =
     let i = c.loop-place.place in
     let row : List Observed = take i os ++ replicate (length os - i) no_observation in
     record {
-      line = subst (λ (xs : List Observed). HasOpenLine c.put_code.new.self xs) (next-code os i (get_or os i no_observation) no_observation c.loop-place-test.true refl)
-          (c.put_code.ensures.open row c.loop-place.invariant.line (next-free os i c.loop-place-test.true));
+      line = subst (λ (xs : List Observed). HasOpenLine false c.put_code.new.self xs) (next-code os i (get_or os i no_observation) no_observation c.loop-place-test.true refl)
+          (c.put_code.ensures.open row c.loop-place.invariant.line (next-free false os i c.loop-place-test.true));
       lines = record {
         text = c.put_code.ensures.lines.text ∙ c.loop-place.invariant.lines.text;
         count = c.put_code.ensures.lines.count ∙ c.loop-place.invariant.lines.count;
