@@ -7,6 +7,7 @@ ghost use Rattle.rtk_commands.specs.FileTable.{text_of, HasItsLetter};
 ghost use Rattle.rtk_commands.specs.WithLabel.{MakesOfFile, WritesOfTable};
 
 use crate::any_table::AnyTable;
+use crate::fault::ToolFault;
 use crate::file_answer::FileAnswer;
 use crate::file_command::FileCommand;
 use crate::rendered::{Rendered, write_rendered};
@@ -14,7 +15,6 @@ use crate::with_label::table_with_label;
 use rtk_chart::{Choice, chosen_svg, chosen_text, is_there, is_there_of_any, mixed_chart_text};
 use rtk_frame::Sink;
 use rtk_rinex::{MixedTextTable, TextTable};
-use rtk_streams::ToolFault;
 use std::alloc::{AllocError, Global};
 
 /// The command `chart`.

@@ -1,9 +1,9 @@
 //! What a command of a file answers, and what it says of it.
 
+use crate::exit_status::{DONE, NOT_VALID, REFUSED};
 use rtk_cut::CutCounts;
 use rtk_message::System;
 use rtk_rinex::CheckFault;
-use rtk_streams::{DONE, NOT_VALID, REFUSED};
 
 /// What came of a text that was read whole.
 #[derive(Clone, Copy, Debug, PartialEq, Eq)]
