@@ -170,7 +170,7 @@ sed 's/^E    4 C8X L8X D8X S8X    /E    3 C8X L8X S8X        /' seven.rnx >bad.r
 run check bad.rnx
 expect all_systems_or_none 3 'line 12: C1 HeaderLine' ''
 # cut gives the file of a conversion of the same records and codes, and label leaves the records.
-run cut --codes R2P seven.rnx; cp out cut.rnx
+run cut --systems R seven.rnx; cp out cut.rnx
 grep -e '^[A-Z]    4' -e '^R10 ' cut.rnx >told
 printf '%-60sSYS / # / OBS TYPES \n%s\n' 'R    4 C2P L2P D2P S2P' 'R10  20079294.057 6  83309237.891 6      1244.632          37.500' >want
 same cut told want
