@@ -52,6 +52,7 @@ mod epochs;
 mod equipment;
 mod equipment_lines;
 mod equipment_message;
+mod far_date;
 mod frame_place;
 mod laws;
 mod line;
@@ -86,6 +87,7 @@ mod target;
 mod telling;
 mod tellings;
 mod times_of_week;
+mod to_come;
 mod unchecked_clocks;
 mod unread;
 mod wrong_clocks;
@@ -103,6 +105,7 @@ pub use epochs::Epochs;
 pub use equipment::{Equipment, SetupHistory, TextHistory};
 pub use equipment_lines::put_shown;
 pub use equipment_message::{Antenna, EquipmentMessage, Receiver, Text, equipment_in};
+pub use far_date::FarDate;
 pub use frame_place::place_of_frame;
 pub use laws::{
     all_are_taken_alike, each_frame_is_counted, four_need_no_option, lines_tell_numbers,
