@@ -1,6 +1,6 @@
 -- How often messages tell each frequency channel of each slot of GLONASS. Lists of messages are newest first.
 -- Source: RTCM 10403.3, DF038, DF040, DF394 and DF419
-use Rattle.std.specs.Prelude.{◌≡◌, ℕ, ◌+◌, ◌-◌, ◌*◌, ◌/◌, ◌%◌, ◌^◌, ◌==◌, ◌<◌, ◌≤◌, Bool, true, false, ◌&&◌, List, [], ◌∷◌, length, get_or, slice_get, count_ones, nat_lt, Option, None, Some, if◌then◌else◌}
+use Rattle.std.specs.Prelude.{◌≡◌, ℕ, ◌+◌, ◌-◌, ◌*◌, ◌/◌, ◌%◌, ◌^◌, ◌==◌, ◌<◌, ◌≤◌, Bool, true, false, not, ◌&&◌, List, [], ◌∷◌, length, get_or, slice_get, count_ones, nat_lt, Option, None, Some, if◌then◌else◌}
 use Rattle.rtk_message.specs.declared.any_message.AnyMessage.{AnyMessage}
 use Rattle.rtk_message.specs.declared.any_message.AnyMessage.TheVariants as any
 use Rattle.rtk_message.specs.declared.msm.Msm.{Msm}
@@ -42,10 +42,10 @@ is_glonass Sbas = false
 is_glonass Navic = false
 
 -- constant
--- the field, if it tells a channel in an MSM: DF419 tells those that RINEX has, -7 to +6, and 14 and 15 tell none
+-- the field, if it tells a channel in an MSM: 15 tells none (DF419)
 abbrev pub if_channel : Option ℕ → Option ℕ
 if_channel None = None
-if_channel (Some field) = if nat_lt field 14 then Some field else None
+if_channel (Some field) = if not (field == 15) then Some field else None
 
 abbrev pub field_in_msm : Msm → ℕ → Option ℕ
 field_in_msm m slot = if is_glonass m.system then if_channel (slot_field m slot) else None

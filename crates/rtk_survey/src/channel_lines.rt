@@ -10,8 +10,8 @@ use crate::channels::{CHANNELS, FIELDS, PLACES};
 use rtk_message::put_number;
 use std::alloc::{AllocError, Global};
 
-// The channel that a field tells.
-fn put_channel(text: &mut Vec<u8>, field: u8) -> Result<(), AllocError>
+/// Appends the channel that a field tells: 7 less.
+pub fn put_field_channel(text: &mut Vec<u8>, field: u8) -> Result<(), AllocError>
     ensures { OnOk result (text.new.items ≡ text.old.items ++ spec.field_channel_text field) }
 {
     if field < 7 {
@@ -28,7 +28,7 @@ pub(crate) fn put_told_channel(text: &mut Vec<u8>, place: usize) -> Result<(), A
 {
     put_number(text, (place / FIELDS) as u64)?;
     text.push(b':')?;
-    put_channel(text, (place % FIELDS) as u8)
+    put_field_channel(text, (place % FIELDS) as u8)
 }
 
 fn is_counted(table: &[u64], place: usize) -> bool

@@ -17,8 +17,11 @@ const SLOTS: u8 = 28;
 /// The fields that tell a channel (DF040): 0 to 20, 7 more than the channel.
 pub(crate) const FIELDS: usize = 21;
 
-/// Those that tell a channel that RINEX has, -7 to +6: 0 to 13. In an MSM (DF419) others tell none.
+/// Those that tell a channel that RINEX has, -7 to +6: 0 to 13.
 pub(crate) const CHANNELS: u8 = 14;
+
+/// The field of an MSM (DF419) that tells no channel.
+const UNKNOWN: u8 = 15;
 
 /// The places of a table.
 pub(crate) const PLACES: usize = 588;
@@ -101,7 +104,7 @@ fn if_channel(field: Option<u8>) -> Option<u8>
     ensures { result ≡ spec.if_channel field }
 {
     match field {
-        Some(field) if field < CHANNELS => Some(field),
+        Some(field) if field != UNKNOWN => Some(field),
         _ => None,
     }
 }

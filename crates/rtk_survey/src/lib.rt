@@ -94,6 +94,7 @@ mod wrong_clocks;
 
 pub use beside_gps::{is_beside_gps, told_time};
 pub use capture_dates::CaptureDates;
+pub use channel_lines::put_field_channel;
 pub use channels::count_of_field;
 pub use clock_chains::{ChainClock, ClockOffset, ClockOffsets, ClockSurvey, ClockTold, DayOffset};
 pub use clock_lines::{compared_clocks, put_clock_line, told_offset};
