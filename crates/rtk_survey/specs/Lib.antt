@@ -12,6 +12,7 @@ pub mod Epochs
 pub mod EquipmentHistory
 pub mod EquipmentMessages
 pub mod EquipmentText
+pub mod FarDates
 pub mod FrameDates
 pub mod FrameEquipment
 pub mod FramePlaces
@@ -34,6 +35,7 @@ pub mod SystemMessages
 pub mod SystemTellings
 pub mod Targets
 pub mod Telling
+pub mod ToCome
 pub mod Tracing
 pub mod UncheckedClocks
 pub mod WrongClocks

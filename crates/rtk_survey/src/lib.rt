@@ -52,6 +52,7 @@ mod epochs;
 mod equipment;
 mod equipment_lines;
 mod equipment_message;
+mod far_date;
 mod frame_place;
 mod laws;
 mod line;
@@ -86,12 +87,14 @@ mod target;
 mod telling;
 mod tellings;
 mod times_of_week;
+mod to_come;
 mod unchecked_clocks;
 mod unread;
 mod wrong_clocks;
 
 pub use beside_gps::{is_beside_gps, told_time};
 pub use capture_dates::CaptureDates;
+pub use channel_lines::put_field_channel;
 pub use channels::count_of_field;
 pub use clock_chains::{ChainClock, ClockOffset, ClockOffsets, ClockSurvey, ClockTold, DayOffset};
 pub use clock_lines::{compared_clocks, put_clock_line, told_offset};
@@ -103,6 +106,7 @@ pub use epochs::Epochs;
 pub use equipment::{Equipment, SetupHistory, TextHistory};
 pub use equipment_lines::put_shown;
 pub use equipment_message::{Antenna, EquipmentMessage, Receiver, Text, equipment_in};
+pub use far_date::FarDate;
 pub use frame_place::place_of_frame;
 pub use laws::{
     all_are_taken_alike, each_frame_is_counted, four_need_no_option, lines_tell_numbers,

@@ -17,14 +17,15 @@ ghost use Rattle.rtk_survey.specs.declared.dating_systems.DatingSystems.{DatingS
 ghost use Rattle.rtk_survey.specs.declared.target.Target.{Target};
 
 use crate::capture_dates::CaptureDates;
-use crate::date_message::{DateMessage, UtcDate, date_in};
+use crate::date_message::{DateMessage, date_in};
 use crate::dating_systems::DatingSystems;
 use crate::equipment_message::{EquipmentMessage, equipment_in};
 use crate::parting::Parting;
 use crate::phases::Phases;
 use crate::signals::have_value;
 use crate::system_msm::gives_value;
-use crate::telling::is_to_come;
+use crate::tellings::Told;
+use crate::to_come::told_to_come;
 use rtk_message::AnyMessage;
 use rtk_obs::{CellEntry, GpsMs, SignalEntry};
 use std::alloc::{AllocError, Global};
@@ -71,8 +72,9 @@ pub struct TargetSurvey {
     pub equipment: EquipmentTimes,
     /// Where a second date begins.
     pub parting: Parting,
-    /// The date of the first 1013 or 1029, of any station, that is passed over since it is to come.
-    pub to_come: Option<UtcDate>,
+    /// The first message with a date, of any station, that is passed over since it is to come, with the moment that it
+    /// names.
+    pub to_come: Option<Told>,
 }
 
 // Has a message with these cells an observation of GPS?
@@ -188,15 +190,11 @@ impl EquipmentTimes {
 }
 
 // The first date that is to come: one that was told before, or else this one.
-fn first_to_come(
-    now: GpsMs,
-    before: Option<UtcDate>,
-    message: Option<DateMessage>,
-) -> Option<UtcDate>
+fn first_to_come(now: GpsMs, before: Option<Told>, message: Option<DateMessage>) -> Option<Told>
     ensures { result ≡ spec.first_to_come now before message }
 {
     match (before, message) {
-        (None, Some(DateMessage::Utc(date))) if is_to_come(now, date) => Some(date),
+        (None, Some(message)) => told_to_come(now, &message),
         _ => before,
     }
 }
