@@ -18,6 +18,7 @@ pub mod ListLemmas
 pub mod MapLemmas
 pub mod MsmLemmas
 pub mod NamedLemmas
+pub mod NamelessLemmas
 pub mod NextLemmas
 pub mod PhaseLemmas
 pub mod PublicLaws

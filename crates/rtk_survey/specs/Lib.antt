@@ -16,6 +16,7 @@ pub mod FrameDates
 pub mod FrameEquipment
 pub mod FramePlaces
 pub mod Look
+pub mod Nameless
 pub mod NextCommand
 pub mod NumberLaws
 pub mod Parting
