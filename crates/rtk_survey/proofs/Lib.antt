@@ -5,6 +5,7 @@ pub mod ChannelLineLemmas
 pub mod CountingLemmas
 pub mod CutLemmas
 pub mod DateLemmas
+pub mod DaylessLemmas
 pub mod FaultLemmas
 pub mod FourLemmas
 pub mod FrameLemmas

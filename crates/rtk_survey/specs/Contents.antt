@@ -18,6 +18,7 @@ use Rattle.rtk_survey.specs.BesideGps.{is_beside_numbered, messages_beside, cell
 use Rattle.rtk_survey.specs.Chains.{clocks_of, clocks_at}
 use Rattle.rtk_survey.specs.Channels.{CountsChannels, CountsSlots}
 use Rattle.rtk_survey.specs.Counting.{shown_count, count_of}
+use Rattle.rtk_survey.specs.Dayless.{is_dayless_numbered}
 use Rattle.rtk_survey.specs.EquipmentHistory.{no_equipment, equipment_of}
 use Rattle.rtk_survey.specs.FrameDates.{dates_in, no_station_dates, station_dates, is_of_week}
 use Rattle.rtk_survey.specs.FrameEquipment.{equipment_among}
@@ -217,6 +218,10 @@ CountsSystemWeeks number weeks ts = (n : ℕ) → count_at weeks n ≡ count_of 
 abbrev pub CountsBeside : BTreeMap ℕ ℕ → List AnyMessage → Type 0
 CountsBeside counts ms = (n : ℕ) → count_at counts n ≡ count_of (is_beside_numbered n) ms
 
+-- how many MSM of each number tell no day
+abbrev pub CountsDayless : BTreeMap ℕ ℕ → List AnyMessage → Type 0
+CountsDayless counts ms = (n : ℕ) → count_at counts n ≡ count_of (is_dayless_numbered n) ms
+
 -- formula
 -- how many messages of a number came that a conversion of GPS does not read
 abbrev pub others_held : Contents → ℕ → ℕ
@@ -242,6 +247,7 @@ pub record HoldsFrames (q : Option Target) (fs : List ReadFrame) (c : Contents) 
   pub unread : CountsFaults c.unread (faults_in fs)
   pub beside : CountsBeside c.beside (messages_in fs)
   pub target : IsAnswer q fs c.target
+  pub dayless : CountsDayless c.dayless (messages_in fs)
 
 -- the survey of a station in a capture
 abbrev pub station_in : ℕ → CaptureSurvey → Option StationSurvey

@@ -8,6 +8,7 @@ pub mod Counting
 pub mod CountingLaws
 pub mod DateLaws
 pub mod DateMessages
+pub mod Dayless
 pub mod Epochs
 pub mod EquipmentHistory
 pub mod EquipmentMessages

@@ -48,6 +48,7 @@ mod date_laws;
 mod date_lines;
 mod date_message;
 mod dating_systems;
+mod dayless;
 mod epochs;
 mod equipment;
 mod equipment_lines;
