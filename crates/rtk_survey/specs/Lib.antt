@@ -8,6 +8,7 @@ pub mod Counting
 pub mod CountingLaws
 pub mod DateLaws
 pub mod DateMessages
+pub mod Dayless
 pub mod Epochs
 pub mod EquipmentHistory
 pub mod EquipmentMessages
@@ -17,6 +18,7 @@ pub mod FrameDates
 pub mod FrameEquipment
 pub mod FramePlaces
 pub mod Look
+pub mod Nameless
 pub mod NextCommand
 pub mod NumberLaws
 pub mod Parting

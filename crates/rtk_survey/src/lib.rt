@@ -48,6 +48,7 @@ mod date_laws;
 mod date_lines;
 mod date_message;
 mod dating_systems;
+mod dayless;
 mod epochs;
 mod equipment;
 mod equipment_lines;
@@ -60,6 +61,7 @@ mod lines;
 mod look;
 mod message_lines;
 mod msm_parts;
+mod nameless;
 mod next_command;
 mod parting;
 mod phases;
@@ -119,7 +121,9 @@ pub use phases::{PhaseCount, Phases, count_in_table};
 pub use placing::{CaptureEpochs, Placed, is_dated_near, least_with_if_any, place};
 pub use points::are_far;
 pub use reading::survey_capture;
-pub use reference_point::{ReferencePoint, far_point_with, first_point_with};
+pub use reference_point::{
+    ReferencePoint, are_other, far_point_with, first_point_with, has_other_point_with,
+};
 pub use signals::{Codes, Signals, has_value, have_value};
 pub use span::Span;
 pub use station::{MessageCounts, StationSurvey};
