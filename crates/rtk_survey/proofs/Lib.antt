@@ -2,6 +2,7 @@ pub mod AlikeLemmas
 pub mod BitLemmas
 pub mod ChannelLemmas
 pub mod ChannelLineLemmas
+pub mod ClockSpanLemmas
 pub mod CountingLemmas
 pub mod CutLemmas
 pub mod DateLemmas
