@@ -118,7 +118,7 @@ pub use placing::{CaptureEpochs, Placed, is_dated_near, least_with_if_any, place
 pub use points::are_far;
 pub use reading::survey_capture;
 pub use reference_point::{
-    ReferencePoint, are_other, far_point_with, first_point_with, has_other_point_with,
+    ReferencePoint, far_point_with, first_point_with, has_other_point_with, is_other_point,
 };
 pub use signals::{Codes, Signals, has_value, have_value};
 pub use span::Span;
