@@ -109,15 +109,14 @@ pub fn far_point_with(
     }
 }
 
-/// Do two reference points differ?
-pub fn are_other(a: &ReferencePoint, b: &ReferencePoint) -> bool
+fn are_other(a: &ReferencePoint, b: &ReferencePoint) -> bool
     ensures { result ≡ spec.are_other a.now b.now }
 {
     !(a.x == b.x && a.y == b.y && a.z == b.z)
 }
 
-// Is it another point than the first one?
-fn is_other_point(first: Option<ReferencePoint>, point: Option<ReferencePoint>) -> bool
+/// Is it another point than the first one? None differs from none.
+pub fn is_other_point(first: Option<ReferencePoint>, point: Option<ReferencePoint>) -> bool
     ensures { result ≡ spec.is_other_point first point }
 {
     match (first, point) {
