@@ -31,6 +31,7 @@ pub mod Summary
 pub mod SummaryText
 pub mod Surveys
 pub mod SystemMessages
+pub mod SystemPhases
 pub mod SystemTellings
 pub mod Targets
 pub mod Telling

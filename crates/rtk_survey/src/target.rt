@@ -3,6 +3,7 @@
 
 ghost use Rattle.std.specs.Prelude.{◌≡◌, ◌≢◌, ℕ, List, [], ◌∷◌, length, Option, Some, Ok, Err, true, OnOk};
 ghost use Rattle.rtk_bits.specs.Bits.{bits};
+ghost use Rattle.rtk_message.specs.AnyDecoded.{IsValid};
 ghost use Rattle.rtk_message.specs.declared.any_message.AnyMessage.{AnyMessage};
 ghost use Rattle.rtk_message.specs.declared.any_fault.AnyFault.{AnyFault};
 ghost use Rattle.rtk_survey.specs.BesideGps.{cells_beside_gps};
@@ -24,6 +25,7 @@ use crate::parting::Parting;
 use crate::phases::Phases;
 use crate::signals::have_value;
 use crate::system_msm::gives_value;
+use crate::system_phases::SystemPhases;
 use crate::telling::is_to_come;
 use rtk_message::AnyMessage;
 use rtk_obs::{CellEntry, GpsMs, SignalEntry};
@@ -73,6 +75,8 @@ pub struct TargetSurvey {
     pub parting: Parting,
     /// The date of the first 1013 or 1029, of any station, that is passed over since it is to come.
     pub to_come: Option<UtcDate>,
+    /// Its phases of other systems than GPS.
+    pub system_phases: SystemPhases,
 }
 
 // Has a message with these cells an observation of GPS?
@@ -251,6 +255,7 @@ impl TargetSurvey {
             equipment: EquipmentTimes::new(),
             parting: Parting::new(),
             to_come: None,
+            system_phases: SystemPhases::new(alloc, target.station),
         }
     }
 
@@ -263,6 +268,7 @@ impl TargetSurvey {
         signals: &[SignalEntry],
         frame: u64,
     ) -> Result<(), AllocError>
+        requires valid { IsValid message.now }
         requires entries { entries.now ≡ entries_of_message message.now }
         requires signals { signals.now ≡ cells_beside_gps message.now }
         ensures { OnOk result ((q : Target) (fs : List ReadFrame) (payload : List ℕ) → frame ≡ shown_count (length fs)
@@ -272,6 +278,7 @@ impl TargetSurvey {
         take_message(&mut self.dates, self.present, message, entries, signals);
         self.parting
             .take_epochs(before, self.dates.capture.span, frame);
+        self.system_phases.count_phases(alloc, message, signals)?;
         take_phases(
             alloc,
             &mut self.phases,
@@ -287,6 +294,7 @@ impl TargetSurvey {
         ensures parting { self.new.parting ≡ parting.parting_with_date self.old.present self.old.dates.station self.old.dates.capture message frame self.old.parting }
         ensures to_come { self.new.to_come ≡ spec.first_to_come self.old.present self.old.to_come message }
         ensures others { (self.new.present ≡ self.old.present) × (self.new.phases ≡ self.old.phases) × (self.new.equipment ≡ self.old.equipment) }
+        ensures system_phases { self.new.system_phases ≡ self.old.system_phases }
     {
         self.to_come = first_to_come(self.present, self.to_come, message);
         let (station, capture) = (self.dates.station, &self.dates.capture);
@@ -324,6 +332,7 @@ pub(crate) fn take_target_message(
     signals: &[SignalEntry],
     frame: u64,
 ) -> Result<(), AllocError>
+    requires valid { IsValid message.now }
     requires entries { entries.now ≡ entries_of_message message.now }
     requires signals { signals.now ≡ cells_beside_gps message.now }
     ensures { OnOk result ((q : Option Target) (fs : List ReadFrame) (payload : List ℕ) → frame ≡ shown_count (length fs)

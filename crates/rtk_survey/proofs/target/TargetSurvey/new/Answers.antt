@@ -10,4 +10,5 @@ returns c = record {
   equipment = c.new-3.ensures;
   parting = c.new-4.ensures;
   to_come = refl;
+  system_phases = c.new-5.ensures;
 }

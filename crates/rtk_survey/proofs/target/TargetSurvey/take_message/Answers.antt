@@ -24,4 +24,5 @@ returns c = on-ok c.take_phases.result (λ took q fs payload count is.
       equipment = is.equipment;
       parting = parted-message q fs old m c.args.frame c.take_message.new.dates c.take_epochs.new.self c.take_message.ensures count is c.take_epochs.ensures;
       to_come = is.to_come;
+      system_phases = c.in_ok-count_phases.ensures q.station (messages_in fs) is.system_phases;
     }) c.take_phases.ensures
