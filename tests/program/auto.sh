@@ -336,7 +336,7 @@ finds '--window 2 led_astray steady' "$noon until 2024-05-19T12:00:00 by 1013" "
     ' gap 2024-05-17T12:00:09 until 2024-05-19T12:00:00\n stray led_astray 2024-05-19T12:00:00\n late 3: observations after 2 newer epochs, and new positions after 2 epochs, are left out, 3 of them on a link with the stray epoch\n time-falls led_astray'
 # A date in a capture without an epoch is its own moment, and counts if no capture with epochs tells a date.
 position=
-# pins: own_moment_of_ephemeris, own_moment_of_system_week
+# pins: own_moment, own_moment_of_ephemeris, own_moment_of_system_week
 finds 'undated dated_place' "$noon until $noon by 1013" "cat dated_place undated | $one_command stdin" '3 1 0 0 2 0 0 0 1' 0 '' ' undated undated: dated near the others\n no-epoch dated_place'
 finds 'undated week_place' "$noon until $noon by 1019 (or 2004-10-01, 2044-01-01)" "cat week_place undated | $one_command stdin" '3 1 0 0 2 0 0 0 1' 0 '' ' undated undated: dated near the others\n no-epoch week_place'
 finds 'undated galileo_place' "$noon until $noon by 1045" "cat galileo_place undated | $one_command stdin" '3 1 0 0 2 0 0 0 1' 0 '' ' undated undated: dated near the others\n no-epoch galileo_place'

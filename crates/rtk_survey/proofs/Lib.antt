@@ -32,6 +32,7 @@ pub mod SignalLemmas
 pub mod StationLemmas
 pub mod SummaryTellingLemmas
 pub mod SystemLemmas
+pub mod SystemPhaseLemmas
 pub mod SystemTellingLemmas
 pub mod TallyLemmas
 pub mod TargetLemmas

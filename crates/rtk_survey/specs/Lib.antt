@@ -35,6 +35,7 @@ pub mod Summary
 pub mod SummaryText
 pub mod Surveys
 pub mod SystemMessages
+pub mod SystemPhases
 pub mod SystemTellings
 pub mod Targets
 pub mod Telling

@@ -23,6 +23,7 @@ use Rattle.rtk_survey.specs.Parting.{no_parting, with_epochs}
 use Rattle.rtk_survey.specs.Phases.{HasPhases}
 use Rattle.rtk_survey.specs.Proposal.{entry_has_value}
 use Rattle.rtk_survey.specs.ReadFrames.{ReadFrame, messages_in, messages_from}
+use Rattle.rtk_survey.specs.SystemPhases.{HasSystemPhases}
 use Rattle.rtk_survey.specs.ToCome.{told_to_come}
 use Rattle.rtk_survey.specs.Tracing.{entries_of_message}
 use Rattle.rtk_survey.specs.declared.capture_dates.CaptureDates.{CaptureDates}
@@ -231,6 +232,7 @@ pub record IsTargetOf (q : Target) (fs : List ReadFrame) (t : TargetSurvey) : Ty
   pub parting : t.parting ≡ parting_of q fs
   pub to_come : t.to_come ≡ to_come_of q.present fs
   pub clocks : (n : ℕ) → clocks_by_station t.clocks n ≡ clocks_in q fs n
+  pub system_phases : HasSystemPhases q.station (messages_in fs) t.system_phases
 
 -- what a capture with these frames tells of the station of a conversion, if it is asked for
 abbrev pub IsAnswer : Option Target → List ReadFrame → Option TargetSurvey → Type 0

@@ -120,8 +120,8 @@ fn field_in_msm(message: &Msm, slot: u8) -> Option<u8>
     }
 }
 
-// The field of a slot, if the message is of GLONASS and has it.
-fn field_told(message: &AnyMessage, slot: u8) -> Option<u8>
+/// The field of a slot, if the message is of GLONASS and has it.
+pub(crate) fn field_told(message: &AnyMessage, slot: u8) -> Option<u8>
     requires { (1 ≤ slot) × (slot < 28) }
     ensures { result ≡ spec.field_told message.now slot }
 {
@@ -175,7 +175,8 @@ pub(crate) fn no_channels_told(alloc: Global) -> Vec<u64>
     Vec::new(alloc)
 }
 
-fn is_of_glonass(message: &AnyMessage) -> bool
+/// Is it a message of GLONASS?
+pub(crate) fn is_of_glonass(message: &AnyMessage) -> bool
     ensures { result ≡ spec.is_of_glonass message.now }
 {
     match message {

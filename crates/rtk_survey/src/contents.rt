@@ -3,6 +3,7 @@
 ghost use Rattle.std.specs.Prelude.{◌≡◌, ◌+◌, ◌∷◌, [], List, ℕ, Option, Ok, Err, OnOk};
 ghost use Rattle.std.specs.List.{cons_option};
 ghost use Rattle.rtk_bits.specs.Bits.{bits};
+ghost use Rattle.rtk_message.specs.AnyDecoded.{IsValid};
 ghost use Rattle.rtk_message.specs.declared.any_message.AnyMessage.{AnyMessage};
 ghost use Rattle.rtk_survey.specs.BesideGps.{cells_beside_gps};
 ghost use Rattle.rtk_survey.specs.Contents.{AreStations, CountsBeside, CountsWeeks, HasSystemTellings, HoldsFrames, others_held};
@@ -174,6 +175,7 @@ impl Contents {
         entries: &[CellEntry],
         signals: &[SignalEntry],
     ) -> Result<(), AllocError>
+        requires valid { IsValid message.now }
         requires entries { entries.now ≡ entries_of_message message.now }
         requires signals { signals.now ≡ cells_beside_gps message.now }
         ensures { OnOk result ((q : Option Target) (before : List ReadFrame) → HoldsFrames q before self.old

@@ -55,8 +55,8 @@ impl PhaseCount {
         }
     }
 
-    // A cell more.
-    fn take(&mut self, cell: &Cell)
+    /// A cell more.
+    pub(crate) fn take(&mut self, cell: &Cell)
         ensures has_value { self.new.has_value ≡ (has_value cell.now || self.old.has_value) }
         ensures phases { self.new.phases ≡ shown_count (self.old.phases + one_if (is_some cell.now.phase_millicycles)) }
     {

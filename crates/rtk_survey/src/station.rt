@@ -91,8 +91,9 @@ impl MessageCounts {
         }
     }
 
-    /// Counts a message under its number.
-    pub fn count_message(&mut self, message: &AnyMessage)
+    /// Counts a message under its number, by its cells of other systems than GPS.
+    pub(crate) fn count_message(&mut self, message: &AnyMessage, signals: &[SignalEntry])
+        requires { signals.now ≡ cells_beside_gps message.now }
         ensures { (ms : List AnyMessage) → CountsMessages self.old ms → CountsMessages self.new (message.now ∷ ms) }
     {
         let number = message.number();
@@ -100,7 +101,7 @@ impl MessageCounts {
         self.obs_1004 = count_if(self.obs_1004, number == 1004);
         self.arp_1005 = count_if(self.arp_1005, number == 1005);
         self.arp_1006 = count_if(self.arp_1006, number == 1006);
-        self.sbas_1004 = count_if(self.sbas_1004, has_sbas(message));
+        self.sbas_1004 = count_if(self.sbas_1004, has_sbas(message, signals));
     }
 }
 
@@ -153,7 +154,7 @@ impl StationSurvey {
         ensures { OnOk result ((ms : List AnyMessage) (d : StationDates) (e : Equipment) → IsStationOf ms d e self.old
             → IsStationOf (message.now ∷ ms) d e self.new) }
     {
-        self.counts.count_message(message);
+        self.counts.count_message(message, signals);
         self.times.note_message(message);
         self.signals.mark_entries(entries);
         self.msm.add_message(message, entries, codes);
