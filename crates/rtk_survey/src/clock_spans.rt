@@ -180,9 +180,9 @@ fn moved_moment_if_any(from: GpsMs, to: u64, moment: Option<GpsMs>) -> Option<Gp
     }
 }
 
-fn moved_span(from: GpsMs, to: u64, span: Span) -> Span
+fn moved_span(from: GpsMs, to: u64, span: &Span) -> Span
     requires { to < 2 ^ 61 }
-    ensures { result ≡ spec.moved_span from to span }
+    ensures { result ≡ spec.moved_span from to span.now }
 {
     Span {
         first: moved_moment(from, to, span.first),
@@ -198,8 +198,8 @@ fn moved_span(from: GpsMs, to: u64, span: Span) -> Span
 // ---- one clock
 
 // The first message of a clock, near the last epoch if one came.
-fn clock_begun(clock: FollowedClock, epochs: Option<Span>, time: u32) -> ClockSpan
-    ensures { result ≡ spec.clock_begun clock epochs time }
+fn clock_begun(clock: FollowedClock, epochs: &Option<Span>, time: u32) -> ClockSpan
+    ensures { result ≡ spec.clock_begun clock epochs.now time }
 {
     match epochs {
         None => ClockSpan {
@@ -224,10 +224,10 @@ fn is_new_epoch(before: Option<GpsMs>, last: GpsMs) -> bool
 }
 
 // A moment more; one that is more than a week from the first is not followed.
-fn with_moment_near(span: Span, ms: u64) -> Span
-    ensures { result ≡ spec.with_moment_near span ms }
+fn with_moment_near(span: &Span, ms: u64) -> Span
+    ensures { result ≡ spec.with_moment_near span.now ms }
 {
-    let mut more = span;
+    let mut more = *span;
     match followed(span.first, ms) {
         Some(moment) => more.take_moment(moment),
         None => more.is_wide = true,
@@ -235,8 +235,8 @@ fn with_moment_near(span: Span, ms: u64) -> Span
     more
 }
 
-fn last_epoch_of(epochs: Option<Span>) -> Option<GpsMs>
-    ensures { result ≡ spec.last_epoch_of epochs }
+fn last_epoch_of(epochs: &Option<Span>) -> Option<GpsMs>
+    ensures { result ≡ spec.last_epoch_of epochs.now }
 {
     match epochs {
         Some(epochs) => Some(epochs.last),
@@ -247,31 +247,33 @@ fn last_epoch_of(epochs: Option<Span>) -> Option<GpsMs>
 impl ClockSpan {
     /// Its moments near the epochs of the station: if none came before its messages, the last of them is set near the
     /// first epoch, and the others with it.
-    pub fn anchored(self, clock: FollowedClock, epochs: Span) -> ClockSpan
-        ensures { result ≡ spec.clock_anchored clock epochs self }
+    pub fn anchored(&self, clock: FollowedClock, epochs: &Span) -> ClockSpan
+        ensures { result ≡ spec.clock_anchored clock epochs.now self.now }
     {
-        if self.epoch.is_some() {
-            return self;
-        }
-        let to = clock_moment(clock, epochs.first, self.span.last_time_of_week());
-        ClockSpan {
-            span: moved_span(self.span.last, to, self.span),
-            epoch: None,
+        match self.epoch {
+            Some(_) => *self,
+            None => {
+                let to = clock_moment(clock, epochs.first, self.span.last_time_of_week());
+                ClockSpan {
+                    span: moved_span(self.span.last, to, &self.span),
+                    epoch: None,
+                }
+            }
         }
     }
 
-    fn anchored_if_any(self, clock: FollowedClock, epochs: Option<Span>) -> ClockSpan
-        ensures { result ≡ spec.clock_anchored_if_any clock epochs self }
+    fn anchored_if_any(&self, clock: FollowedClock, epochs: &Option<Span>) -> ClockSpan
+        ensures { result ≡ spec.clock_anchored_if_any clock epochs.now self.now }
     {
         match epochs {
             Some(epochs) => self.anchored(clock, epochs),
-            None => self,
+            None => *self,
         }
     }
 
     // The moment near which the next message is dated: the last epoch if it is new, else the last message.
-    fn base(self, epochs: Option<Span>) -> GpsMs
-        ensures { result ≡ spec.clock_base epochs self }
+    fn base(&self, epochs: &Option<Span>) -> GpsMs
+        ensures { result ≡ spec.clock_base epochs.now self.now }
     {
         match epochs {
             Some(epochs) if is_new_epoch(self.epoch, epochs.last) => epochs.last,
@@ -280,12 +282,12 @@ impl ClockSpan {
     }
 
     // A message more after these epochs.
-    fn with_time(self, clock: FollowedClock, epochs: Option<Span>, time: u32) -> ClockSpan
-        ensures { result ≡ spec.with_clock_time clock epochs time self }
+    fn with_time(&self, clock: FollowedClock, epochs: &Option<Span>, time: u32) -> ClockSpan
+        ensures { result ≡ spec.with_clock_time clock epochs.now time self.now }
     {
         let ms = clock_moment(clock, self.base(epochs), time);
         ClockSpan {
-            span: with_moment_near(self.span, ms),
+            span: with_moment_near(&self.span, ms),
             epoch: last_epoch_of(epochs),
         }
     }
@@ -294,11 +296,11 @@ impl ClockSpan {
 // A message more of a clock, of which some came or none.
 fn clock_followed(
     clock: FollowedClock,
-    epochs: Option<Span>,
-    known: Option<ClockSpan>,
+    epochs: &Option<Span>,
+    known: &Option<ClockSpan>,
     time: u32,
 ) -> ClockSpan
-    ensures { result ≡ spec.clock_followed clock epochs known time }
+    ensures { result ≡ spec.clock_followed clock epochs.now known.now time }
 {
     match known {
         Some(known) => known
@@ -325,25 +327,25 @@ impl StationClocks {
 
 // A time more of a clock, after these epochs.
 fn with_followed_time(
-    clocks: StationClocks,
-    epochs: Option<Span>,
+    clocks: &StationClocks,
+    epochs: &Option<Span>,
     told: FollowedTime,
 ) -> StationClocks
-    ensures { result ≡ spec.with_followed_time epochs told clocks }
+    ensures { result ≡ spec.with_followed_time epochs.now told clocks.now }
 {
-    let mut more = clocks;
+    let mut more = *clocks;
     match told.clock {
         FollowedClock::GlonassWeek => {
             let clock = FollowedClock::GlonassWeek;
-            more.glonass = Some(clock_followed(clock, epochs, clocks.glonass, told.time));
+            more.glonass = Some(clock_followed(clock, epochs, &clocks.glonass, told.time));
         }
         FollowedClock::BeidouWeek => {
             let clock = FollowedClock::BeidouWeek;
-            more.beidou = Some(clock_followed(clock, epochs, clocks.beidou, told.time));
+            more.beidou = Some(clock_followed(clock, epochs, &clocks.beidou, told.time));
         }
         FollowedClock::GlonassDay => {
             let clock = FollowedClock::GlonassDay;
-            more.glonass_day = Some(clock_followed(clock, epochs, clocks.glonass_day, told.time));
+            more.glonass_day = Some(clock_followed(clock, epochs, &clocks.glonass_day, told.time));
         }
     }
     more
@@ -377,6 +379,6 @@ pub(crate) fn take_followed_time(
     ensures others { OnOk result ((n : ℕ) → n ≢ station → clocks_by_station clocks.new n ≡ clocks_by_station clocks.old n) }
 {
     let own = clocks.entry(station)?.or_insert(StationClocks::new());
-    *own = with_followed_time(*own, epochs, told);
+    *own = with_followed_time(own, &epochs, told);
     Ok(())
 }
