@@ -18,6 +18,7 @@ use Rattle.rtk_survey.specs.Telling.{dated, day_ms}
 use Rattle.rtk_survey.specs.declared.clock_spans.ClockSpan.{ClockSpan}
 use Rattle.rtk_survey.specs.declared.clock_spans.FollowedClock.{FollowedClock}
 use Rattle.rtk_survey.specs.declared.clock_spans.FollowedClock.TheVariants.{GlonassWeek, BeidouWeek, GlonassDay}
+use Rattle.rtk_survey.specs.declared.clock_spans.FollowedSpan.{FollowedSpan}
 use Rattle.rtk_survey.specs.declared.clock_spans.FollowedTime.{FollowedTime}
 use Rattle.rtk_survey.specs.declared.clock_spans.StationClocks.{StationClocks}
 use Rattle.rtk_survey.specs.declared.span.Span.{Span}
@@ -96,18 +97,53 @@ moved_span from to s = record {
 
 -- ---- one clock
 
+-- the fields of a span, as a survey keeps them
+abbrev pub kept_span : FollowedSpan → ClockSpan
+kept_span k = record {
+  first = k.span.first;
+  last = k.span.last;
+  least = k.span.least;
+  greatest = k.span.greatest;
+  next_greatest = k.span.next_greatest;
+  falls = k.span.falls;
+  is_wide = k.span.is_wide;
+  epoch = k.epoch;
+}
+
+-- they are moments that can be written
+abbrev pub opened_moment : ℕ → ℕ
+opened_moment t = min t LAST_MS
+
+abbrev pub opened_if_any : Option ℕ → Option ℕ
+opened_if_any None = None
+opened_if_any (Some t) = Some (opened_moment t)
+
+abbrev pub opened_span : ClockSpan → FollowedSpan
+opened_span k = record {
+  span = record {
+    first = opened_moment k.first;
+    last = opened_moment k.last;
+    least = opened_moment k.least;
+    greatest = opened_moment k.greatest;
+    next_greatest = opened_if_any k.next_greatest;
+    falls = k.falls;
+    is_wide = k.is_wide;
+  };
+  epoch = opened_if_any k.epoch;
+}
+
 -- the first message of a clock, near the last epoch if one came
-abbrev pub clock_begun : FollowedClock → Option Span → ℕ → ClockSpan
+abbrev pub clock_begun : FollowedClock → Option Span → ℕ → FollowedSpan
 clock_begun c None t = record { span = begun t; epoch = None }
 clock_begun c (Some e) t = record { span = span_at (moment_or (clock_moment c e.last t) e.last); epoch = Some e.last }
 
 -- if no epoch came before the messages, the last of them is set near the first epoch, and the others with it
-abbrev pub clock_anchored : FollowedClock → Span → ClockSpan → ClockSpan
+abbrev pub clock_anchored : FollowedClock → Span → FollowedSpan → FollowedSpan
 clock_anchored c e k =
     if is_some k.epoch then k else
     record { span = moved_span k.span.last (clock_moment c e.first (last_time_of_week k.span)) k.span; epoch = None }
 
-abbrev pub clock_anchored_if_any : FollowedClock → Option Span → ClockSpan → ClockSpan
+abbrev pub clock_anchored_if_any : FollowedClock → Option Span → FollowedSpan → FollowedSpan
 clock_anchored_if_any c None k = k
 clock_anchored_if_any c (Some e) k = clock_anchored c e k
 
@@ -117,7 +153,7 @@ is_new_epoch None t = true
 is_new_epoch (Some before) t = not (before == t)
 
 -- the moment near which the next message is dated: the last epoch if it is new, else the last message
-abbrev pub clock_base : Option Span → ClockSpan → ℕ
+abbrev pub clock_base : Option Span → FollowedSpan → ℕ
 clock_base None k = k.span.last
 clock_base (Some e) k = if is_new_epoch k.epoch e.last then e.last else k.span.last
 
@@ -130,12 +166,15 @@ last_epoch_of None = None
 last_epoch_of (Some e) = Some e.last
 
 -- a message more after these epochs, by the time that its clock tells
-abbrev pub with_clock_time : FollowedClock → Option Span → ℕ → ClockSpan → ClockSpan
+abbrev pub with_clock_time : FollowedClock → Option Span → ℕ → FollowedSpan → FollowedSpan
 with_clock_time c e t k = record { span = with_moment_near k.span (clock_moment c (clock_base e k) t); epoch = last_epoch_of e }
 
+abbrev pub clock_with : FollowedClock → Option Span → ClockSpan → ℕ → FollowedSpan
+clock_with c e k t = with_clock_time c e t (clock_anchored_if_any c e (opened_span k))
+
 abbrev pub clock_followed : FollowedClock → Option Span → Option ClockSpan → ℕ → ClockSpan
-clock_followed c e None t = clock_begun c e t
-clock_followed c e (Some k) t = with_clock_time c e t (clock_anchored_if_any c e k)
+clock_followed c e None t = kept_span (clock_begun c e t)
+clock_followed c e (Some k) t = kept_span (clock_with c e k t)
 
 -- ---- the clocks of a station
 

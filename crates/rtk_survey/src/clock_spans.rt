@@ -38,9 +38,23 @@ pub struct FollowedTime {
     pub time: u32,
 }
 
-/// How far a clock goes.
+/// How far a clock goes: the fields of its `Span`, in ms, as a survey keeps them of each station.
 #[derive(Clone, Copy, Debug, PartialEq, Eq)]
 pub struct ClockSpan {
+    pub first: u64,
+    pub last: u64,
+    pub least: u64,
+    pub greatest: u64,
+    pub next_greatest: Option<u64>,
+    pub falls: bool,
+    pub is_wide: bool,
+    /// The last epoch before the last of its messages; `None` if none came.
+    pub epoch: Option<u64>,
+}
+
+/// How far a clock goes.
+#[derive(Clone, Copy, Debug, PartialEq, Eq)]
+pub struct FollowedSpan {
     /// Its moments, as if the first epoch were in week 1,024. Those of GLONASS lack the leap seconds.
     pub span: Span,
     /// The last epoch before the last of its messages; `None` if none came. Then no epoch dates the moments.
@@ -197,19 +211,70 @@ fn moved_span(from: GpsMs, to: u64, span: &Span) -> Span
 
 // ---- one clock
 
+// A moment that is kept.
+fn opened_moment(ms: u64) -> GpsMs
+    ensures { result ≡ spec.opened_moment ms }
+{
+    let Some(moment) = GpsMs::new(ms.min(LAST_MS)) else {
+        unreachable!();
+    };
+    moment
+}
+
+fn opened_if_any(ms: Option<u64>) -> Option<GpsMs>
+    ensures { result ≡ spec.opened_if_any ms }
+{
+    match ms {
+        Some(ms) => Some(opened_moment(ms)),
+        None => None,
+    }
+}
+
+fn kept_if_any(moment: Option<GpsMs>) -> Option<u64>
+    ensures { result ≡ moment }
+{
+    match moment {
+        Some(moment) => Some(moment.ms()),
+        None => None,
+    }
+}
+
+impl ClockSpan {
+    /// How far the clock goes.
+    pub fn opened(&self) -> FollowedSpan
+        ensures { result ≡ spec.opened_span self.now }
+    {
+        FollowedSpan {
+            span: Span {
+                first: opened_moment(self.first),
+                last: opened_moment(self.last),
+                least: opened_moment(self.least),
+                greatest: opened_moment(self.greatest),
+                next_greatest: opened_if_any(self.next_greatest),
+                falls: self.falls,
+                is_wide: self.is_wide,
+            },
+            epoch: opened_if_any(self.epoch),
+        }
+    }
+}
+
 // The first message of a clock, near the last epoch if one came.
-fn clock_begun(clock: FollowedClock, epochs: &Option<Span>, time: u32) -> ClockSpan
+fn clock_begun(clock: FollowedClock, epochs: &Option<Span>, time: u32) -> FollowedSpan
     ensures { result ≡ spec.clock_begun clock epochs.now time }
 {
     match epochs {
-        None => ClockSpan {
+        None => FollowedSpan {
             span: Span::begun(time),
             epoch: None,
         },
-        Some(epochs) => ClockSpan {
-            span: span_at(moment_or(clock_moment(clock, epochs.last, time), epochs.last)),
-            epoch: Some(epochs.last),
-        },
+        Some(epochs) => {
+            let ms = clock_moment(clock, epochs.last, time);
+            FollowedSpan {
+                span: span_at(moment_or(ms, epochs.last)),
+                epoch: Some(epochs.last),
+            }
+        }
     }
 }
 
@@ -244,25 +309,39 @@ fn last_epoch_of(epochs: &Option<Span>) -> Option<GpsMs>
     }
 }
 
-impl ClockSpan {
-    /// Its moments near the epochs of the station: if none came before its messages, the last of them is set near the
-    /// first epoch, and the others with it.
-    pub fn anchored(&self, clock: FollowedClock, epochs: &Span) -> ClockSpan
-        ensures { result ≡ spec.clock_anchored clock epochs.now self.now }
+impl FollowedSpan {
+    // As a survey keeps it.
+    fn kept(&self) -> ClockSpan
+        ensures { result ≡ spec.kept_span self.now }
     {
-        match self.epoch {
-            Some(_) => *self,
-            None => {
-                let to = clock_moment(clock, epochs.first, self.span.last_time_of_week());
-                ClockSpan {
-                    span: moved_span(self.span.last, to, &self.span),
-                    epoch: None,
-                }
-            }
+        ClockSpan {
+            first: self.span.first.ms(),
+            last: self.span.last.ms(),
+            least: self.span.least.ms(),
+            greatest: self.span.greatest.ms(),
+            next_greatest: kept_if_any(self.span.next_greatest),
+            falls: self.span.falls,
+            is_wide: self.span.is_wide,
+            epoch: kept_if_any(self.epoch),
         }
     }
 
-    fn anchored_if_any(&self, clock: FollowedClock, epochs: &Option<Span>) -> ClockSpan
+    /// Its moments near the epochs of the station: if none came before its messages, the last of them is set near the
+    /// first epoch, and the others with it.
+    pub fn anchored(&self, clock: FollowedClock, epochs: &Span) -> FollowedSpan
+        ensures { result ≡ spec.clock_anchored clock epochs.now self.now }
+    {
+        if self.epoch.is_some() {
+            return *self;
+        }
+        let to = clock_moment(clock, epochs.first, self.span.last_time_of_week());
+        FollowedSpan {
+            span: moved_span(self.span.last, to, &self.span),
+            epoch: None,
+        }
+    }
+
+    fn anchored_if_any(&self, clock: FollowedClock, epochs: &Option<Span>) -> FollowedSpan
         ensures { result ≡ spec.clock_anchored_if_any clock epochs.now self.now }
     {
         match epochs {
@@ -282,15 +361,29 @@ impl ClockSpan {
     }
 
     // A message more after these epochs.
-    fn with_time(&self, clock: FollowedClock, epochs: &Option<Span>, time: u32) -> ClockSpan
+    fn with_time(&self, clock: FollowedClock, epochs: &Option<Span>, time: u32) -> FollowedSpan
         ensures { result ≡ spec.with_clock_time clock epochs.now time self.now }
     {
         let ms = clock_moment(clock, self.base(epochs), time);
-        ClockSpan {
+        FollowedSpan {
             span: with_moment_near(&self.span, ms),
             epoch: last_epoch_of(epochs),
         }
     }
+}
+
+// A message more of a clock, of which some came.
+fn clock_with(
+    clock: FollowedClock,
+    epochs: &Option<Span>,
+    known: &ClockSpan,
+    time: u32,
+) -> FollowedSpan
+    ensures { result ≡ spec.clock_with clock epochs.now known.now time }
+{
+    let opened = known.opened();
+    let anchored = opened.anchored_if_any(clock, epochs);
+    anchored.with_time(clock, epochs, time)
 }
 
 // A message more of a clock, of which some came or none.
@@ -303,10 +396,8 @@ fn clock_followed(
     ensures { result ≡ spec.clock_followed clock epochs.now known.now time }
 {
     match known {
-        Some(known) => known
-            .anchored_if_any(clock, epochs)
-            .with_time(clock, epochs, time),
-        None => clock_begun(clock, epochs, time),
+        Some(known) => clock_with(clock, epochs, known, time).kept(),
+        None => clock_begun(clock, epochs, time).kept(),
     }
 }
 
@@ -323,32 +414,30 @@ impl StationClocks {
             glonass_day: None,
         }
     }
-}
 
-// A time more of a clock, after these epochs.
-fn with_followed_time(
-    clocks: &StationClocks,
-    epochs: &Option<Span>,
-    told: FollowedTime,
-) -> StationClocks
-    ensures { result ≡ spec.with_followed_time epochs.now told clocks.now }
-{
-    let mut more = *clocks;
-    match told.clock {
-        FollowedClock::GlonassWeek => {
-            let clock = FollowedClock::GlonassWeek;
-            more.glonass = Some(clock_followed(clock, epochs, &clocks.glonass, told.time));
-        }
-        FollowedClock::BeidouWeek => {
-            let clock = FollowedClock::BeidouWeek;
-            more.beidou = Some(clock_followed(clock, epochs, &clocks.beidou, told.time));
-        }
-        FollowedClock::GlonassDay => {
-            let clock = FollowedClock::GlonassDay;
-            more.glonass_day = Some(clock_followed(clock, epochs, &clocks.glonass_day, told.time));
+    // A time more of a clock, after these epochs.
+    fn take(&mut self, epochs: &Option<Span>, told: FollowedTime)
+        ensures { self.new ≡ spec.with_followed_time epochs.now told self.old }
+    {
+        let time = told.time;
+        match told.clock {
+            FollowedClock::GlonassWeek => {
+                let clock = FollowedClock::GlonassWeek;
+                let span = clock_followed(clock, epochs, &self.glonass, time);
+                self.glonass = Some(span);
+            }
+            FollowedClock::BeidouWeek => {
+                let clock = FollowedClock::BeidouWeek;
+                let span = clock_followed(clock, epochs, &self.beidou, time);
+                self.beidou = Some(span);
+            }
+            FollowedClock::GlonassDay => {
+                let clock = FollowedClock::GlonassDay;
+                let span = clock_followed(clock, epochs, &self.glonass_day, time);
+                self.glonass_day = Some(span);
+            }
         }
     }
-    more
 }
 
 /// No message came.
@@ -362,23 +451,23 @@ pub(crate) fn no_clocks_followed(alloc: Global) -> BTreeMap<u16, StationClocks>
 pub fn clocks_by_station(clocks: &BTreeMap<u16, StationClocks>, station: u16) -> StationClocks
     ensures { result ≡ clocks_by_station clocks.now station }
 {
-    clocks
-        .get(&station)
-        .copied()
-        .unwrap_or(StationClocks::new())
+    match clocks.get(&station) {
+        Some(clocks) => *clocks,
+        None => StationClocks::new(),
+    }
 }
 
 /// A time more of a clock of a station, after these epochs of it.
 pub(crate) fn take_followed_time(
     clocks: &mut BTreeMap<u16, StationClocks>,
     station: u16,
-    epochs: Option<Span>,
+    epochs: &Option<Span>,
     told: FollowedTime,
 ) -> Result<(), AllocError>
-    ensures own { OnOk result (clocks_by_station clocks.new station ≡ spec.with_followed_time epochs told (clocks_by_station clocks.old station)) }
+    ensures own { OnOk result (clocks_by_station clocks.new station ≡ spec.with_followed_time epochs.now told (clocks_by_station clocks.old station)) }
     ensures others { OnOk result ((n : ℕ) → n ≢ station → clocks_by_station clocks.new n ≡ clocks_by_station clocks.old n) }
 {
     let own = clocks.entry(station)?.or_insert(StationClocks::new());
-    *own = with_followed_time(own, &epochs, told);
+    own.take(epochs, told);
     Ok(())
 }

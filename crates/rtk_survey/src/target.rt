@@ -273,7 +273,7 @@ fn take_time_of(
 {
     let station = message.station();
     let epochs = epochs_if_known(dates, station);
-    take_followed_time(clocks, station, epochs, told)
+    take_followed_time(clocks, station, &epochs, told)
 }
 
 // A message more, if it has a value and tells such a clock.
