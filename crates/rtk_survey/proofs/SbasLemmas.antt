@@ -120,12 +120,12 @@ first-sbas [] = refl
 first-sbas (s ∷ ss) =
     let rest : Bool = list_any is_sbas (filter (λ t. not (has_number s.satellite t)) (first_entries ss)) in
     elim (cases_Bool (is_sbas s)) [
-      | inl yes ↦ ap (λ (b : Bool). b || rest) yes ∙ sym (ap (λ (b : Bool). b || list_any is_sbas ss) yes)
-      | inr no ↦
-          ap (λ (b : Bool). b || rest) no
+      | inl holds ↦ ap (λ (b : Bool). b || rest) holds ∙ sym (ap (λ (b : Bool). b || list_any is_sbas ss) holds)
+      | inr fails ↦
+          ap (λ (b : Bool). b || rest) fails
           ∙ any-kept (λ t. not (has_number s.satellite t)) (first_entries ss)
-          (λ t goes. ap (λ (n : ℕ). nat_le 40 n && nat_le n 58) (eqb-true t.satellite s.satellite (true-of (t.satellite == s.satellite) goes)) ∙ no)
-          ∙ first-sbas ss ∙ sym (ap (λ (b : Bool). b || list_any is_sbas ss) no)
+          (λ t goes. ap (λ (n : ℕ). nat_le 40 n && nat_le n 58) (eqb-true t.satellite s.satellite (true-of (t.satellite == s.satellite) goes)) ∙ fails)
+          ∙ first-sbas ss ∙ sym (ap (λ (b : Bool). b || list_any is_sbas ss) fails)
     ]
 
 none-left : (es : List SignalEntry) → (length (filter is_beside_entry es) == 0) ≡ not (list_any is_beside_entry es)
@@ -134,10 +134,10 @@ none-left (e ∷ es) =
     let rest : List SignalEntry = filter is_beside_entry es in
     let any : Bool = list_any is_beside_entry es in
     elim (cases_Bool (is_beside_entry e)) [
-      | inl yes ↦
-          ap (λ (b : Bool). length (cond b (e ∷ rest) rest) == 0) yes ∙ ne_eqb (length (e ∷ rest)) 0 (λ none. omega (arith, none))
-          ∙ sym (ap (λ (b : Bool). not (b || any)) yes)
-      | inr no ↦ ap (λ (b : Bool). length (cond b (e ∷ rest) rest) == 0) no ∙ none-left es ∙ sym (ap (λ (b : Bool). not (b || any)) no)
+      | inl holds ↦
+          ap (λ (b : Bool). length (cond b (e ∷ rest) rest) == 0) holds ∙ ne_eqb (length (e ∷ rest)) 0 (λ none. omega (arith, none))
+          ∙ sym (ap (λ (b : Bool). not (b || any)) holds)
+      | inr fails ↦ ap (λ (b : Bool). length (cond b (e ∷ rest) rest) == 0) fails ∙ none-left es ∙ sym (ap (λ (b : Bool). not (b || any)) fails)
     ]
 
 not-twice : (b : Bool) → not (not b) ≡ b

@@ -1,4 +1,4 @@
-use Rattle.std.proofs.Common.{◌≡◌, ◌++◌, List, take, subst, arith}
+use Rattle.std.proofs.Common.{◌≡◌, ◌∷◌, ◌++◌, ℕ, List, take, subst, arith}
 use Rattle.std.proofs.lemmas.Grind.{common_steps}
 use Rattle.rtk_obs.specs.declared.signal_cells.SignalEntry.{SignalEntry}
 use Rattle.rtk_survey.specs.SystemPhases.{CountsSignalPlaces}
@@ -7,9 +7,12 @@ use Rattle.rtk_survey.proofs.system_phases.take_entries.Goals as goal
 
 pub loop-entry-preserved : goal.loop-entry-preserved
 loop-entry-preserved c = λ es stands.
-    let xs = c.args.entries.now in
-    table-moved c.take_entry.new.table.items xs es c.loop-entry.entry-index _ c.loop-entry-test.true
-    (c.take_entry.ensures (take c.loop-entry.entry-index xs ++ es) (c.loop-entry.invariant es stands))
+    let xs : List SignalEntry = c.args.entries.now in
+    let i : ℕ = c.loop-entry.entry-index in
+    let x : SignalEntry = c.entry-item.result in
+    table-moved c.take_entry.new.table.items xs es i x c.loop-entry-test.true
+    (subst (λ (y : SignalEntry). CountsSignalPlaces c.take_entry.new.table.items (y ∷ (take i xs ++ es))) c.entry-item.is
+    (c.take_entry.ensures (take i xs ++ es) (c.loop-entry.invariant es stands)))
 
 pub returns : goal.returns
 returns c = λ es stands.
