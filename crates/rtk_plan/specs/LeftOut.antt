@@ -19,11 +19,11 @@ use Rattle.rtk_systems.specs.NamelessLines.{nameless_lines}
 
 -- formula
 -- so many messages of a number that can't be read, behind words that name the fault
-abbrev pub refused_line : List ℕ → List ℕ → ℕ → ℕ → List ℕ
-refused_line words name number count = words ++ decimal number ++ codes " " ++ decimal count ++ name_line (codes " in ") name
+abbrev pub refused_number_line : List ℕ → List ℕ → ℕ → ℕ → List ℕ
+refused_number_line words name number count = words ++ decimal number ++ codes " " ++ decimal count ++ name_line (codes " in ") name
 
 abbrev pub refused_among : List ℕ → List ℕ → BTreeMap ℕ ℕ → List ℕ
-refused_among words name counts = flat_map (λ e. refused_line words name e.0 e.1) counts.entries
+refused_among words name counts = flat_map (λ e. refused_number_line words name e.0 e.1) counts.entries
 
 -- formula
 -- so many frames without a number
@@ -32,7 +32,7 @@ numberless_line count name = if count == 0 then [] else codes " refused M1 - " +
 
 -- so many MSM of a number that tell no day, if MSM of this number are taken
 abbrev pub dayless_line : Accepted → List ℕ → ℕ → ℕ → List ℕ
-dayless_line taken name number count = if accepts taken number then refused_line (codes " refused M4 ") name number count else []
+dayless_line taken name number count = if accepts taken number then refused_number_line (codes " refused M4 ") name number count else []
 
 abbrev pub dayless_among : Accepted → List ℕ → BTreeMap ℕ ℕ → List ℕ
 dayless_among taken name counts = flat_map (λ e. dayless_line taken name e.0 e.1) counts.entries

@@ -29,7 +29,7 @@ fn put_refused(
     count: u64,
     name: &str,
 ) -> Result<(), AllocError>
-    ensures { OnOk result (lines.new.items ≡ lines.old.items ++ spec.refused_line words.now name.now number count) }
+    ensures { OnOk result (lines.new.items ≡ lines.old.items ++ spec.refused_number_line words.now name.now number count) }
 {
     put_named(lines, words, u64::from(number))?;
     put_named(lines, b" ", count)?;
