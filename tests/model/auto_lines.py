@@ -14,13 +14,14 @@ from captures import LAST_MADE
 from choosing import NOT_TOLD, Wanted
 from clocks import leap_seconds_at
 from finding import FIRST_DAY, Found, Stopped
+from lost import nameless_lines, position_lines, refused_lines
 from messages import Refusal, frames_of, read_message
 from mixed_cells import has_sbas
 from mixed_model import Options, channels_text
 from model import Conversion, civil, moment
-from msm import LEGACY, LEGACY_GLONASS, letter_of
+from msm import LEGACY, LEGACY_GLONASS, letter_of, read_frame
 from summaries import UNTAKEN, look_of, sh_quoted
-from systems import GLONASS, GPS, SBAS, number_of
+from systems import BY_LETTER, GLONASS, LETTERS, SBAS, number_of
 from wire import MSMS, WEEK_MS, Fields, Message
 
 # By their bytes, as link1, link10, .., link2: another order than that of their numbers.
@@ -167,6 +168,7 @@ def auto_text(found: Found, asked: Asked, due: Conversion, texts: list[bytes]) -
     lines += late_lines(found, asked, due)
     lines += capture_lines(found, texts)
     lines += left_out_lines(found, texts, asked.wanted.doppler)
+    lines += lost_lines(found, asked, texts)
     lines += ["rtcm2rinex: no record came; the file is a header alone"] * (due.epochs == 0)
     return "".join(f"{line}\n" for line in lines)
 
@@ -298,7 +300,7 @@ def system_text(number: int) -> str:
     return SYSTEMS.get(number // 10, "GLONASS") if number > 1080 or 1009 <= number <= 1012 else "GPS"
 
 
-# pins: msm_line_of, doppler_line_of, obs_1004_line, is_gps_system, ended_count_line, long_line, unread_legacy_glonass
+# pins: msm_line_of, obs_1004_line, is_gps_system, ended_count_line, long_line, unread_legacy_glonass
 def left_out_lines(found: Found, texts: list[bytes], has_doppler: bool) -> list[str]:
     """How many messages are not converted, or without a part: of GPS those of the station, of other systems those of all stations."""
     chosen = found.chosen
@@ -312,9 +314,7 @@ def left_out_lines(found: Found, texts: list[bytes], has_doppler: bool) -> list[
     numbers = sorted((set(others) & told) - chosen.numbers, key=lambda it: (system_text(it) != "GPS", it))
     of_gps = [it for it in numbers if it in gps]
     lines = [f" not in the file: GPS {it}, {others[it]} messages" for it in of_gps]
-    msm = number_of(GPS, chosen.kinds[GPS.letter]) if GPS.letter in chosen.kinds else None
-    doppler = sum(it.header["number"] == msm for it in own)
-    lines += [f" not in the file: Doppler of {msm}, {doppler} messages"] * (msm in (1075, 1077) and doppler > 0 and not has_doppler)
+    lines += [] if has_doppler else doppler_lines(found, texts)
     sbas = 0 if stages.CONVERTS_SBAS and SBAS.letter in chosen.kinds else sum(has_sbas(it) for it in own)
     lines += [f" not in the file: SBAS of 1004, {sbas} messages"] * (sbas > 0)
     is_long = stages.TAKES_1012 and found.is_long
@@ -324,6 +324,28 @@ def left_out_lines(found: Found, texts: list[bytes], has_doppler: bool) -> list[
         for it in numbers
         if it not in of_gps
     ]  # fmt: skip
+
+
+# pins: doppler_of_system, doppler_line_of
+def doppler_lines(found: Found, texts: list[bytes]) -> list[str]:
+    """How many MSM5 or MSM7 of the station of each system are converted, which have Doppler."""
+    kinds = found.chosen.kinds
+    numbers = [number_of(BY_LETTER[it], kinds[it]) for it in LETTERS if kinds.get(it) in (5, 7)]
+    counts = Counter(it.header["number"] for it in messages_of(found, texts))
+    return [f" not in the file: Doppler of {it}, {counts[it]} messages" for it in numbers if counts[it]]
+
+
+def messages_of(found: Found, texts: list[bytes]) -> list[Message]:
+    """All messages of the station that can be read."""
+    read = [read_frame(it.payload) for text in texts for it in frames_of(text)]
+    return [it for it in read if isinstance(it, Message) and it.header["station"] == found.station]
+
+
+def lost_lines(found: Found, asked: Asked, texts: list[bytes]) -> list[str]:
+    """What captures have and no file can show."""
+    names = NAMES[: len(texts)]
+    lines = refused_lines(found, texts, names) + nameless_lines(found, messages_of(found, texts))
+    return lines + position_lines(found, asked.captures(texts), names)
 
 
 # pins: constellation_slots, are_too_many, satellite_of_slot, alike_name, alike_words, told_channel, several_words

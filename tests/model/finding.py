@@ -183,10 +183,14 @@ class Capture(NamedTuple):
         """Whether a message of it came, be it one with observations, with a position, with a date, or with an antenna."""
         return station in self.equipped or any(it.get("station") == station for it in map(fields_of, self.read))
 
-    def points(self, station: int) -> list[tuple[int, ...]]:
-        """The first position of the station, and the first one that is far from it. Zeros are none."""
+    def positions(self, station: int) -> list[tuple[int, ...]]:
+        """All positions that the station tells. Zeros are none."""
         points = [tuple(it.header[axis] for axis in "xyz") for it in self.of_station(station) if "x" in it.header]
-        known = [it for it in points if any(it)]
+        return [it for it in points if any(it)]
+
+    def points(self, station: int) -> list[tuple[int, ...]]:
+        """The first of them, and the first one that is far from it."""
+        known = self.positions(station)
         return [*known[:1], *[it for it in known if dist(it, known[0]) > METRES_100][:1]]
 
     def times(self, station: int) -> list[int]:

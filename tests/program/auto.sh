@@ -266,7 +266,7 @@ finds few "$noon until 2024-05-17T12:00:03 by 1013" "$one_command few" '5 1 0 0 
 # pins: msm_line_of
 finds stray "$two 1013" "$one_command stray" '5 2 0 0 3 0 0 0 2' 0 '' ' not in the file: GPS 1077, 1 messages'
 # The epochs are those of the file: the second epoch has a 1074 alone.
-# pins: doppler_line, doppler_line_of
+# pins: doppler_of_system, doppler_line_of
 finds '--msm 7 stray' "$noon until $noon by 1013" "$(command $noon 1C,2W ' --msm 7') stray" '5 3 0 0 2 0 0 0 1' 0 '' \
     ' not in the file: GPS 1074, 2 messages\n not in the file: Doppler of 1077, 1 messages'
 finds of_1077 "$two 1013" "$(command $noon 1C ' --msm 7') of_1077" "$counts" 0 '' ' not in the file: Doppler of 1077, 2 messages'

@@ -145,7 +145,7 @@ $(report 7 0 0 0 7 0 0 0 1)
  from $near until $near by --near
  no-position: the header has zeros, as no 1005 or 1006 came in time, or the first one has zeros
 LINES
-# pins: words_of_doppler, doppler_line_unless
+# pins: words_of_doppler, doppler_lines_unless
 leaves auto_of_seven_systems 0 seven.rnx want_err
 python3 "$here/framed.py" $(more $G05_5X) $E36_7Q >two_kinds.rtcm
 run auto --near $near --made $made --marker BASE --doppler two_kinds.rtcm

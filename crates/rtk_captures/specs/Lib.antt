@@ -7,6 +7,7 @@ pub mod Joining
 pub mod Kept
 pub mod Linking
 pub mod Lists
+pub mod OtherPositions
 pub mod Positions
 pub mod Reach
 pub mod RefusalLists

@@ -32,6 +32,11 @@ abbrev pub far_point_of : Option StationSurvey → Option ReferencePoint
 far_point_of None = None
 far_point_of (Some t) = t.far_point
 
+-- one of its 1005 or 1006 has another one than the first that has one
+abbrev pub tells_other_point : Option StationSurvey → Bool
+tells_other_point None = false
+tells_other_point (Some t) = t.has_other_point
+
 -- the systems that date a capture: those that it was surveyed for
 abbrev pub systems_for : Option TargetSurvey → DatingSystems
 systems_for None = all_dating
@@ -149,4 +154,5 @@ capture_of n s = record {
   is_own_moment = is_named_by_own n (moment_if_heard (is_heard (station_in n s)) (moment_in n s));
   parting = parting_in n s;
   outside = s.bytes - s.contents.framed;
+  has_other_point = tells_other_point (station_in n s);
 }

@@ -46,6 +46,7 @@ mod joining;
 mod kept;
 mod linking;
 mod lists;
+mod other_positions;
 mod position_lines;
 mod positions;
 mod reach;
@@ -67,6 +68,7 @@ pub use lists::{
     put_capture_line, put_date_line, put_name_line, put_parting, put_stray_line, put_to_come_line,
     put_undated_line,
 };
+pub use other_positions::put_other_positions;
 pub use positions::{agree_on_position, put_no_position};
 pub use reach::{Base, is_out_of_reach, least_told, near_of, place_captures, reach_of};
 pub use refusal::{PlanFault, Refusal, refused};

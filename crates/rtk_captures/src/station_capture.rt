@@ -38,6 +38,8 @@ pub struct StationCapture {
     pub parting: Option<u64>,
     /// How many of its bytes are in no frame.
     pub outside: u64,
+    /// Has one of its 1005 or 1006 another reference point than the first that has one?
+    pub has_other_point: bool,
 }
 
 /// Does a capture have something of a station?
@@ -60,6 +62,15 @@ fn far_point_of(station: Option<&StationSurvey>) -> Option<ReferencePoint>
     ensures { result ≡ spec.far_point_of (option_copied station.entry) }
 {
     station?.far_point
+}
+
+fn tells_other_point(station: Option<&StationSurvey>) -> bool
+    ensures { result ≡ spec.tells_other_point (option_copied station.entry) }
+{
+    match station {
+        Some(station) => station.has_other_point,
+        None => false,
+    }
 }
 
 // The systems that date a capture.
@@ -256,6 +267,7 @@ pub(crate) fn capture_of(station: u16, survey: &CaptureSurvey) -> StationCapture
         is_own_moment: is_named_by_own(station, moment),
         parting: parting_in(station, survey),
         outside: survey.bytes.saturating_sub(survey.contents.framed),
+        has_other_point: tells_other_point(heard),
     }
 }
 

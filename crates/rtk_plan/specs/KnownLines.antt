@@ -24,12 +24,14 @@ use Rattle.rtk_survey.specs.declared.tellings.Tellings.{Tellings}
 use Rattle.rtk_survey.specs.declared.tellings.Told.{Told}
 use Rattle.rtk_captures.specs.CaptureNames.{capture_name, lines_by}
 use Rattle.rtk_systems.specs.ClockOffsets.{told_clock_lines}
+use Rattle.rtk_systems.specs.DopplerLines.{doppler_lines_unless}
 use Rattle.rtk_plan.specs.FewPhases.{has_few_phases}
 use Rattle.rtk_plan.specs.LeapLines.{other_leap_lines}
+use Rattle.rtk_plan.specs.LeftOut.{left_out_lines}
 use Rattle.rtk_plan.specs.Plan.{taken_messages}
 use Rattle.rtk_survey.specs.Surveys.{places_of}
 use Rattle.rtk_captures.specs.Lists.{date_line, to_come_line, undated_line, stray_line, capture_line, name_line}
-use Rattle.rtk_systems.specs.MessageLines.{obs_1004_line, msm_lines, doppler_line_unless, sbas_line, all_unread}
+use Rattle.rtk_systems.specs.MessageLines.{obs_1004_line, msm_lines, sbas_line, all_unread}
 use Rattle.rtk_captures.specs.Positions.{no_position_line}
 use Rattle.rtk_plan.specs.Reported.{late_of}
 use Rattle.rtk_captures.specs.SpanLine.{span_line}
@@ -229,7 +231,7 @@ epochs_lines names cs links = flat_map (epochs_lines_of names cs) links
 -- SBAS in them, and Doppler shifts, and whether 1012 are left out since they can't be dated
 unfoldable pub not_taken_by : Accepted → Bool → Bool → Bool → Bool → List CaptureSurvey → ℕ → List ℕ
 not_taken_by taken has_1004 has_sbas has_doppler is_long ss station =
-    obs_1004_line has_1004 ss station ++ msm_lines taken ss station ++ doppler_line_unless has_doppler taken ss station ++ sbas_line has_sbas ss station
+    obs_1004_line has_1004 ss station ++ msm_lines taken ss station ++ doppler_lines_unless has_doppler taken ss station ++ sbas_line has_sbas ss station
     ++ all_unread is_long taken ss
 
 -- GLONASS is asked for and a 1012 of the station has a value, but there is no moment near which 1012 are dated right
@@ -245,6 +247,7 @@ lines_behind_late names ss plan =
     skipped_lines names plan.captures.items plan.skipped.items
     ++ epochs_lines names plan.captures.items (places_of plan.links.items)
     ++ not_taken ss (leaves_long ss plan) plan.setup
+    ++ left_out_lines names ss plan
 
 -- ---- the links with a stray epoch
 

@@ -10,6 +10,7 @@ ghost use Rattle.rtk_systems.specs.ToldChannels.{told_channel_lines};
 
 use crate::capture_lines::{put_epochs, put_other_dates, put_skipped, put_strays, put_undated};
 use crate::leap_lines::put_other_leap_in;
+use crate::left_out::put_left_out;
 use crate::other_equipment::put_equipment_notes;
 use crate::phase_lines::put_few_phases_in;
 use crate::planning::Plan;
@@ -273,13 +274,14 @@ fn put_last_lines(
     put_captures_in(lines, captures, plan)?;
     let is_long = leaves_long(captures.surveys, plan);
     put_not_taken_in(lines, captures.surveys, is_long, &plan.setup)?;
+    put_left_out(lines, captures, plan)?;
     Ok(())
 }
 
 /// What a person should know of a conversion, a line each, only where it is so: captures that are dated near
 /// the others; a date that is told and does not count; systems whose clocks differ from those of their chains, or of which no clock is compared; captures that tell other leap seconds; codes with few phases; channels of GLONASS that many slots have, or one has several of, and satellites without one; texts
 /// that messages told and that a label does not have; captures that told another antenna or receiver; captures with a stray epoch, that are left out, that have no epoch or whose time falls;
-/// and observations that are not taken.
+/// observations that are not taken; frames that can't be read; systems with cells without a name; and captures that tell another position.
 pub fn what_is_known(
     alloc: Global,
     captures: &Captures<'_, '_>,
