@@ -4,6 +4,8 @@ pub mod ClockOffsets
 pub mod ClockSeconds
 pub mod FoundSeconds
 pub mod MessageLines
+pub mod OtherChannels
+pub mod SeveralChannels
 pub mod SlotChannels
 pub mod Steps
 pub mod SystemFlags

@@ -42,6 +42,8 @@ mod clock_seconds;
 mod found_seconds;
 mod held_messages;
 mod message_lines;
+mod other_channels;
+mod several_channels;
 mod slot_channels;
 mod system_flags;
 mod system_msms;
