@@ -3,6 +3,7 @@ pub mod CaptureEquipment
 pub mod CaptureNames
 pub mod ChosenStation
 pub mod Dating
+pub mod FarDateLines
 pub mod Joining
 pub mod Kept
 pub mod Linking

@@ -7,7 +7,7 @@ ghost use Rattle.rtk_survey.specs.CaptureDates.{is_own};
 
 use rtk_survey::{
     CaptureSurvey, DateMessage, DatingSystems, Look, ReferencePoint, Span, StationSurvey,
-    TargetSurvey, Tellings, Told, UtcDate,
+    TargetSurvey, Tellings, Told,
 };
 use std::alloc::{AllocError, Global};
 
@@ -228,20 +228,20 @@ fn parting_in(station: u16, survey: &CaptureSurvey) -> Option<u64>
 }
 
 /// The first date in a capture that is passed over since it is to come.
-pub(crate) fn to_come_in(survey: &CaptureSurvey) -> Option<UtcDate>
+pub(crate) fn to_come_in(survey: &CaptureSurvey) -> Option<Told>
     ensures { result ≡ spec.to_come_in survey.now }
 {
     survey.contents.target.as_ref()?.to_come
 }
 
-fn to_come_if(heard: bool, date: Option<UtcDate>) -> Option<UtcDate>
-    ensures { result ≡ spec.to_come_if heard date }
+fn to_come_if(heard: bool, told: Option<Told>) -> Option<Told>
+    ensures { result ≡ spec.to_come_if heard told }
 {
-    if heard { date } else { None }
+    if heard { told } else { None }
 }
 
 /// The same of a capture that has something of the station.
-pub fn to_come_told(station: u16, survey: &CaptureSurvey) -> Option<UtcDate>
+pub fn to_come_told(station: u16, survey: &CaptureSurvey) -> Option<Told>
     ensures { result ≡ spec.to_come_told station survey.now }
 {
     let heard = is_heard(survey.contents.stations.get(&station));

@@ -26,10 +26,11 @@ use Rattle.rtk_captures.specs.CaptureNames.{capture_name, lines_by}
 use Rattle.rtk_systems.specs.ClockOffsets.{told_clock_lines}
 use Rattle.rtk_systems.specs.DopplerLines.{doppler_lines_unless}
 use Rattle.rtk_plan.specs.FewPhases.{has_few_phases}
-use Rattle.rtk_plan.specs.LeapLines.{other_leap_lines}
+use Rattle.rtk_plan.specs.LeapLines.{leap_lines}
 use Rattle.rtk_plan.specs.LeftOut.{left_out_lines}
 use Rattle.rtk_plan.specs.Plan.{taken_messages}
 use Rattle.rtk_survey.specs.Surveys.{places_of}
+use Rattle.rtk_captures.specs.FarDateLines.{far_date_line_in}
 use Rattle.rtk_captures.specs.Lists.{date_line, to_come_line, undated_line, stray_line, capture_line, name_line}
 use Rattle.rtk_systems.specs.MessageLines.{obs_1004_line, msm_lines, sbas_line, all_unread}
 use Rattle.rtk_captures.specs.Positions.{no_position_line}
@@ -95,18 +96,19 @@ other_dates_of near name d = other_dates_if_any near name d.told d.span
 
 -- formula
 -- a date that is passed over since it is to come
-unfoldable pub date_to_come : UtcDate → List ℕ → List ℕ
-date_to_come d name = codes " other-date" ++ to_come_line d name
+unfoldable pub date_to_come : Told → List ℕ → List ℕ
+date_to_come t name = codes " other-date" ++ to_come_line t name
 
-abbrev pub other_to_come : Option UtcDate → List ℕ → List ℕ
+abbrev pub other_to_come : Option Told → List ℕ → List ℕ
 other_to_come None name = []
-other_to_come (Some d) name = date_to_come d name
+other_to_come (Some t) name = date_to_come t name
 
--- those of a capture: of its epochs; or if it has none, of an epoch at this moment; and one that is to come
+-- those of a capture: of its epochs; or if it has none, of an epoch at this moment; one that is to come; and one far from the
+-- epoch beside it
 abbrev pub other_dates_at : ℕ → ℕ → CaptureSurvey → List ℕ → List ℕ
 other_dates_at station near s name =
     other_dates_of near name (dates_in station s) ++ other_dates_of near name (dates_without_epoch station near s)
-    ++ other_to_come (to_come_told station s) name
+    ++ other_to_come (to_come_told station s) name ++ far_date_line_in station s name
 
 -- those of captures with these names
 abbrev pub all_other_dates : List (Bor (List ℕ)) → ℕ → ℕ → List CaptureSurvey → List ℕ
@@ -164,12 +166,12 @@ few_phases_lines ss station kind cs = flat_map (few_phases_line_at ss station ki
 abbrev pub stray_lines : List (Bor (List ℕ)) → ℕ → List ℕ → List ℕ
 stray_lines names epoch places = flat_map (λ place. stray_line epoch (capture_name names place)) places
 
--- the systems whose clocks differ from those of their chains, those of which no clock is compared, and the captures that
--- tell other leap seconds
+-- the systems whose clocks differ from those of their chains, those of which no clock is compared, the captures that tell
+-- other leap seconds, and leap seconds that were found
 abbrev pub clock_lines_of : List (Bor (List ℕ)) → List CaptureSurvey → Plan → List ℕ
 clock_lines_of names ss plan =
     told_clock_lines plan.asked ss plan.setup.station plan.leap_seconds ++ unchecked_system_lines plan.setup.head.listed ss plan.setup.station
-    ++ other_leap_lines names plan.setup.station ss plan.setup.head.glonass
+    ++ leap_lines names ss plan
 
 -- everything before the line of late messages
 unfoldable pub lines_before_late : List (Bor (List ℕ)) → List CaptureSurvey → Plan → Equipment → List ℕ

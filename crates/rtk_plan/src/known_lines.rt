@@ -9,7 +9,7 @@ ghost use Rattle.rtk_survey.specs.Surveys.{places_of};
 ghost use Rattle.rtk_systems.specs.ToldChannels.{told_channel_lines};
 
 use crate::capture_lines::{put_epochs, put_other_dates, put_skipped, put_strays, put_undated};
-use crate::leap_lines::put_other_leap_in;
+use crate::leap_lines::put_leap_in;
 use crate::left_out::put_left_out;
 use crate::other_equipment::put_equipment_notes;
 use crate::phase_lines::put_few_phases_in;
@@ -118,8 +118,8 @@ fn late_on_links(reported: &Reported, links: &[usize]) -> u64
     count
 }
 
-// Appends the systems of a plan whose clocks differ from those of their chains, those of which no clock is compared, and
-// the captures that tell other leap seconds.
+// Appends the systems of a plan whose clocks differ from those of their chains, those of which no clock is compared, the
+// captures that tell other leap seconds, and leap seconds that were found.
 fn put_clocks_in(
     alloc: Global,
     lines: &mut Vec<u8>,
@@ -141,7 +141,7 @@ fn put_clocks_in(
         &plan.leap_seconds,
     )?;
     put_unchecked(lines, setup, surveys, station)?;
-    put_other_leap_in(lines, captures, setup)?;
+    put_leap_in(lines, captures, plan)?;
     Ok(())
 }
 

@@ -6,6 +6,8 @@ pub mod DopplerLines
 pub mod FoundSeconds
 pub mod MessageLines
 pub mod NamelessLines
+pub mod OtherChannels
+pub mod SeveralChannels
 pub mod SlotChannels
 pub mod Steps
 pub mod SystemFlags

@@ -44,6 +44,8 @@ mod found_seconds;
 mod held_messages;
 mod message_lines;
 mod nameless_lines;
+mod other_channels;
+mod several_channels;
 mod slot_channels;
 mod system_flags;
 mod system_msms;
