@@ -126,7 +126,7 @@ pub use survey::CaptureSurvey;
 pub use survey_fault::SurveyFault;
 pub use system_message::{LeapSeconds, SlotChannel, SystemMessage, SystemWeek, system_message_in};
 pub use system_msm::{SystemMsm, epochs_numbered, messages_numbered};
-pub use system_phases::{PhaseTable, SystemPhases, signal_count_in_table};
+pub use system_phases::{PhaseTable, SystemPhases};
 pub use system_signals::SystemSignals;
 pub use system_tellings::{LeapRange, SystemTellings};
 pub use systems_sent::SystemsSent;
