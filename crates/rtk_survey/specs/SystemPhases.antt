@@ -115,7 +115,3 @@ HasPhasesOf tables (Some station) ms = HasPhaseTables tables (messages_from stat
 pub record HasSystemPhases (named : Option ℕ) (ms : List AnyMessage) (p : SystemPhases) : Type 0 where
   pub station : p.station ≡ cells_station named ms
   pub tables : HasPhasesOf p.tables p.station ms
-
--- what a satellite has of a code, by a table
-abbrev pub signal_count_in : List PhaseCount → ℕ → AnyCode → PhaseCount
-signal_count_in table satellite code = get_or table (place_of_phase satellite code) no_phases

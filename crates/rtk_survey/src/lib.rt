@@ -186,7 +186,6 @@ pub use system_msm::epochs_numbered;
 pub use system_msm::messages_numbered;
 pub use system_phases::PhaseTable;
 pub use system_phases::SystemPhases;
-pub use system_phases::signal_count_in_table;
 pub use system_signals::SystemSignals;
 pub use system_tellings::LeapRange;
 pub use system_tellings::SystemTellings;

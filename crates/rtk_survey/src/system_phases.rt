@@ -272,15 +272,3 @@ impl SystemPhases {
         table_of_phases(self.tables.get(&number))
     }
 }
-
-/// What a satellite has of a code, by the table of its system.
-pub fn signal_count_in_table(
-    table: &[PhaseCount],
-    satellite: SatelliteIndex,
-    code: AnyCode,
-) -> PhaseCount
-    ensures { result ≡ spec.signal_count_in table.now satellite code }
-{
-    let place = place_of_phase(satellite, code);
-    table.get(place).copied().unwrap_or(PhaseCount::nothing())
-}

@@ -13,7 +13,7 @@
 //! use rtk_systems::{SystemFlags, TakenMessages, codes_in_captures};
 //! use std::alloc::{AllocError, Global};
 //!
-//! // A frame with a 1004 of station 2003, with values of one satellite in C/A code.
+//! // A frame with a 1004 of station 2003, with values of one satellite in the codes 1C and 2W.
 //! const CAPTURE: &[u8] = b"\xD3\x00\x18\x3E\xC7\xD3\x71\x4B\xE8\x00\x10\x14\x98\x96\x80\
 //!     \x00\x00\x01\x51\xAD\x30\x19\x00\x00\x00\x2C\x60\xD0\xFE\x53";
 //!
@@ -27,7 +27,7 @@
 //!         obs1012: false,
 //!     };
 //!     let codes = codes_in_captures(alloc, &[survey], 2003, SystemFlags::ALL, taken)?;
-//!     Ok(codes.as_slice() == [AnyCode::G1C].as_slice())
+//!     Ok(codes.as_slice() == [AnyCode::G1C, AnyCode::G2W].as_slice())
 //! }
 //! ```
 //!
