@@ -238,7 +238,7 @@ pub fn to_come_told(station: u16, survey: &CaptureSurvey) -> Option<UtcDate>
 }
 
 /// What a capture tells of a station.
-pub(crate) fn capture_of(station: u16, survey: &CaptureSurvey) -> StationCapture
+pub fn capture_of(station: u16, survey: &CaptureSurvey) -> StationCapture
     ensures { result ≡ spec.capture_of station survey.now }
 {
     let heard = survey.contents.stations.get(&station);
