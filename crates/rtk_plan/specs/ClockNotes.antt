@@ -30,16 +30,16 @@ abbrev pub taken_clock_falls : TakenClocks → Bool → StationClocks → Bool
 taken_clock_falls taken takes_1012 s =
     (taken.glonass && (clock_falls s.glonass || (takes_1012 && clock_falls s.glonass_day))) || (taken.beidou && clock_falls s.beidou)
 
-abbrev pub is_named : DateSource → Bool
-is_named Words = true
-is_named (Station number) = false
-is_named (OtherStation number station) = false
-is_named Ephemerides = false
-is_named (OtherEphemerides number) = false
+abbrev pub is_by_words : DateSource → Bool
+is_by_words Words = true
+is_by_words (Station number) = false
+is_by_words (OtherStation number station) = false
+is_by_words Ephemerides = false
+is_by_words (OtherEphemerides number) = false
 
 -- a capture without an epoch tells no date, and words date none
 abbrev pub tells_no_date : DateSource → StationCapture → Bool
-tells_no_date source c = not (is_named source) && (is_none c.span && is_none c.moment)
+tells_no_date source c = not (is_by_words source) && (is_none c.span && is_none c.moment)
 
 -- such a capture has clocks that are converted
 abbrev pub undated_clock_line : DateSource → TakenClocks → Bool → StationCapture → StationClocks → List ℕ → List ℕ

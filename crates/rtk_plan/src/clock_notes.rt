@@ -41,8 +41,8 @@ fn taken_clock_falls(taken: TakenClocks, takes_1012: bool, clocks: &StationClock
         || (taken.beidou && clock_falls(&clocks.beidou))
 }
 
-fn is_named(source: DateSource) -> bool
-    ensures { result ≡ spec.is_named source }
+fn is_by_words(source: DateSource) -> bool
+    ensures { result ≡ spec.is_by_words source }
 {
     match source {
         DateSource::Words => true,
@@ -57,7 +57,7 @@ fn is_named(source: DateSource) -> bool
 fn tells_no_date(source: DateSource, capture: &StationCapture) -> bool
     ensures { result ≡ spec.tells_no_date source capture.now }
 {
-    !is_named(source) && (capture.span.is_none() && capture.moment.is_none())
+    !is_by_words(source) && (capture.span.is_none() && capture.moment.is_none())
 }
 
 fn epochs_fall(epochs: &Option<Span>) -> bool
