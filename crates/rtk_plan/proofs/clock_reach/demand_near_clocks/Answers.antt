@@ -23,12 +23,12 @@ returns-clause-near c =
     let placed = c.args.dating.now.placed.items in
     let way : ClockDating = record { station = station; seconds = n; is_given = c.is_some.result; near = first } in
     on-ok c.demand_near.result (λ far.
-    far-clocks ss given station c.args.setup.now first n placed way c.clocks_taken.result c.near.result c.as_slice.result.now false
+    far-clocks ss given station c.args.setup.now first n placed way c.clocks_taken-taken.result c.near.result c.as_slice.result.now false
     (subst (λ (cs : List StationCapture). IsNearOf given cs first) c.requires.captures c.requires.near)
     (subst (λ (cs : List StationCapture). ArePlaced given cs placed) c.requires.captures c.requires.placed)
     (subst (λ (o : Option ℕ). AreSecondsChosen o first n) (sym c.requires.seconds) c.seconds_chosen.ensures.said)
     (ap (λ (b : Bool). record { station = station; seconds = n; is_given = b; near = first }) c.is_some.ensures)
-    c.clocks_taken.ensures c.near.ensures.value c.as_slice.ensures.value far) c.demand_near.ensures.near
+    c.clocks_taken-taken.ensures c.near.ensures.value c.as_slice.ensures.value far) c.demand_near.ensures.near
 
 pub returns-clause-refused : goal.returns-clause-refused
 returns-clause-refused c =
@@ -39,14 +39,14 @@ returns-clause-refused c =
     let n = c.seconds_chosen.result in
     let placed = c.args.dating.now.placed.items in
     let way : ClockDating = record { station = station; seconds = n; is_given = c.is_some.result; near = first } in
-    refused-by (λ (r : Refusal). (r ≡ TooLong) × (has_far_clock way c.clocks_taken.result c.near.result c.as_slice.result.now ss ≡ true))
+    refused-by (λ (r : Refusal). (r ≡ TooLong) × (has_far_clock way c.clocks_taken-taken.result c.near.result c.as_slice.result.now ss ≡ true))
     (λ (r : Refusal). (r ≡ TooLong) × HaveFarClocks ss given station c.args.setup.now true)
     c.demand_near.result (λ r far. (
       far.0,
-      far-clocks ss given station c.args.setup.now first n placed way c.clocks_taken.result c.near.result c.as_slice.result.now true
+      far-clocks ss given station c.args.setup.now first n placed way c.clocks_taken-taken.result c.near.result c.as_slice.result.now true
           (subst (λ (cs : List StationCapture). IsNearOf given cs first) c.requires.captures c.requires.near)
           (subst (λ (cs : List StationCapture). ArePlaced given cs placed) c.requires.captures c.requires.placed)
           (subst (λ (o : Option ℕ). AreSecondsChosen o first n) (sym c.requires.seconds) c.seconds_chosen.ensures.said)
           (ap (λ (b : Bool). record { station = station; seconds = n; is_given = b; near = first }) c.is_some.ensures)
-          c.clocks_taken.ensures c.near.ensures.value c.as_slice.ensures.value far.1,
+          c.clocks_taken-taken.ensures c.near.ensures.value c.as_slice.ensures.value far.1,
     )) c.demand_near.ensures.refused
