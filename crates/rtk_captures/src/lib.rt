@@ -72,11 +72,11 @@ pub use lists::{
 };
 pub use other_positions::put_other_positions;
 pub use positions::{agree_on_position, put_no_position};
-pub use reach::{Base, is_out_of_reach, least_told, near_of, place_captures, reach_of};
+pub use reach::{Base, is_out_of_reach, least_told, near_of, place_captures, reach_of, reach_with};
 pub use refusal::{PlanFault, Refusal, refused};
 pub use span_line::{DateSource, DatedSpan, put_span};
 pub use station_capture::{
-    StationCapture, captures_of, is_station, others_passed_over, span_in, to_come_told,
+    StationCapture, capture_of, captures_of, is_station, others_passed_over, span_in, to_come_told,
     weeks_passed_over,
 };
 pub use times::put_time;

@@ -249,7 +249,7 @@ pub fn to_come_told(station: u16, survey: &CaptureSurvey) -> Option<Told>
 }
 
 /// What a capture tells of a station.
-pub(crate) fn capture_of(station: u16, survey: &CaptureSurvey) -> StationCapture
+pub fn capture_of(station: u16, survey: &CaptureSurvey) -> StationCapture
     ensures { result ≡ spec.capture_of station survey.now }
 {
     let heard = survey.contents.stations.get(&station);

@@ -24,6 +24,7 @@ use Rattle.rtk_survey.specs.declared.tellings.Tellings.{Tellings}
 use Rattle.rtk_survey.specs.declared.tellings.Told.{Told}
 use Rattle.rtk_captures.specs.CaptureNames.{capture_name, lines_by}
 use Rattle.rtk_systems.specs.ClockOffsets.{told_clock_lines}
+use Rattle.rtk_plan.specs.ClockNotes.{all_clock_notes}
 use Rattle.rtk_systems.specs.DopplerLines.{doppler_lines_unless}
 use Rattle.rtk_plan.specs.FewPhases.{has_few_phases}
 use Rattle.rtk_plan.specs.LeapLines.{leap_lines}
@@ -173,10 +174,14 @@ clock_lines_of names ss plan =
     told_clock_lines plan.asked ss plan.setup.station plan.leap_seconds ++ unchecked_system_lines plan.setup.head.listed ss plan.setup.station
     ++ leap_lines names ss plan
 
+-- the captures that are dated near the others, or whose clocks fall
+abbrev pub undated_notes : List (Bor (List ℕ)) → List CaptureSurvey → Plan → List ℕ
+undated_notes names ss plan = undated_lines plan.span.source names plan.captures.items ++ all_clock_notes names plan.span.source plan.setup ss
+
 -- everything before the line of late messages
 unfoldable pub lines_before_late : List (Bor (List ℕ)) → List CaptureSurvey → Plan → Equipment → List ℕ
 lines_before_late names ss plan told =
-    undated_lines plan.span.source names plan.captures.items
+    undated_notes names ss plan
     ++ all_other_dates names plan.setup.station plan.setup.near ss
     ++ clock_lines_of names ss plan
     ++ few_phases_lines ss plan.setup.station plan.setup.kinds.gps plan.setup.head.listed

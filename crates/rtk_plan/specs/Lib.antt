@@ -1,4 +1,6 @@
 pub mod Causes
+pub mod ClockNotes
+pub mod ClockReach
 pub mod FewPhases
 pub mod KnownLines
 pub mod LabelCommand

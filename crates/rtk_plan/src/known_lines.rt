@@ -9,6 +9,7 @@ ghost use Rattle.rtk_survey.specs.Surveys.{places_of};
 ghost use Rattle.rtk_systems.specs.ToldChannels.{told_channel_lines};
 
 use crate::capture_lines::{put_epochs, put_other_dates, put_skipped, put_strays, put_undated};
+use crate::clock_notes::put_all_clock_notes;
 use crate::leap_lines::put_leap_in;
 use crate::left_out::put_left_out;
 use crate::other_equipment::put_equipment_notes;
@@ -168,6 +169,20 @@ fn put_channels_in(
     Ok(())
 }
 
+// Appends the captures that are dated near the others, or whose clocks fall.
+fn put_undated_notes(
+    lines: &mut Vec<u8>,
+    captures: &Captures<'_, '_>,
+    plan: &Plan,
+) -> Result<(), AllocError>
+    ensures { OnOk result (lines.new.items ≡ lines.old.items
+        ++ spec.undated_notes captures.now.names.now captures.now.surveys.now plan.now) }
+{
+    put_undated(lines, captures, plan)?;
+    put_all_clock_notes(lines, captures, plan)?;
+    Ok(())
+}
+
 // Appends what a person should know before the line of late messages.
 #[tactic(auto, unfolding(crate::specs::KnownLines::lines_before_late))]
 fn put_first_lines(
@@ -180,7 +195,7 @@ fn put_first_lines(
     ensures { OnOk result (lines.new.items ≡ lines.old.items
         ++ spec.lines_before_late captures.now.names.now captures.now.surveys.now plan.now told.now) }
 {
-    put_undated(lines, captures, plan)?;
+    put_undated_notes(lines, captures, plan)?;
     put_other_dates(lines, captures, &plan.setup)?;
     put_clocks_in(alloc, lines, captures, plan)?;
     put_few_phases_in(lines, captures.surveys, &plan.setup)?;

@@ -74,6 +74,8 @@
 #![tactic(auto)]
 
 mod capture_lines;
+mod clock_notes;
+mod clock_reach;
 mod count_lines;
 mod dating_systems;
 mod few_phases;

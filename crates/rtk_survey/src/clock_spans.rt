@@ -137,8 +137,8 @@ fn dated_in_day(at: GpsMs, time: u32) -> u64
     from + (u64::from(time) % DAY_MS + DAY_MS - from % DAY_MS) % DAY_MS
 }
 
-// The moment nearest to another one at which a clock tells this time.
-fn clock_moment(clock: FollowedClock, at: GpsMs, time: u32) -> u64
+/// The moment nearest to another one at which a clock tells this time.
+pub fn clock_moment(clock: FollowedClock, at: GpsMs, time: u32) -> u64
     ensures value { result ≡ spec.clock_moment clock at time }
     ensures bound { result < 2 ^ 61 }
 {
@@ -404,8 +404,8 @@ fn clock_followed(
 // ---- the clocks of a station
 
 impl StationClocks {
-    // No message came.
-    fn new() -> StationClocks
+    /// No message came.
+    pub fn new() -> StationClocks
         ensures { result ≡ no_station_clocks }
     {
         StationClocks {
