@@ -283,9 +283,14 @@ $(command $noon 1C ' --msm 7') joined/1.rtcm of_1074" '10 6 0 0 4 0 0 0 4' 0 '' 
     ' not in the file: GPS 1074, 3 messages\n not in the file: Doppler of 1077, 4 messages'
 rm -r joined
 finds with_others "$two 1013" "$one_command with_others" '7 5 0 0 2 0 0 0 2' 0 one.rnx \
-    ' not in the file: GPS 1003, 1 messages\n not in the file: GLONASS 1012, 2 messages\n not in the file: GLONASS 1087, 1 messages'
+    ' not in the file: GPS 1003, 1 messages\n not in the file: GLONASS 1012, 2 messages\n not in the file: GLONASS 1087, 1 messages\n refused M3 1087 1 in with_others'
 finds short_msm "$two 1013" "$one_command short_msm" '6 4 0 0 2 0 0 0 2' 0 one.rnx \
-    ' not in the file: GPS 1076, 1 messages\n not in the file: GPS 1077, 2 messages'
+    ' not in the file: GPS 1076, 1 messages\n not in the file: GPS 1077, 2 messages\n refused M3 1076 1 in short_msm\n refused M3 1077 2 in short_msm'
+# Cells of a signal that no code names are left out, and MSM of GLONASS that tell no day are refused without 1012.
+# pins: nameless_line, refused_number_line
+finds nameless "$two 1013" "$(command $noon 1C,2W,E1C) nameless" '5 1 0 0 4 0 0 0 2' 0 '' ' unchecked E\n without-name E 1'
+finds no_day "$two 1013" "$(command $noon 1C,2W,R1C ' --msm 4,R7') --channels 9:-2 no_day" '5 1 1 0 3 0 0 0 2' 0 '' \
+    ' unchecked R\n not in the file: Doppler of 1087, 2 messages\n refused M4 1087 1 in no_day'
 finds '--codes 5X one' "$two 1013" "$(command $noon 5X) one" '3 1 0 0 2 0 0 0 0' 3 '' \
     'rtcm2rinex: no record came; the file is a header alone'
 # pins: skipped_line
@@ -320,7 +325,7 @@ expect sbas_alone_of_gps 3 '' 'rtcm2rinex: the captures have no observations tha
 printf ' %s\n' 'satellites G05 G07 S20 S38' 'codes 1C,2W,S1C' \
     "next rtcm2rinex convert --station 2003 --near $noon --made \"\$(date -u +%FT%T)\" --marker 2003 --codes 1C,2W,S1C with_sbas" >want
 same summary_of_sbas told want
-finds without_sbas "$noon until $noon by 1013" "$one_command without_sbas" '2 1 0 0 1 0 0 0 1' 0 ''
+finds without_sbas "$noon until $noon by 1013" "$one_command without_sbas" '2 1 0 0 1 0 0 0 1' 0 '' ' without-name G 1'
 # pins: next_before, is_stray, stray_line
 finds astray "$noon until 2024-05-19T12:00:00 by 1013" "$one_command astray" '4 1 0 0 3 0 0 0 3' 0 '' \
     ' gap 2024-05-17T12:00:02 until 2024-05-19T12:00:00\n stray astray 2024-05-19T12:00:00\n time-falls astray'
@@ -398,12 +403,12 @@ finds '--window 2 --near 2024-05-17T12:00:00 '"$examples/late.rtcm" "$noon until
 finds week_end "2024-05-18T23:59:50 until 2024-05-19T00:00:09 by 1013" "$(command 2024-05-18T23:59:50) week_end" '21 1 0 0 20 0 0 0 20' 0 week_end.rnx
 position=
 # A position that changes once the header is settled is late, though no newer epoch came.
-finds '--window 2 moves_late' "$noon until 2024-05-17T12:00:02 by 1013" "$(command $noon | sed 's/4096/2/') moves_late" '6 1 0 0 4 0 0 1 3' 0 '' " late 1: observations after 2 newer epochs, and new positions after 2 epochs, are left out"
+finds '--window 2 moves_late' "$noon until 2024-05-17T12:00:02 by 1013" "$(command $noon | sed 's/4096/2/') moves_late" '6 1 0 0 4 0 0 1 3' 0 '' " late 1: observations after 2 newer epochs, and new positions after 2 epochs, are left out\n other-position moves_late"
 links='here.0 here.1' # 100 m apart
 conflict=' conflict 1: later copies differ from the first, which the file has'
-# pins: conflicts_line
-finds "here.1 here.0" "$noon until 2024-05-17T12:00:10 by 1013" "$one_command $links" '8 2 0 0 5 0 1 0 4' 0 '' "$conflict"
-finds "--links-as-given here.2 here.0" "$noon until 2024-05-17T12:00:11 by 1013" "$one_command here.2 here.0" '8 2 0 0 5 0 1 0 4' 0 '' "$conflict"
+# pins: conflicts_line, other_position_line
+finds "here.1 here.0" "$noon until 2024-05-17T12:00:10 by 1013" "$one_command $links" '8 2 0 0 5 0 1 0 4' 0 '' "$conflict\n other-position here.1"
+finds "--links-as-given here.2 here.0" "$noon until 2024-05-17T12:00:11 by 1013" "$one_command here.2 here.0" '8 2 0 0 5 0 1 0 4' 0 '' "$conflict\n other-position here.0"
 sed "s/^frames 8/link 2 conflict 1005 -\n&/" want_err >want; auto --report --links-as-given here.2 here.0; leaves report 0 any want
 position=$no_position
 finds "$(seq -s ' ' -f 'same.%02.0f' 0 15)" "$two 1013" "$one_command $(seq -s ' ' -f 'same.%02.0f' 0 15)" '48 16 0 0 32 0 0 0 2' 0 ''
