@@ -78,7 +78,6 @@ done 3<<'ROWS'
 3|undated|the captures tell no date; give one, as in --near GPS-TIME-WITHIN-HALF-A-WEEK
 3|passed_over|the captures tell no date; give one, as in --near GPS-TIME-WITHIN-HALF-A-WEEK\n 2024-07-09T12:00:00 by 1013 of station 2003 in passed_over: it is after the time of making
 3|beidou_to_come|the captures tell no date; give one, as in --near GPS-TIME-WITHIN-HALF-A-WEEK\n 2024-06-02T00:00:00 by 1042 in beidou_to_come: it is after the time of making
-3|--made 1990-01-01T00:00:00 week_to_come|the captures tell no date; give one, as in --near GPS-TIME-WITHIN-HALF-A-WEEK\n 1991-07-07T00:00:16 by 1019 in week_to_come: it is after the time of making
 3|one next_week|the captures are longer than half a week; convert them in parts\n 2024-05-26T23:59:50 until 2024-05-26T23:59:50 in next_week: 1 epochs\n 2024-05-17T12:00:00 until 2024-05-17T12:00:01 in one: 2 epochs
 3|--codes 5X --msm 7 --near 2099-12-31T23:59:59 --skip-empty empty nmea|the captures have no frame of RTCM 3\n empty is empty\n nmea looks like NMEA
 3|same.*|more than 16 captures are of the same time, and 16 links are taken\n same.00\n same.01\n same.02\n same.03\n same.04\n same.05\n same.06\n same.07\n same.08\n same.09\n same.10\n same.11\n same.12\n same.13\n same.14\n same.15\n same.16
@@ -257,7 +256,7 @@ finds monday "$two 1013" "$one_command monday" '5 3 0 0 2 0 0 0 2' 0 one.rnx \
 finds half_day "$two 1013" "$one_command half_day" "$counts" 0 one.rnx
 finds over_half_day "$two 1029" "$one_command over_half_day" "$counts" 0 one.rnx \
     ' other-date 2024-05-18T00:00:01 by 1029 of station 2003 in over_half_day: it dates the epoch beside it as 2024-05-17T12:00:00'
-finds monday_of_another "$two 1013" "$one_command monday_of_another" '4 1 0 1 2 0 0 0 2' 0 one.rnx
+finds monday_of_another "$two 1013" "$one_command monday_of_another" '4 2 0 0 2 0 0 0 2' 0 one.rnx
 position=
 finds 'one position' "$two 1013" "cat position one | $one_command stdin" '4 1 0 0 3 0 0 0 2' 0 '' ' no-epoch position'
 # a capture that begins with another station, before the one that tells which station is converted
@@ -461,6 +460,8 @@ if [ "$before" -le "$shown" ] && [ "$shown" -le "$after" ]; then right a_present
 # A date counts from the day before on.
 run auto --made 2024-05-15T23:59:59 one; expect a_date_after_the_present 3 '' 'rtcm2rinex: the captures tell no date; give one, as in --near GPS-TIME-WITHIN-HALF-A-WEEK
  2024-05-17T12:00:00 by 1013 of station 2003 in one: it is after the time of making'
+run auto --made 1990-01-01T00:00:00 week_to_come; expect a_week_after_the_present 3 '' 'rtcm2rinex: the captures tell no date; give one, as in --near GPS-TIME-WITHIN-HALF-A-WEEK
+ 1991-07-07T00:00:16 by 1019 in week_to_come: it is after the time of making'
 run auto --made 2024-05-16T00:00:00 one; [ "$status" = 0 ] && right a_date_of_tomorrow || wrong a_date_of_tomorrow "$status"
 
 position=$no_position
