@@ -427,6 +427,7 @@ legacy with_1012_cut_short 2020-01-25T02:16:00 '1C --window 4096' $G05_1004 "$(e
 # pins: glonass_line_of
 echo ' not in the file: GLONASS 1012, 1 messages' >want; grep 1012 said >told; same auto_with_1012_cut_short told want
 # The channels that are told of slot 12: by 1012 -1, none or +10; by 1020 -2 or 3. Of two alike it is the lesser.
+# pins: told_fields, told_channel, several_words
 told_slots() {
     name=$1 want=$2 options=$3
     shift 3
@@ -439,7 +440,6 @@ ABOVE_1012=3F400124210600818898EAEE800097221CA7FACFF289C97E
 rest_of_1020=$(printf '%084d' 0)
 MINUS_2=3FC30A$rest_of_1020
 PLUS_3=3FC314$rest_of_1020
-# pins: told_fields, told_channel, several_words
 told_slots two_1020 ' several-channels R12 -2 3\n' '' $G05_1004 $PLUS_3 $NONE_1012 $MINUS_2 $G05_3_S
 told_slots one_1020 '' '' $G05_1004 $PLUS_3 $NONE_1012 $PLUS_3 $G05_3_S
 told_slots a_1012_before_1020 '' '' $G05_1004 $PLUS_3 $R12_1012 $MINUS_2 $G05_3_S
@@ -449,6 +449,10 @@ told_slots a_channel_above_6_alone " no-channel R12: give --channels, as a heade
 told_slots a_channel_above_6_and_given ' other-channel R12 3: messages tell 10\n' '--channels 12:3' $G05_1004 $ABOVE_1012 $G05_3_S
 told_slots channels_that_are_given ' other-channel R12 5: messages tell -1\n' '--channels 12:5' $G05_1004 $R12_1012 $G05_3_S
 told_slots channels_of_1020_and_given ' several-channels R12 -2 3\n' '--channels 12:5' $G05_1004 $PLUS_3 $NONE_1012 $MINUS_2 $G05_3_S
+# `summary` lists the channels that RINEX has.
+# pins: place_is_counted
+python3 "$here/framed.py" $G05_1004 $ABOVE_1012 >above.rtcm; run summary above.rtcm; grep channels out >told; : >want; same summary_of_a_channel_above_6 told want
+python3 "$here/framed.py" $G05_1004 $R12_1012 >within.rtcm; run summary within.rtcm; grep '^ channels' out >told; echo ' channels 12:-1' >want; same summary_of_a_channel told want
 # A lone 1012 before the first epoch counts too: a second before it, and not nearly a day after it.
 legacy with_a_lone_1012 2020-01-25T02:16:02 '1C,R1C,R2P --window 4096 --channels 12:-1 --with-1012' $R12_1012 $G05_3_S
 # `summary` says the word where the times lie near the date of a 1013: of the same day, and not of half a day later.
