@@ -427,12 +427,12 @@ legacy with_1012_cut_short 2020-01-25T02:16:00 '1C --window 4096' $G05_1004 "$(e
 # pins: glonass_line_of
 echo ' not in the file: GLONASS 1012, 1 messages' >want; grep 1012 said >told; same auto_with_1012_cut_short told want
 # The channels that are told of slot 12: by 1012 -1, none or +10; by 1020 -2 or 3. Of two alike it is the lesser.
-# pins: told_fields, told_channel, several_words
 told_slots() {
     name=$1 want=$2 options=$3
     shift 3
     python3 "$here/framed.py" "$@" >legacy.rtcm
     run auto --near 2020-01-25T02:16:00 --made $made $options legacy.rtcm
+    # pins: told_fields, told_channel, several_words
     grep channel err | grep -v rtcm2rinex >told; printf "$want" >want; same "auto_$name" told want
 }
 NONE_1012=3F400124210600818F98EAEE800097221CA7FACFF289C97E
