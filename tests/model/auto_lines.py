@@ -13,7 +13,7 @@ import stages
 from captures import LAST_MADE
 from choosing import NOT_TOLD, Wanted
 from clocks import leap_seconds_at
-from finding import FIRST_DAY, Found, Stopped
+from finding import Found, Stopped
 from lost import nameless_lines, position_lines, refused_lines
 from messages import Refusal, frames_of, read_message
 from mixed_cells import has_sbas
@@ -133,10 +133,18 @@ def to_come_text(now: int, captures: list[finding.Capture]) -> str:
 def to_come_lines(now: int, captures: list[finding.Capture], at: int) -> list[str]:
     """That of the capture at this place, or nothing."""
     it = finding.first_to_come(now, captures[at])
-    if it is None:
+    return [] if it is None else [f"{date_text(*it, name_of(at))}: it is after the time of making"]
+
+
+# pins: far_head, far_epoch
+def far_lines(now: int, captures: list[finding.Capture], at: int, station: int) -> list[str]:
+    """The first date of the station in the capture at this place that is far from the epoch beside it, or nothing."""
+    far = finding.far_date(now, captures[at], station)
+    if far is None:
         return []
-    moment = finding.DAY_MS * (it["day"] - FIRST_DAY) + 1000 * it["second"]
-    return [f"{date_text(it, moment, name_of(at))}: it is after the time of making"]
+    fields, epoch = far
+    date = date_text(fields, finding.utc_moment(fields), name_of(at))
+    return [f" other-date{date}: it dates the epoch beside it as {shown_time(epoch)}"]
 
 
 def distinct(told: list[finding.Told]) -> list[finding.Told]:
@@ -245,12 +253,14 @@ def date_lines(found: Found, asked: Asked, texts: list[bytes]) -> list[str]:
         lists = [finding.counting(tellings[at], station), *finding.passed_over(tellings[at], station)]
         lines += [f" more-dates in {name_of(at)}"] * any(len(distinct(of)) == 16 for of in lists)
         lines += [f" other-date{line}" for line in to_come_lines(asked.now, asked.captures(texts), at)]
+        lines += far_lines(asked.now, asked.captures(texts), at, station)
     return lines
 
 
-# pins: to_text, greatest_text, leap_words_of
+# pins: to_text, greatest_text, leap_words_of, found_leap_words
 def leap_lines(found: Found, asked: Asked, texts: list[bytes]) -> list[str]:
-    """The captures in which a 1013 of the station tells other leap seconds than those by which GLONASS is compared."""
+    """The captures in which a 1013 of the station tells other leap seconds than those by which GLONASS is compared; and those by
+    which GLONASS is right, if they are not given."""
     chosen, lines = found.chosen, []
     due = leap_seconds_at(found.near) if chosen.leap is None else chosen.leap
     for at, capture in enumerate(asked.captures(texts)):
@@ -258,7 +268,8 @@ def leap_lines(found: Found, asked: Asked, texts: list[bytes]) -> list[str]:
         if GLONASS.letter in chosen.kinds and at not in found.skipped and {*told} - {due}:
             range_of = f"{min(told)}" if min(told) == max(told) else f"{min(told)} to {max(told)}"
             lines.append(f" other-leap-seconds {range_of} by 1013 in {name_of(at)}")
-    return lines
+    is_found = GLONASS.letter in chosen.kinds and chosen.leap is not None and asked.wanted.leap is None
+    return lines + [f" leap-seconds {chosen.leap}: by the clocks of GLONASS"] * is_found
 
 
 def late_lines(found: Found, asked: Asked, due: Conversion) -> list[str]:
@@ -348,7 +359,8 @@ def lost_lines(found: Found, asked: Asked, texts: list[bytes]) -> list[str]:
     return lines + position_lines(found, asked.captures(texts), names)
 
 
-# pins: constellation_slots, are_too_many, satellite_of_slot, alike_name, alike_words, told_channel, several_words
+# pins: constellation_slots, are_too_many, satellite_of_slot, alike_name, alike_words, told_fields, told_channel, several_words
+# pins: is_channel_of_field, own_channel, other_head, own_channels_words
 def slot_lines(found: Found) -> list[str]:
     """What is told of slots of GLONASS."""
     slots, lines = found.chosen.slots, []
@@ -358,7 +370,9 @@ def slot_lines(found: Found) -> list[str]:
         lines += [f" channels-alike {channel} {slot_names(its)}" for channel, its in sorted(slots.alike.items())]
         lines += [f" several-channels R{slot:02} {' '.join(map(str, its))}" for slot, its in sorted(slots.several.items())]
     header = "as a header's GLONASS SLOT / FRQ # of the same days has them"
-    return lines + [f" no-channel {slot_names(slots.without)}: give --channels, {header}"] * bool(slots.without)
+    lines += [f" no-channel {slot_names(slots.without)}: give --channels, {header}"] * bool(slots.without)
+    return lines + [f" other-channel R{slot:02} {slots.channels[slot]}: messages tell {' '.join(map(str, its))}"
+                    for slot, its in sorted(slots.others.items())]
 
 
 def slot_names(slots: Iterable[int]) -> str:

@@ -77,6 +77,7 @@ done 3<<'ROWS'
 3|one over_half_week|the captures tell dates that differ; choose one by --near\n 2024-05-17T12:00:00 by 1013 of station 2003 in one\n 2024-05-21T00:00:01 by 1019 in over_half_week
 3|undated|the captures tell no date; give one, as in --near GPS-TIME-WITHIN-HALF-A-WEEK
 3|passed_over|the captures tell no date; give one, as in --near GPS-TIME-WITHIN-HALF-A-WEEK\n 2024-07-09T12:00:00 by 1013 of station 2003 in passed_over: it is after the time of making
+3|beidou_to_come|the captures tell no date; give one, as in --near GPS-TIME-WITHIN-HALF-A-WEEK\n 2024-06-02T00:00:00 by 1042 in beidou_to_come: it is after the time of making
 3|one next_week|the captures are longer than half a week; convert them in parts\n 2024-05-26T23:59:50 until 2024-05-26T23:59:50 in next_week: 1 epochs\n 2024-05-17T12:00:00 until 2024-05-17T12:00:01 in one: 2 epochs
 3|--codes 5X --msm 7 --near 2099-12-31T23:59:59 --skip-empty empty nmea|the captures have no frame of RTCM 3\n empty is empty\n nmea looks like NMEA
 3|same.*|more than 16 captures are of the same time, and 16 links are taken\n same.00\n same.01\n same.02\n same.03\n same.04\n same.05\n same.06\n same.07\n same.08\n same.09\n same.10\n same.11\n same.12\n same.13\n same.14\n same.15\n same.16
@@ -241,6 +242,21 @@ finds sixteen_weeks "$two 1013" "$one_command sixteen_weeks" '19 17 0 0 2 0 0 0 
 # pins: date_to_come
 finds 'one to_come' "$noon until 2024-05-17T12:00:02 by 1013" "cat one to_come | $one_command stdin" '5 2 0 0 3 0 0 0 3' 0 '' \
     ' undated to_come: dated near the others\n other-date 2024-07-09T12:00:00 by 1013 of station 2003 in to_come: it is after the time of making'
+# Nor does an ephemeris whose week is after that of making.
+# pins: ephemeris_to_come, system_week_to_come
+finds galileo_to_come "$two 1013" "$one_command galileo_to_come" '4 2 0 0 2 0 0 0 2' 0 one.rnx \
+    ' other-date 2024-06-02T01:00:00 by 1046 in galileo_to_come: it is after the time of making'
+finds galileo_of_now "$two 1013" "$one_command galileo_of_now" '4 2 0 0 2 0 0 0 2' 0 one.rnx
+# A date that is more than half a day from the epoch beside it dates that by its week, and is told.
+# pins: is_far_from_epoch, far_head, far_epoch
+finds tuesday '2024-05-24T12:00:00 until 2024-05-24T12:00:01 by 1013' "$(command 2024-05-24T12:00:00) tuesday" "$counts" 0 '' \
+    ' other-date 2024-05-21T12:00:00 by 1013 of station 2003 in tuesday: it dates the epoch beside it as 2024-05-24T12:00:00'
+finds monday "$two 1013" "$one_command monday" '5 3 0 0 2 0 0 0 2' 0 one.rnx \
+    ' other-date 2024-05-20T12:00:02 by 1013 of station 2003 in monday: it dates the epoch beside it as 2024-05-17T12:00:01'
+finds half_day "$two 1013" "$one_command half_day" "$counts" 0 one.rnx
+finds over_half_day "$two 1029" "$one_command over_half_day" "$counts" 0 one.rnx \
+    ' other-date 2024-05-18T00:00:01 by 1029 of station 2003 in over_half_day: it dates the epoch beside it as 2024-05-17T12:00:00'
+finds monday_of_another "$two 1013" "$one_command monday_of_another" '4 2 0 0 2 0 0 0 2' 0 one.rnx
 position=
 finds 'one position' "$two 1013" "cat position one | $one_command stdin" '4 1 0 0 3 0 0 0 2' 0 '' ' no-epoch position'
 # a capture that begins with another station, before the one that tells which station is converted
@@ -449,6 +465,8 @@ if [ "$before" -le "$shown" ] && [ "$shown" -le "$after" ]; then right a_present
 # A date counts from the day before on.
 run auto --made 2024-05-15T23:59:59 one; expect a_date_after_the_present 3 '' 'rtcm2rinex: the captures tell no date; give one, as in --near GPS-TIME-WITHIN-HALF-A-WEEK
  2024-05-17T12:00:00 by 1013 of station 2003 in one: it is after the time of making'
+run auto --made 1990-01-01T00:00:00 week_to_come; expect a_week_after_the_present 3 '' 'rtcm2rinex: the captures tell no date; give one, as in --near GPS-TIME-WITHIN-HALF-A-WEEK
+ 1991-07-07T00:00:16 by 1019 in week_to_come: it is after the time of making'
 run auto --made 2024-05-16T00:00:00 one; [ "$status" = 0 ] && right a_date_of_tomorrow || wrong a_date_of_tomorrow "$status"
 
 position=$no_position

@@ -139,6 +139,17 @@ CAPTURES = {
     "fifteen_weeks": ONE + b"".join(date(43_200, 60_440 - 7 * it, 7) for it in range(15)),
     "sixteen_weeks": ONE + b"".join(date(43_200, 60_440 - 7 * it, 7) for it in range(16)),
     "to_come": date(43_200, 60_500) + epochs(NOON + 2),
+    # the day of making is the last one of week 2316 of GPS, and the next week is 1293 of Galileo and 961 of BeiDou
+    "galileo_to_come": ONE + system_week(1046, 1293, 3_600),
+    "galileo_of_now": ONE + system_week(1046, 1292, 604_740),
+    "beidou_to_come": system_week(1042, 961, 0) + epochs(NOON),
+    "week_to_come": week(600, 16) + date(43_200, 60_500) + epochs(NOON),
+    # a 1013 tells a Tuesday, or the Monday after two epochs of Friday, or 12 hours after one, or a second more; and one of another station
+    "tuesday": date(43_200, 60_451) + epochs(NOON, NOON + 1),
+    "monday": ONE + date(43_202, 60_450) + date(43_203, 60_449),
+    "half_day": date(0, 60_448) + epochs(NOON, NOON + 1),
+    "over_half_day": text_date(1, 60_448) + epochs(NOON, NOON + 1),
+    "monday_of_another": ONE + date(43_202, 60_450, 7),
     "with_sbas": date(43_200) + epochs(NOON, satellites=(5, 40)) + epochs(NOON + 1, satellites=(58, 5)) + epochs(NOON + 2),
     "sbas_alone": date(43_200) + epochs(NOON, satellites=(40,)),
     "without_sbas": date(43_200) + epochs(NOON, satellites=(39, 5, 59)),
