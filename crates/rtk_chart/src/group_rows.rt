@@ -11,6 +11,7 @@ ghost use Rattle.rtk_chart.specs.Scale.{IsScale};
 ghost use Rattle.rtk_chart.specs.Steps.Standing.{StandsForSurvey, StandsForGrid, bare_epochs};
 
 use crate::choice::{Choice, Chosen, is_chosen};
+use crate::drawing::Drawing;
 use crate::grid::Grid;
 use crate::groups::Group;
 use crate::scale::Scale;
@@ -108,22 +109,21 @@ pub(crate) fn fill_moments(
 /// The grid of all records with the chosen satellites of a group.
 pub(crate) fn fill_group(
     alloc: Global,
-    table: &MixedTextTable<'_>,
-    scale: &Scale,
-    choice: &Choice,
+    drawing: &Drawing<'_, '_>,
     group: Group,
 ) -> Result<Grid, AllocError>
-    requires good { IsScale scale.now }
+    requires good { IsScale drawing.now.scale }
     requires few { group.count ≤ 32 }
-    ensures bins { IfOk result (λ grid. length grid.bins.items ≡ scale.now.bins) }
-    ensures grid { IfOk result (λ grid. HoldsOfMixed table.now.text (λ es. StandsForGrid grid scale.now [] (group_epochs choice.now group es))) }
+    ensures bins { IfOk result (λ grid. length grid.bins.items ≡ drawing.now.scale.bins) }
+    ensures grid { IfOk result (λ grid. HoldsOfMixed drawing.now.table.now.text (λ es. StandsForGrid grid drawing.now.scale []
+        (group_epochs drawing.now.choice.now group es))) }
 {
-    let mut grid = Grid::new(alloc, scale)?;
-    let mut own = EpochTable::new(scale.first);
-    let mut records = table.records();
+    let mut grid = Grid::new(alloc, &drawing.scale)?;
+    let mut own = EpochTable::new(drawing.scale.first);
+    let mut records = drawing.table.records();
     while let Some(record) = records.next() {
-        read_group(&record, choice, group, &mut own);
-        grid.place_record(scale, &[], &own);
+        read_group(&record, drawing.choice, group, &mut own);
+        grid.place_record(&drawing.scale, &[], &own);
     }
     Ok(grid)
 }

@@ -52,6 +52,7 @@
 mod chart;
 mod choice;
 mod code_marks;
+mod drawing;
 mod drawn;
 mod grid;
 mod group_rows;

@@ -8,6 +8,7 @@ ghost use Rattle.rtk_chart.specs.Steps.Pictures.{view_of};
 
 use crate::chart::FRAME;
 use crate::choice::Choice;
+use crate::drawing::Drawing;
 use crate::drawn::{Drawn, drawn_systems};
 use crate::grid::Grid;
 use crate::group_rows::{fill_moments, survey_moments};
@@ -78,7 +79,12 @@ pub fn mixed_chart_text(
     let codes = heading.head.codes();
     let interval = survey.steps.interval();
     let scale = Scale::new(heading.first, last, interval, u64::from(width - FRAME));
-    let drawn = drawn_systems(alloc, table, &scale, width, choice, codes)?;
+    let drawing = Drawing {
+        table,
+        scale,
+        choice,
+    };
+    let drawn = drawn_systems(alloc, &drawing, width, codes)?;
     let moments = fill_moments(alloc, table, &scale)?;
     let text = systems_picture(
         alloc,

@@ -17,14 +17,14 @@ loop-record-preserved c = record {
   bins = c.place_record.ensures.bins ∙ c.loop-record.invariant.bins;
   outages = c.place_record.ensures.outages ∙ c.loop-record.invariant.outages;
   grid = λ t is text.
-      record-more (λ grid es. StandsForGrid grid c.args.scale.now [] (group_epochs c.args.choice.now c.args.group es)) c.loop-record.records c.next.new.self c.loop-record.grid c.place_record.new.self t.epochs c.in-Some.record
+      record-more (λ grid es. StandsForGrid grid c.args.drawing.now.scale [] (group_epochs c.args.drawing.now.choice.now c.args.group es)) c.loop-record.records c.next.new.self c.loop-record.grid c.place_record.new.self t.epochs c.in-Some.record
       (c.loop-record.invariant.grid t is text) c.in-Some.ensures.next
       (λ es e of good stands.
-      subst (λ (x : EpochTableView). StandsForGrid c.place_record.new.self c.args.scale.now [] (x ∷ group_epochs c.args.choice.now c.args.group es))
+      subst (λ (x : EpochTableView). StandsForGrid c.place_record.new.self c.args.drawing.now.scale [] (x ∷ group_epochs c.args.drawing.now.choice.now c.args.group es))
       (c.read_group.ensures e of good.rise)
-      (c.place_record.ensures.grid (group_epochs c.args.choice.now c.args.group es) stands));
+      (c.place_record.ensures.grid (group_epochs c.args.drawing.now.choice.now c.args.group es) stands));
 }
 
 pub returns-clause-grid : goal.returns-clause-grid
 returns-clause-grid c = λ t is text.
-    record-all (λ grid es. StandsForGrid grid c.args.scale.now [] (group_epochs c.args.choice.now c.args.group es)) c.loop-record.records c.loop-record.grid t.epochs (c.loop-record.invariant.grid t is text) c.in_default.ensures.next
+    record-all (λ grid es. StandsForGrid grid c.args.drawing.now.scale [] (group_epochs c.args.drawing.now.choice.now c.args.group es)) c.loop-record.records c.loop-record.grid t.epochs (c.loop-record.invariant.grid t is text) c.in_default.ensures.next

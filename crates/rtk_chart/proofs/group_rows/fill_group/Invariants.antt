@@ -7,10 +7,10 @@ use Rattle.rtk_chart.proofs.group_rows.fill_group.Given as goal
 
 abbrev pub invariant-loop-record : goal.invariant-loop-record
 invariant-loop-record l = record {
-  bins : length l.grid.bins.items ≡ l.scale.bins;
-  outages : length l.grid.outages.items ≡ 32 * l.scale.bins;
-  grid : (t : MixedTable) → IsMixedTable t → l.table.text ≡ mixed_table_text t
-      → HasComeOfAny (λ grid es. StandsForGrid grid l.scale [] (group_epochs l.choice l.group es)) l.records l.grid t.epochs;
+  bins : length l.grid.bins.items ≡ l.drawing.scale.bins;
+  outages : length l.grid.outages.items ≡ 32 * l.drawing.scale.bins;
+  grid : (t : MixedTable) → IsMixedTable t → l.drawing.table.now.text ≡ mixed_table_text t
+      → HasComeOfAny (λ grid es. StandsForGrid grid l.drawing.scale [] (group_epochs l.drawing.choice.now l.group es)) l.records l.grid t.epochs;
 }
 
 abbrev pub decreases-loop-record : goal.decreases-loop-record
