@@ -1,6 +1,7 @@
 //! What is drawn in characters of the satellites of a file of any systems, system by system.
 
 ghost use Rattle.std.specs.Prelude.{◌≡◌, ◌≤◌, ◌++◌, length, IfOk, OnOk};
+ghost use Rattle.rtk_rinex.specs.MixedHead.{IsMixedList};
 ghost use Rattle.rtk_chart.specs.Groups.{listed_in, HoldsOfMixed};
 ghost use Rattle.rtk_chart.specs.MixedChart.{no_drawn_numbers, both_numbers, nothing_drawn, with_group, with_group_if_any, system_title, titled_rows, drawn_of_system, then_system, with_drawn_system, drawn_systems};
 ghost use Rattle.rtk_chart.specs.Scale.{IsScale};
@@ -13,7 +14,7 @@ use crate::groups::{Group, Names, SYSTEMS, first_group, letter_of, second_group}
 use crate::never::{never_in_line, put_never_of_system};
 use crate::text_picture::{drawn_before, put_rows};
 use rtk_message::System;
-use rtk_obs::AnyCode;
+use rtk_obs::{AnyCode, any_code_laws};
 use std::alloc::{AllocError, Global};
 
 /// How many satellites are drawn, and how many slips, returns and rises their codes have.
@@ -36,8 +37,8 @@ pub(crate) struct Drawn {
 }
 
 impl DrawnNumbers {
-    // Of no satellite.
-    fn none() -> DrawnNumbers
+    /// Of no satellite.
+    pub(crate) fn none() -> DrawnNumbers
         ensures { result ≡ no_drawn_numbers }
     {
         DrawnNumbers {
@@ -48,8 +49,8 @@ impl DrawnNumbers {
         }
     }
 
-    // Those of a grid.
-    fn of_grid(grid: &Grid) -> DrawnNumbers
+    /// Those of a grid.
+    pub(crate) fn of_grid(grid: &Grid) -> DrawnNumbers
         ensures { result ≡ numbers_of_grid grid.now }
     {
         DrawnNumbers {
@@ -60,8 +61,8 @@ impl DrawnNumbers {
         }
     }
 
-    // These and those of other satellites. Numbers that no file reaches stay at the greatest one of their type.
-    fn and(self, more: DrawnNumbers) -> DrawnNumbers
+    /// These and those of other satellites. Numbers that no file reaches stay at the greatest one of their type.
+    pub(crate) fn and(self, more: DrawnNumbers) -> DrawnNumbers
         ensures { result ≡ both_numbers self more }
     {
         DrawnNumbers {
@@ -149,10 +150,18 @@ impl Drawn {
     }
 }
 
-// The codes of a system, in their order.
-fn listed_in(alloc: Global, system: System, listed: &[AnyCode]) -> Result<Vec<AnyCode>, AllocError>
-    ensures { IfOk result (λ codes. codes.items ≡ listed_in system listed.now) }
+/// The codes of a system, in their order.
+pub(crate) fn listed_in(
+    alloc: Global,
+    system: System,
+    listed: &[AnyCode],
+) -> Result<Vec<AnyCode>, AllocError>
+    requires { IsMixedList listed.now }
+    ensures value { IfOk result (λ codes. codes.items ≡ listed_in system listed.now) }
+    ensures few { IfOk result (λ codes. length codes.items ≤ 16) }
 {
+    // A law: a place belongs to one code of a system, and is below 16.
+    any_code_laws();
     let mut codes = Vec::new(alloc);
     for code in listed {
         if letter_of(code.system()) == letter_of(system) {
@@ -178,7 +187,8 @@ fn put_group(
     ensures { OnOk result (HoldsOfMixed drawing.now.table.now.text (λ es. view_of drawn.new
         ≡ with_group drawing.now.scale width drawing.now.choice.now es codes.now group (view_of drawn.old))) }
 {
-    let grid = fill_group(alloc, drawing, group)?;
+    let mut none = Vec::new(alloc);
+    let grid = fill_group(alloc, drawing, group, &[], &[], &mut none)?;
     drawn.add_grid(width, codes, group.names, &grid)?;
     Ok(())
 }
@@ -237,6 +247,7 @@ fn put_system(
     system: System,
 ) -> Result<(), AllocError>
     requires good { IsScale drawing.now.scale }
+    requires listed { IsMixedList listed.now }
     requires width { 40 ≤ width }
     ensures { OnOk result (HoldsOfMixed drawing.now.table.now.text (λ es. view_of drawn.new
         ≡ with_drawn_system drawing.now.scale width drawing.now.choice.now es listed.now (view_of drawn.old) system)) }
@@ -259,6 +270,7 @@ pub(crate) fn drawn_systems(
     listed: &[AnyCode],
 ) -> Result<Drawn, AllocError>
     requires good { IsScale drawing.now.scale }
+    requires listed { IsMixedList listed.now }
     requires width { 40 ≤ width }
     ensures { IfOk result (λ drawn. HoldsOfMixed drawing.now.table.now.text (λ es. view_of drawn
         ≡ drawn_systems drawing.now.scale width drawing.now.choice.now es listed.now)) }

@@ -277,7 +277,7 @@ def scenes() -> Iterator[Scene]:
         yield Scene(words.split())
     for words in ("check examples/base.rnx", "chart examples/marks.rnx", "chart --text examples/marks.rnx"):
         yield Scene(words.split())
-    for words in ("chart --text mixed", "chart --text --systems EC mixed", "quality mixed"):
+    for words in ("chart mixed", "chart --text mixed", "chart --text --systems EC mixed", "quality mixed"):
         yield Scene(words.split())
     for words in ("quality examples/marks.rnx", "quality --lines examples/marks.rnx", "quality --json examples/marks.rnx"):
         yield Scene(words.split())
