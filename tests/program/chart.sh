@@ -174,7 +174,7 @@ expect none_of_mixed_without_records 3 '' 'rtcm2rinex: none of the chosen satell
 
 # In SVG the names of the systems stand above their bands, and below these the lines of the codes that satellites have nowhere.
 chart mixed
-# pins: svg_title, svg_heading, with_some_bins, systems_svg, ShowsSystemsInSvg
+# pins: drawn_in_order, svg_title, svg_heading, with_some_bins, systems_svg, ShowsSystemsInSvg
 sed -n "s/.*class='system' x='110' y='\([0-9]*\)'>\(.*\)<.*/\1 \2/p" out >got
 printf '%s\n' '134 GPS' '192 GLONASS' '274 Galileo' '332 BeiDou' '390 QZSS' '448 SBAS' '506 NavIC' >want
 same systems_of_mixed_in_svg got want
