@@ -28,17 +28,6 @@ impl Rendered {
             bytes: Vec::new(alloc),
         }
     }
-
-    /// The file has other systems than GPS, and nothing is written.
-    pub(crate) fn other_systems(alloc: Global) -> Rendered
-        ensures answer { result.answer ≡ FileAnswer.OtherSystems }
-        ensures bytes { result.bytes.items ≡ [] }
-    {
-        Rendered {
-            answer: FileAnswer::OtherSystems,
-            bytes: Vec::new(alloc),
-        }
-    }
 }
 
 /// Writes what was made of a text, or says that it could not be made.
