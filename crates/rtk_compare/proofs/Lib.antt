@@ -1,6 +1,7 @@
 pub mod FindingLemmas
 pub mod TrackLemmas
 pub mod CellLemmas
+pub mod SameLemmas
 pub mod CodeLemmas
 pub mod HeaderLemmas
 pub mod RowLemmas

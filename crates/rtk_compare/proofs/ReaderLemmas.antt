@@ -36,6 +36,13 @@ side-counts (Some a) (Some b) Old is = omega arith
 side-counts (Some a) (Some b) New is = omega arith
 side-counts (Some a) (Some b) Both is = omega arith
 
+-- beside itself a reader is next in both files
+pub both-next : (a : Option ℕ) (side : Side) → IsNextSide a a (Some side) → has_old side ≡ has_new side
+both-next None side is = absurd (cc)
+both-next (Some a) Old is = absurd (omega (arith, is))
+both-next (Some a) New is = absurd (omega (arith, is))
+both-next (Some a) Both is = refl
+
 -- ---- rows
 
 next-some : (s : ℕ) (all : List SatelliteRow) (next : SatelliteRow) (observed : List Observed) (left : MixedRowsView) → next.satellite ≡ s → next.observed.items ≡ observed → IsNextRowOf all next left → GivesNextRow (Some s) all (Some left) observed

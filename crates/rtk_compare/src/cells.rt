@@ -1,9 +1,10 @@
 //! What two files show of a satellite and code at one epoch.
 
-ghost use Rattle.std.specs.Prelude.{◌≡◌, ◌&&◌, ◌∷◌, not, List};
+ghost use Rattle.std.specs.Prelude.{◌≡◌, ◌&&◌, ◌∷◌, not, pos, IsTrue, List};
 ghost use Rattle.rtk_rinex.specs.declared.epoch_table.Observed.{Observed};
 ghost use Rattle.rtk_compare.specs.Pairs.{Pair};
 ghost use Rattle.rtk_compare.specs.Distances.{distances_of};
+ghost use Rattle.rtk_compare.specs.Phases.{rolls_held};
 ghost use Rattle.rtk_compare.specs.Cells.{is_gone, is_other_number, have_phases, gone_lines, value_lines, gone_slip_lines, slip_lines, half_lines, shift_lines, cell_lines};
 ghost use Rattle.rtk_compare.specs.Differences.{Adds};
 ghost use Rattle.rtk_compare.specs.Steps.Tracks.{IsTrackOf, pair, lines_if_told};
@@ -173,9 +174,8 @@ fn tell_cell(
     }
 }
 
-/// Adds the differences of a cell, if there is a place to tell them at, and notes the cell. Both files show Doppler
-/// shifts, or not.
-pub(crate) fn compare_cell(
+// Does what `compare_cell` does, whatever both files show.
+fn compare_other_cell(
     track: &mut Track,
     shifts: bool,
     old: &Observed,
@@ -192,4 +192,41 @@ pub(crate) fn compare_cell(
     let distances = Distances::of(old, new, rolls, held);
     tell_cell(track, &distances, shifts, old, new, place, findings);
     track.note(old, new, held);
+}
+
+// Are all values and marks the same?
+fn is_same(old: &Observed, new: &Observed) -> bool
+    ensures { IsTrue result → old.now ≡ new.now }
+{
+    old == new
+}
+
+// Do both files show the same, after phases that do not differ by rolls?
+fn shows_same(track: &Track, old: &Observed, new: &Observed) -> bool
+    ensures same { IsTrue result → old.now ≡ new.now }
+    ensures rolls { (earlier : List (Pair Observed)) → IsTrackOf track.now earlier → IsTrue result → rolls_held earlier ≡ pos 0 }
+{
+    track.rolls == 0 && is_same(old, new)
+}
+
+/// Adds the differences of a cell, if there is a place to tell them at, and notes the cell. Both files show Doppler
+/// shifts, or not.
+pub(crate) fn compare_cell(
+    track: &mut Track,
+    shifts: bool,
+    old: &Observed,
+    new: &Observed,
+    place: &Option<Place>,
+    findings: &mut Findings,
+)
+    ensures lines { (earlier : List (Pair Observed)) → IsTrackOf track.old earlier
+        → Adds findings.old findings.new (lines_if_told shifts place.now earlier (pair old.now new.now)) }
+    ensures track { (earlier : List (Pair Observed)) → IsTrackOf track.old earlier → IsTrackOf track.new (pair old.now new.now ∷ earlier) }
+{
+    // Most cells are of this kind, and nothing is told of them.
+    if shows_same(track, old, new) {
+        track.note(old, new, 0);
+    } else {
+        compare_other_cell(track, shifts, old, new, place, findings);
+    }
 }

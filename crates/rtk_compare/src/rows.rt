@@ -1,6 +1,6 @@
 //! The rows of two records side by side.
 
-ghost use Rattle.std.specs.Prelude.{◌≡◌, ◌<◌, ◌≤◌, ◌*◌, ◌∷◌, ℕ, List, length, get_or, set, IfSome, IfNone, Some};
+ghost use Rattle.std.specs.Prelude.{◌≡◌, ◌<◌, ◌≤◌, ◌*◌, ◌∷◌, ℕ, List, length, get_or, set, IfSome, IfNone, Some, IsTrue};
 ghost use Rattle.rtk_rinex.specs.declared.epoch_table.Observed.{Observed};
 ghost use Rattle.rtk_rinex.specs.declared.epoch_table.SatelliteRow.{SatelliteRow};
 ghost use Rattle.rtk_tracking.specs.Epochs.{shown_at};
@@ -232,8 +232,8 @@ fn compare_next(
     }
 }
 
-/// Compares the rows of two records. Their differences are added if there is a time.
-pub(crate) fn compare_rows(
+// Compares the rows of two records one after another. Their differences are added if there is a time.
+fn compare_each_row(
     shared: &SharedCodes,
     tracks: &mut [Track],
     old: Option<MixedRows<'_>>,
@@ -252,5 +252,58 @@ pub(crate) fn compare_rows(
     while let Some(side) = compare_next(shared, tracks, &olds, &news, time, findings) {
         olds.advance_if(side.has_old());
         news.advance_if(side.has_new());
+    }
+}
+
+// Compares the rows of one record with themselves, since both files have its lines. What comes of it is added if there is
+// a time.
+fn compare_same_rows(
+    shared: &SharedCodes,
+    tracks: &mut [Track],
+    rows: Option<MixedRows<'_>>,
+    time: &Option<GpsMs>,
+    findings: &mut Findings,
+)
+    requires tracks { AreTracks tracks.old }
+    ensures size { AreTracks tracks.new }
+    ensures compared { (codes : ℕ → List SharedCode) (earlier : List (List (Pair SatelliteRow))) (olds news : List SatelliteRow)
+        → HasShared shared.now codes → AreTracksOf tracks.old codes earlier → AreRowsOf rows.entry olds → AreRowsOf rows.entry news → Rise olds → Rise news
+        → ComparesRows time.now codes earlier (side_by_side by_satellite olds news) findings.old findings.new tracks.new }
+{
+    let mut both = RowReader::of(rows);
+    while let Some(side) = compare_next(shared, tracks, &both, &both, time, findings) {
+        both.advance_if(side.has_old());
+    }
+}
+
+// Have two records the same lines, in files of the same form?
+fn have_same_rows(old: &Option<MixedRows<'_>>, new: &Option<MixedRows<'_>>) -> bool
+    ensures { IsTrue result → (rows : List SatelliteRow) → AreRowsOf new.now rows → AreRowsOf old.now rows }
+{
+    match (old, new) {
+        (Some(old), Some(new)) => old.has_rows_of(new),
+        _ => false,
+    }
+}
+
+/// Compares the rows of two records. Their differences are added if there is a time.
+pub(crate) fn compare_rows(
+    shared: &SharedCodes,
+    tracks: &mut [Track],
+    old: Option<MixedRows<'_>>,
+    new: Option<MixedRows<'_>>,
+    time: &Option<GpsMs>,
+    findings: &mut Findings,
+)
+    requires tracks { AreTracks tracks.old }
+    ensures size { AreTracks tracks.new }
+    ensures compared { (codes : ℕ → List SharedCode) (earlier : List (List (Pair SatelliteRow))) (olds news : List SatelliteRow)
+        → HasShared shared.now codes → AreTracksOf tracks.old codes earlier → AreRowsOf old.entry olds → AreRowsOf new.entry news → Rise olds → Rise news
+        → ComparesRows time.now codes earlier (side_by_side by_satellite olds news) findings.old findings.new tracks.new }
+{
+    if have_same_rows(&old, &new) {
+        compare_same_rows(shared, tracks, old, time, findings);
+    } else {
+        compare_each_row(shared, tracks, old, new, time, findings);
     }
 }

@@ -1,36 +1,5 @@
-use Rattle.rtk_compare.specs.Pairs.{side_by_side, by_satellite}
-use Rattle.rtk_compare.proofs.ReaderLemmas.{rows-good, fewer-rows}
-use Rattle.rtk_compare.proofs.RowsLemmas.{compared-begin, compared-more, compared-all, goes-on}
 use Rattle.rtk_compare.proofs.rows.compare_rows.Goals as goal
 
-pub loop-side-init : goal.loop-side-init
-loop-side-init c = record {
-  size = c.requires.tracks;
-  compared = λ codes earlier olds news shared tracks old new old_rise new_rise.
-      compared-begin c.args.time.now codes earlier c.args.findings.now c.args.tracks.now c.of-olds.result c.of-news.result olds news (rows-good _ olds old) (rows-good _ news new) old_rise new_rise tracks
-      (c.of-olds.ensures olds old) (c.of-news.ensures news new);
-}
-
-pub loop-side-preserved : goal.loop-side-preserved
-loop-side-preserved c =
-    let l = c.loop-side in
-    record {
-      size = c.compare_next.ensures.size;
-      compared = λ codes earlier olds news shared tracks old new old_rise new_rise.
-          compared-more c.args.time.now codes earlier (side_by_side by_satellite olds news) c.args.findings.now l.findings c.compare_next.new.findings l.tracks c.compare_next.new.tracks c.in-Some.side l.olds l.news
-          c.advance_if.new.self c.advance_if-in-Some.new.self (λ s. shared.few s) (l.invariant.compared codes earlier olds news shared tracks old new old_rise new_rise) c.in-Some.ensures.side
-          (c.in-Some.ensures.lines codes earlier shared) (c.in-Some.ensures.tracks codes shared)
-          (goes-on l.olds c.advance_if.new.self _ _ c.has_old.ensures c.advance_if.ensures.next c.advance_if.ensures.same)
-          (goes-on l.news c.advance_if-in-Some.new.self _ _ c.has_new.ensures c.advance_if-in-Some.ensures.next c.advance_if-in-Some.ensures.same);
-    }
-
-pub loop-side-smaller : goal.loop-side-smaller
-loop-side-smaller c =
-    fewer-rows c.in-Some.side c.loop-side.olds c.loop-side.news c.advance_if.new.self c.advance_if-in-Some.new.self c.has_old.result c.has_new.result c.in-Some.ensures.side c.has_old.ensures c.has_new.ensures
-    c.advance_if.ensures.less c.advance_if-in-Some.ensures.less
-
-pub returns-clause-compared : goal.returns-clause-compared
-returns-clause-compared c = λ codes earlier olds news shared tracks old new old_rise new_rise.
-    let l = c.loop-side in
-    compared-all c.args.time.now codes earlier (side_by_side by_satellite olds news) c.args.findings.now l.findings c.compare_next.new.findings l.tracks c.compare_next.new.tracks l.olds l.news
-    (l.invariant.compared codes earlier olds news shared tracks old new old_rise new_rise) c.in_default.ensures.side c.in_default.ensures.end.0 c.in_default.ensures.end.1
+pub returns-then-have_same_rows-clause-compared : goal.returns-then-have_same_rows-clause-compared
+returns-then-have_same_rows-clause-compared c = λ codes earlier olds news shared tracks old new old_rise new_rise.
+    c.compare_same_rows.ensures.compared codes earlier olds news shared tracks old (c.have_same_rows.ensures c.if-have_same_rows.true news new) old_rise new_rise
