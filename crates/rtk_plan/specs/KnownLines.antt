@@ -4,13 +4,8 @@ use Rattle.std.specs.Borrow.{Bor}
 use Rattle.std.specs.List.{list_any, sum_by}
 use Rattle.std.specs.Option.{is_none}
 use Rattle.rtk_message.specs.declared.accepted.Accepted.{Accepted}
-use Rattle.rtk_message.specs.declared.msm_kind.MsmKind.{MsmKind}
-use Rattle.rtk_message.specs.declared.system.System.{System}
-use Rattle.rtk_message.specs.declared.system.System.TheVariants.{Gps, Glonass, Galileo, Beidou, Qzss, Sbas, Navic}
-use Rattle.rtk_obs.specs.AnyCode.{system_of, place_of}
-use Rattle.rtk_obs.specs.Code.{name_of, all_codes}
+use Rattle.rtk_message.specs.declared.system.System.TheVariants.{Sbas}
 use Rattle.rtk_obs.specs.declared.any_code.AnyCode.{AnyCode}
-use Rattle.rtk_obs.specs.declared.code.Code.{Code}
 use Rattle.rtk_setup.specs.Setup.{SetupView, taken_by, takes_1004, lists_system}
 use Rattle.rtk_survey.specs.CaptureDates.{counting}
 use Rattle.rtk_survey.specs.Counting.{shown_count}
@@ -26,7 +21,7 @@ use Rattle.rtk_captures.specs.CaptureNames.{capture_name, lines_by}
 use Rattle.rtk_systems.specs.ClockOffsets.{told_clock_lines}
 use Rattle.rtk_plan.specs.ClockNotes.{all_clock_notes}
 use Rattle.rtk_systems.specs.DopplerLines.{doppler_lines_unless}
-use Rattle.rtk_plan.specs.FewPhases.{has_few_phases}
+use Rattle.rtk_plan.specs.FewPhases.{has_few_phases_of}
 use Rattle.rtk_plan.specs.LeapLines.{leap_lines}
 use Rattle.rtk_plan.specs.LeftOut.{left_out_lines}
 use Rattle.rtk_plan.specs.Plan.{taken_messages}
@@ -36,6 +31,7 @@ use Rattle.rtk_captures.specs.Lists.{date_line, to_come_line, undated_line, stra
 use Rattle.rtk_systems.specs.MessageLines.{obs_1004_line, msm_lines, sbas_line, all_unread}
 use Rattle.rtk_captures.specs.Positions.{no_position_line}
 use Rattle.rtk_plan.specs.Reported.{late_of}
+use Rattle.rtk_plan.specs.SaidCommand.{said_code}
 use Rattle.rtk_captures.specs.SpanLine.{span_line}
 use Rattle.rtk_captures.specs.StationCaptures.{dates_in, weeks_passed_over, others_passed_over, to_come_told}
 use Rattle.rtk_captures.specs.WaitingDates.{dates_without_epoch}
@@ -43,6 +39,7 @@ use Rattle.rtk_plan.specs.OtherEquipment.{equipment_notes}
 use Rattle.rtk_systems.specs.ToldChannels.{told_channel_lines}
 use Rattle.rtk_systems.specs.UncheckedSystems.{unchecked_system_lines}
 use Rattle.rtk_systems.specs.Values.{is_1012_given}
+use Rattle.rtk_systems.specs.declared.values.TakenMessages.{TakenMessages}
 use Rattle.rtk_plan.specs.WrittenFile.{written_span, gap_lines}
 use Rattle.rtk_plan.specs.declared.known_lines.Known.{Known}
 use Rattle.rtk_plan.specs.declared.planning.Plan.{Plan}
@@ -135,33 +132,16 @@ undated_lines (OtherEphemerides number) names cs = all_undated names cs
 
 -- formula
 -- a code whose satellites have more than twice as many phases in another one
-abbrev pub few_phases_line_if : Bool → Code → List ℕ
+abbrev pub few_phases_line_if : Bool → AnyCode → List ℕ
 few_phases_line_if has_few code =
-    if has_few then codes " few-phases " ++ name_of code ++ codes ": its satellites have more than twice as many in another code\n" else []
+    if has_few then codes " few-phases " ++ said_code code ++ codes ": its satellites have more than twice as many in another code\n" else []
 
-unfoldable pub few_phases_line : List CaptureSurvey → ℕ → MsmKind → Code → List ℕ
-few_phases_line ss station kind code = few_phases_line_if (has_few_phases ss station kind code) code
+-- the line of a listed code
+unfoldable pub few_phases_line : List CaptureSurvey → ℕ → TakenMessages → AnyCode → List ℕ
+few_phases_line ss station taken c = few_phases_line_if (has_few_phases_of ss station taken c) c
 
--- the code of GPS at a place among the codes of a system, if the system is GPS
-abbrev pub code_of_system : System → ℕ → Option Code
-code_of_system Gps place = slice_get all_codes place
-code_of_system Glonass place = None
-code_of_system Galileo place = None
-code_of_system Beidou place = None
-code_of_system Qzss place = None
-code_of_system Sbas place = None
-code_of_system Navic place = None
-
-abbrev pub few_phases_line_if_any : List CaptureSurvey → ℕ → MsmKind → Option Code → List ℕ
-few_phases_line_if_any ss station kind None = []
-few_phases_line_if_any ss station kind (Some code) = few_phases_line ss station kind code
-
--- the line of a listed code, if it is one of GPS
-unfoldable pub few_phases_line_at : List CaptureSurvey → ℕ → MsmKind → AnyCode → List ℕ
-few_phases_line_at ss station kind c = few_phases_line_if_any ss station kind (code_of_system (system_of c) (place_of c))
-
-abbrev pub few_phases_lines : List CaptureSurvey → ℕ → MsmKind → List AnyCode → List ℕ
-few_phases_lines ss station kind cs = flat_map (few_phases_line_at ss station kind) cs
+abbrev pub few_phases_lines : List CaptureSurvey → ℕ → TakenMessages → List AnyCode → List ℕ
+few_phases_lines ss station taken cs = flat_map (few_phases_line ss station taken) cs
 
 -- the captures at these places, which have the stray epoch
 abbrev pub stray_lines : List (Bor (List ℕ)) → ℕ → List ℕ → List ℕ
@@ -184,7 +164,7 @@ lines_before_late names ss plan told =
     undated_notes names ss plan
     ++ all_other_dates names plan.setup.station plan.setup.near ss
     ++ clock_lines_of names ss plan
-    ++ few_phases_lines ss plan.setup.station plan.setup.kinds.gps plan.setup.head.listed
+    ++ few_phases_lines ss plan.setup.station (taken_messages plan.setup) plan.setup.head.listed
     ++ told_channel_lines ss plan.setup.station (taken_messages plan.setup) plan.own_channels plan.setup.head.glonass
     ++ equipment_notes names ss plan.setup.station told
     ++ stray_lines names plan.span.until plan.strays.items
