@@ -247,6 +247,9 @@ def date_lines(found: Found, asked: Asked, texts: list[bytes]) -> list[str]:
     lines = []
     if asked.wanted.near is None:
         lines += [f" undated {name_of(at)}: dated near the others" for at, epochs in zip(kept, found.epochs) if epochs and not told[at]]
+    for at in range(len(texts)):
+        lines += [f" undated {name_of(at)}: dated near the others"] * (at in found.unnamed)
+        lines += [f" time-falls {name_of(at)}"] * (at in found.falling)
     firsts = [epochs[0] if epochs else found.near for epochs in found.epochs]
     for at, first in zip(kept, firsts):
         lines += [f" other-date{date_text(it.fields, it.first, name_of(at))}" for it in told[at] + passed[at] if it.first != first]
