@@ -15,7 +15,7 @@ use Rattle.rtk_systems.specs.declared.values.TakenMessages.{TakenMessages}
 abbrev pub is_own_field : List CaptureSurvey → ℕ → ℕ → ℕ → Bool
 is_own_field ss n slot field = nat_lt 0 (own_count ss n slot field)
 
-abbrev pub is_own_told : List CaptureSurvey → ℕ → ℕ → Bool
+unfoldable pub is_own_told : List CaptureSurvey → ℕ → ℕ → Bool
 is_own_told ss n slot = list_any (is_own_field ss n slot) told_fields
 
 -- constant
@@ -27,16 +27,20 @@ abbrev pub is_told_by : List CaptureSurvey → ℕ → List (Option ℤ) → ℕ
 is_told_by ss n own slot channel field = is_field_told ss n own slot field && is_channel_of_field channel field
 
 -- messages tell this channel of a slot
-abbrev pub is_channel_told : List CaptureSurvey → ℕ → List (Option ℤ) → ℕ → Option ℤ → Bool
+unfoldable pub is_channel_told : List CaptureSurvey → ℕ → List (Option ℤ) → ℕ → Option ℤ → Bool
 is_channel_told ss n own slot channel = list_any (is_told_by ss n own slot channel) told_fields
 
--- a slot has a value, and MSM or 1012 of the station tell channels of it, but no message tells this one
+-- MSM or 1012 of the station tell channels of a slot, but no message tells this one
+abbrev pub tells_others : List CaptureSurvey → ℕ → List (Option ℤ) → ℕ → Option ℤ → Bool
+tells_others ss n own slot channel = is_own_told ss n slot && not (is_channel_told ss n own slot channel)
+
+-- the same of a slot that has a value
 abbrev pub is_other_told : List CaptureSurvey → ℕ → TakenMessages → List (Option ℤ) → ℕ → ℤ → Bool
 is_other_told ss n taken own slot channel =
-    nat_lt slot 28 && (is_slot_given ss n taken slot && (is_own_told ss n slot && not (is_channel_told ss n own slot (Some channel))))
+    nat_lt slot 28 && (is_slot_given ss n taken slot && tells_others ss n own slot (Some channel))
 
 -- formula
-abbrev pub own_channel : List CaptureSurvey → ℕ → ℕ → ℕ → List ℕ
+unfoldable pub own_channel : List CaptureSurvey → ℕ → ℕ → ℕ → List ℕ
 own_channel ss n slot field = if is_own_field ss n slot field then 32 ∷ field_channel_text field else []
 
 -- formula

@@ -40,7 +40,7 @@ abbrev pub channels_told_of : List CaptureSurvey → ℕ → List (Option ℤ) �
 channels_told_of ss n own slot = shown_count (sum_by (count_if_told ss n own slot) told_fields)
 
 -- formula
-abbrev pub told_channel : List CaptureSurvey → ℕ → List (Option ℤ) → ℕ → ℕ → List ℕ
+unfoldable pub told_channel : List CaptureSurvey → ℕ → List (Option ℤ) → ℕ → ℕ → List ℕ
 told_channel ss n own slot field = if is_field_told ss n own slot field then 32 ∷ field_channel_text field else []
 
 -- formula

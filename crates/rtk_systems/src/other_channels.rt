@@ -21,6 +21,7 @@ fn is_own_field(surveys: &[CaptureSurvey], station: u16, slot: u8, field: u8) ->
 }
 
 // Do messages of the station tell a channel of a slot?
+#[tactic(auto, unfolding(crate::specs::OtherChannels::is_own_told))]
 fn is_own_told(surveys: &[CaptureSurvey], station: u16, slot: u8) -> bool
     ensures { result ≡ spec.is_own_told surveys.now station slot }
 {
@@ -54,6 +55,7 @@ fn is_told_by(
 }
 
 // Do messages tell this channel of a slot?
+#[tactic(auto, unfolding(crate::specs::OtherChannels::is_channel_told))]
 fn is_channel_told(
     surveys: &[CaptureSurvey],
     station: u16,
@@ -66,7 +68,20 @@ fn is_channel_told(
     FIELDS.iter().any(|field| is_told_by(surveys, station, own, slot, channel, *field))
 }
 
-// Has a slot a value, and do messages of the station tell channels of it, but none this one?
+// Do messages of the station tell channels of a slot, but none this one?
+fn tells_others(
+    surveys: &[CaptureSurvey],
+    station: u16,
+    own: &Channels,
+    slot: u8,
+    channel: Option<i8>,
+) -> bool
+    ensures { result ≡ spec.tells_others surveys.now station own.now slot channel }
+{
+    is_own_told(surveys, station, slot) && !is_channel_told(surveys, station, own, slot, channel)
+}
+
+// The same of a slot that has a value.
 fn is_other_told(
     surveys: &[CaptureSurvey],
     station: u16,
@@ -79,10 +94,10 @@ fn is_other_told(
 {
     slot < 28
         && is_slot_given(surveys, station, taken, slot)
-        && is_own_told(surveys, station, slot)
-        && !is_channel_told(surveys, station, own, slot, Some(channel.number()))
+        && tells_others(surveys, station, own, slot, Some(channel.number()))
 }
 
+#[tactic(auto, unfolding(crate::specs::OtherChannels::own_channel))]
 fn put_own_channel(
     lines: &mut Vec<u8>,
     surveys: &[CaptureSurvey],

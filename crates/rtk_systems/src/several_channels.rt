@@ -85,6 +85,7 @@ fn channels_told_of(surveys: &[CaptureSurvey], station: u16, own: &Channels, slo
     told_among(surveys, station, own, slot, &FIELDS)
 }
 
+#[tactic(auto, unfolding(crate::specs::SeveralChannels::told_channel))]
 fn put_told_channel(
     lines: &mut Vec<u8>,
     surveys: &[CaptureSurvey],
