@@ -6,6 +6,7 @@ pub mod KnownLines
 pub mod LabelCommand
 pub mod Laws
 pub mod LeapLines
+pub mod LeftOut
 pub mod Near1012
 pub mod OtherEquipment
 pub mod Plan

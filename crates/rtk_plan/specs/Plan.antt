@@ -1,5 +1,5 @@
 -- What a conversion is told, by the surveys of captures and by what words say (this project's rule).
-use Rattle.std.specs.Prelude.{◌≡◌, ℕ, Bool, ◌&&◌, is_some, List, Option, None, Some, unwrap_or, if◌then◌else◌}
+use Rattle.std.specs.Prelude.{◌≡◌, ℕ, Bool, ◌&&◌, is_none, is_some, List, Option, None, Some, unwrap_or, if◌then◌else◌}
 use Rattle.std.specs.declared.vec.Vec.{Vec}
 use Rattle.rtk_message.specs.declared.msm_kind.MsmKind.{MsmKind}
 use Rattle.rtk_obs.specs.declared.any_code.AnyCode.{AnyCode}
@@ -74,6 +74,10 @@ abbrev pub AreLeapSecondsOf : List CaptureSurvey → Wanted → ℕ → ℕ → 
 AreLeapSecondsOf ss w station near seconds =
     (span : DatedSpan) × IsSpanOf w.near (captures_of ss station) station span
     × AreSecondsOfSetup w.leap_seconds (asks_glonass w.codes w.systems) ss station near span.from span.until seconds
+
+-- the leap seconds of a setup were found by the clocks of GLONASS: it has some, and none are given
+abbrev pub seconds_are_found : Option ℕ → Option ℕ → Bool
+seconds_are_found given seconds = is_none given && is_some seconds
 
 -- the leap seconds by which clocks are compared: those of the setup, else those of the table, near the first moment
 abbrev pub AreSecondsCompared : Option ℕ → List StationCapture → Option ℕ → ClockSeconds → Type 0

@@ -10,7 +10,8 @@ ghost use Rattle.rtk_systems.specs.ToldChannels.{told_channel_lines};
 
 use crate::capture_lines::{put_epochs, put_other_dates, put_skipped, put_strays, put_undated};
 use crate::clock_notes::put_all_clock_notes;
-use crate::leap_lines::put_other_leap_in;
+use crate::leap_lines::put_leap_in;
+use crate::left_out::put_left_out;
 use crate::other_equipment::put_equipment_notes;
 use crate::phase_lines::put_few_phases_in;
 use crate::planning::Plan;
@@ -118,8 +119,8 @@ fn late_on_links(reported: &Reported, links: &[usize]) -> u64
     count
 }
 
-// Appends the systems of a plan whose clocks differ from those of their chains, those of which no clock is compared, and
-// the captures that tell other leap seconds.
+// Appends the systems of a plan whose clocks differ from those of their chains, those of which no clock is compared, the
+// captures that tell other leap seconds, and leap seconds that were found.
 fn put_clocks_in(
     alloc: Global,
     lines: &mut Vec<u8>,
@@ -141,7 +142,7 @@ fn put_clocks_in(
         &plan.leap_seconds,
     )?;
     put_unchecked(lines, setup, surveys, station)?;
-    put_other_leap_in(lines, captures, setup)?;
+    put_leap_in(lines, captures, plan)?;
     Ok(())
 }
 
@@ -288,13 +289,14 @@ fn put_last_lines(
     put_captures_in(lines, captures, plan)?;
     let is_long = leaves_long(captures.surveys, plan);
     put_not_taken_in(lines, captures.surveys, is_long, &plan.setup)?;
+    put_left_out(lines, captures, plan)?;
     Ok(())
 }
 
 /// What a person should know of a conversion, a line each, only where it is so: captures that are dated near
 /// the others; a date that is told and does not count; systems whose clocks differ from those of their chains, or of which no clock is compared; captures that tell other leap seconds; codes with few phases; channels of GLONASS that many slots have, or one has several of, and satellites without one; texts
 /// that messages told and that a label does not have; captures that told another antenna or receiver; captures with a stray epoch, that are left out, that have no epoch or whose time falls;
-/// and observations that are not taken.
+/// observations that are not taken; frames that can't be read; systems with cells without a name; and captures that tell another position.
 pub fn what_is_known(
     alloc: Global,
     captures: &Captures<'_, '_>,

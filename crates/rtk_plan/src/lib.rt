@@ -83,6 +83,7 @@ mod known_lines;
 mod label_command;
 mod laws;
 mod leap_lines;
+mod left_out;
 mod near_1012;
 mod other_equipment;
 mod phase_lines;

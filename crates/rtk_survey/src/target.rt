@@ -3,6 +3,7 @@
 
 ghost use Rattle.std.specs.Prelude.{◌≡◌, ◌≢◌, ℕ, List, [], ◌∷◌, length, Option, Some, Ok, Err, true, OnOk};
 ghost use Rattle.rtk_bits.specs.Bits.{bits};
+ghost use Rattle.rtk_message.specs.AnyDecoded.{IsValid};
 ghost use Rattle.rtk_message.specs.declared.any_message.AnyMessage.{AnyMessage};
 ghost use Rattle.rtk_message.specs.declared.any_fault.AnyFault.{AnyFault};
 ghost use Rattle.rtk_message.specs.AnyDecoded.{station_of};
@@ -22,7 +23,7 @@ use crate::capture_dates::CaptureDates;
 use crate::clock_spans::{
     FollowedTime, StationClocks, followed_with_value, no_clocks_followed, take_followed_time,
 };
-use crate::date_message::{DateMessage, UtcDate, date_in};
+use crate::date_message::{DateMessage, date_in};
 use crate::dating_systems::DatingSystems;
 use crate::equipment_message::{EquipmentMessage, equipment_in};
 use crate::parting::Parting;
@@ -30,7 +31,9 @@ use crate::phases::Phases;
 use crate::signals::have_value;
 use crate::span::Span;
 use crate::system_msm::gives_value;
-use crate::telling::is_to_come;
+use crate::system_phases::SystemPhases;
+use crate::tellings::Told;
+use crate::to_come::told_to_come;
 use rtk_message::AnyMessage;
 use rtk_obs::{CellEntry, GpsMs, SignalEntry};
 use std::alloc::{AllocError, Global};
@@ -78,10 +81,13 @@ pub struct TargetSurvey {
     pub equipment: EquipmentTimes,
     /// Where a second date begins.
     pub parting: Parting,
-    /// The date of the first 1013 or 1029, of any station, that is passed over since it is to come.
-    pub to_come: Option<UtcDate>,
+    /// The first message with a date, of any station, that is passed over since it is to come, with the moment that it
+    /// names.
+    pub to_come: Option<Told>,
     /// How far the clocks of GLONASS and BeiDou of each station go.
     pub clocks: BTreeMap<u16, StationClocks>,
+    /// Its phases of other systems than GPS.
+    pub system_phases: SystemPhases,
 }
 
 // Has a message with these cells an observation of GPS?
@@ -197,15 +203,11 @@ impl EquipmentTimes {
 }
 
 // The first date that is to come: one that was told before, or else this one.
-fn first_to_come(
-    now: GpsMs,
-    before: Option<UtcDate>,
-    message: Option<DateMessage>,
-) -> Option<UtcDate>
+fn first_to_come(now: GpsMs, before: Option<Told>, message: Option<DateMessage>) -> Option<Told>
     ensures { result ≡ spec.first_to_come now before message }
 {
     match (before, message) {
-        (None, Some(DateMessage::Utc(date))) if is_to_come(now, date) => Some(date),
+        (None, Some(message)) => told_to_come(now, &message),
         _ => before,
     }
 }
@@ -305,6 +307,7 @@ impl TargetSurvey {
             parting: Parting::new(),
             to_come: None,
             clocks: no_clocks_followed(alloc),
+            system_phases: SystemPhases::new(alloc, target.station),
         }
     }
 
@@ -317,6 +320,7 @@ impl TargetSurvey {
         signals: &[SignalEntry],
         frame: u64,
     ) -> Result<(), AllocError>
+        requires valid { IsValid message.now }
         requires entries { entries.now ≡ entries_of_message message.now }
         requires signals { signals.now ≡ cells_beside_gps message.now }
         ensures { OnOk result ((q : Target) (fs : List ReadFrame) (payload : List ℕ) → frame ≡ shown_count (length fs)
@@ -327,6 +331,7 @@ impl TargetSurvey {
         take_message(&mut self.dates, self.present, message, entries, signals);
         self.parting
             .take_epochs(before, self.dates.capture.span, frame);
+        self.system_phases.count_phases(alloc, message, signals)?;
         take_phases(
             alloc,
             &mut self.phases,
@@ -343,6 +348,7 @@ impl TargetSurvey {
         ensures to_come { self.new.to_come ≡ spec.first_to_come self.old.present self.old.to_come message }
         ensures others { (self.new.present ≡ self.old.present) × (self.new.phases ≡ self.old.phases) × (self.new.equipment ≡ self.old.equipment)
             × (self.new.clocks ≡ self.old.clocks) }
+        ensures system_phases { self.new.system_phases ≡ self.old.system_phases }
     {
         self.to_come = first_to_come(self.present, self.to_come, message);
         let (station, capture) = (self.dates.station, &self.dates.capture);
@@ -380,6 +386,7 @@ pub(crate) fn take_target_message(
     signals: &[SignalEntry],
     frame: u64,
 ) -> Result<(), AllocError>
+    requires valid { IsValid message.now }
     requires entries { entries.now ≡ entries_of_message message.now }
     requires signals { signals.now ≡ cells_beside_gps message.now }
     ensures { OnOk result ((q : Option Target) (fs : List ReadFrame) (payload : List ℕ) → frame ≡ shown_count (length fs)

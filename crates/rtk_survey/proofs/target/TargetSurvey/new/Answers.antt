@@ -11,4 +11,5 @@ returns c = record {
   parting = c.new-4.ensures;
   to_come = refl;
   clocks = c.no_clocks_followed.ensures;
+  system_phases = c.new-5.ensures;
 }

@@ -32,4 +32,5 @@ returns c = on-ok c.take_phases.result (λ took q fs payload count is.
           c.in_ok-take_clock_time.ensures n
           ∙ ap (λ (s : StationClocks). with_time_for_if_any n k (epochs_if_known k old.dates) (followed_with_value m) s) (is.clocks n)
           ∙ ap (λ (d : TargetDates). with_time_for_if_any n k (epochs_if_known k d) (followed_with_value m) (clocks_in q fs n)) is.dates;
+      system_phases = c.in_ok-count_phases.ensures q.station (messages_in fs) is.system_phases;
     }) c.take_phases.ensures
