@@ -97,7 +97,7 @@ def told_moment(now: int, fields: Fields, tow: int) -> int | None:
     day, second = fields["day"], fields["second"]
     if day < FIRST_DAY + 7 or second > 86_400 or day > FIRST_DAY + now // DAY_MS + 1:
         return None
-    at = DAY_MS * (day - FIRST_DAY) + 1000 * second
+    at = utc_moment(fields)
     # within half a week, and of two alike the later
     [told] = [it for it in moments_around(at, tow) if -HALF_WEEK_MS < it - at <= HALF_WEEK_MS]
     return told
@@ -183,10 +183,14 @@ class Capture(NamedTuple):
         """Whether a message of it came, be it one with observations, with a position, with a date, or with an antenna."""
         return station in self.equipped or any(it.get("station") == station for it in map(fields_of, self.read))
 
-    def points(self, station: int) -> list[tuple[int, ...]]:
-        """The first position of the station, and the first one that is far from it. Zeros are none."""
+    def positions(self, station: int) -> list[tuple[int, ...]]:
+        """All positions that the station tells. Zeros are none."""
         points = [tuple(it.header[axis] for axis in "xyz") for it in self.of_station(station) if "x" in it.header]
-        known = [it for it in points if any(it)]
+        return [it for it in points if any(it)]
+
+    def points(self, station: int) -> list[tuple[int, ...]]:
+        """The first of them, and the first one that is far from it."""
+        known = self.positions(station)
         return [*known[:1], *[it for it in known if dist(it, known[0]) > METRES_100][:1]]
 
     def times(self, station: int) -> list[int]:
@@ -208,6 +212,17 @@ class Told(NamedTuple):
 
 WAITING = 64  # how many messages before the first epoch are looked at,
 WAITING_WEEKS = 16  # and how many 1042, 1045 and 1046 beside them
+
+
+def dates_beside(capture: Capture, station: int) -> list[tuple[Fields, int]]:
+    """The messages that are looked at, each with the time of week of the last epoch before it, or else of the first one."""
+    times = capture.times(station)
+    beside, epochs, waits = [], 0, {at for at, _ in waiting_in(capture)}
+    for place, entry in enumerate(capture.read):
+        epochs += capture.observes(station, entry)
+        if not isinstance(entry, Message) and times and (epochs > 0 or place in waits):
+            beside.append((entry, times[max(epochs - 1, 0)]))
+    return beside
 
 
 def tellings(now: int, capture: Capture, station: int) -> list[Told]:
@@ -377,14 +392,42 @@ def moment_named(now: int, fields: Fields) -> int | None:
     """That of its day and second, or the reference time of an ephemeris in its week."""
     if "toe" in fields:
         return told_moment(now, fields, reference_time(fields)) if reference_time(fields) < WEEK_MS else None
-    at = DAY_MS * (fields["day"] - FIRST_DAY) + 1000 * fields["second"]
-    return None if told_moment(now, fields, 0) is None else at
+    return None if told_moment(now, fields, 0) is None else utc_moment(fields)
 
 
-def first_to_come(now: int, capture: Capture) -> Fields | None:
-    """The first 1013 or 1029 whose day is more than one day after that of the present, which is why it tells nothing."""
-    dates = [it for it in capture.read if not isinstance(it, Message) and "day" in it]
-    return next((it for it in dates if it["day"] > FIRST_DAY + max(6, now // DAY_MS + 1) and it["second"] <= 86_400), None)
+# pins: ephemeris_to_come, system_week_to_come
+def to_come(now: int, fields: Fields) -> int | None:
+    """The moment that a message names, if it tells nothing because that is to come: a day more than one after that of the present,
+    or a week after that of the present."""
+    if "day" in fields:
+        is_after = fields["day"] > FIRST_DAY + max(6, now // DAY_MS + 1) and fields["second"] <= 86_400
+        return utc_moment(fields) if is_after else None
+    _, _, apart, first = OTHER_EPHEMERIDES.get(fields["number"], (None, None, 1024, 0))
+    week = fields["week"] if "week" in fields else fields["system_week"] + first
+    at = WEEK_MS * week + reference_time(fields)
+    weeks = range(week % apart, now // WEEK_MS + 1, apart)
+    return at if not weeks and FIRST_NEAR <= at <= LAST_NEAR else None
+
+
+def first_to_come(now: int, capture: Capture) -> tuple[Fields, int] | None:
+    """The first such message, with its moment."""
+    dates = [(it, to_come(now, it)) for it in capture.read if not isinstance(it, Message)]
+    return next(((it, at) for it, at in dates if at is not None), None)
+
+
+def utc_moment(fields: Fields) -> int:
+    """That of a day and a second."""
+    return DAY_MS * (fields["day"] - FIRST_DAY) + 1000 * fields["second"]
+
+
+# pins: is_far_from_epoch
+def far_date(now: int, capture: Capture, station: int) -> tuple[Fields, int] | None:
+    """The first 1013 or 1029 of the station that tells a time more than half a day from the epoch that it dates, with that epoch."""
+    for entry, tow in dates_beside(capture, station):
+        date = told_moment(now, entry, tow) if entry.get("station") == station else None
+        if date is not None and abs(date - utc_moment(entry)) > DAY_MS // 2:
+            return entry, date
+    return None
 
 
 def stray_of(epochs: list[list[int]], places: list[int]) -> tuple[int, list[int]] | None:

@@ -19,12 +19,16 @@ use Rattle.rtk_survey.specs.declared.tellings.Tellings.{Tellings}
 use Rattle.rtk_survey.specs.declared.tellings.Told.{Told}
 use Rattle.rtk_captures.specs.CaptureNames.{capture_name, lines_by}
 use Rattle.rtk_systems.specs.ClockOffsets.{told_clock_lines}
+use Rattle.rtk_plan.specs.ClockNotes.{all_clock_notes}
+use Rattle.rtk_systems.specs.DopplerLines.{doppler_lines_unless}
 use Rattle.rtk_plan.specs.FewPhases.{has_few_phases_of}
-use Rattle.rtk_plan.specs.LeapLines.{other_leap_lines}
+use Rattle.rtk_plan.specs.LeapLines.{leap_lines}
+use Rattle.rtk_plan.specs.LeftOut.{left_out_lines}
 use Rattle.rtk_plan.specs.Plan.{taken_messages}
 use Rattle.rtk_survey.specs.Surveys.{places_of}
+use Rattle.rtk_captures.specs.FarDateLines.{far_date_line_in}
 use Rattle.rtk_captures.specs.Lists.{date_line, to_come_line, undated_line, stray_line, capture_line, name_line}
-use Rattle.rtk_systems.specs.MessageLines.{obs_1004_line, msm_lines, doppler_line_unless, sbas_line, all_unread}
+use Rattle.rtk_systems.specs.MessageLines.{obs_1004_line, msm_lines, sbas_line, all_unread}
 use Rattle.rtk_captures.specs.Positions.{no_position_line}
 use Rattle.rtk_plan.specs.Reported.{late_of}
 use Rattle.rtk_plan.specs.SaidCommand.{said_code}
@@ -90,18 +94,19 @@ other_dates_of near name d = other_dates_if_any near name d.told d.span
 
 -- formula
 -- a date that is passed over since it is to come
-unfoldable pub date_to_come : UtcDate → List ℕ → List ℕ
-date_to_come d name = codes " other-date" ++ to_come_line d name
+unfoldable pub date_to_come : Told → List ℕ → List ℕ
+date_to_come t name = codes " other-date" ++ to_come_line t name
 
-abbrev pub other_to_come : Option UtcDate → List ℕ → List ℕ
+abbrev pub other_to_come : Option Told → List ℕ → List ℕ
 other_to_come None name = []
-other_to_come (Some d) name = date_to_come d name
+other_to_come (Some t) name = date_to_come t name
 
--- those of a capture: of its epochs; or if it has none, of an epoch at this moment; and one that is to come
+-- those of a capture: of its epochs; or if it has none, of an epoch at this moment; one that is to come; and one far from the
+-- epoch beside it
 abbrev pub other_dates_at : ℕ → ℕ → CaptureSurvey → List ℕ → List ℕ
 other_dates_at station near s name =
     other_dates_of near name (dates_in station s) ++ other_dates_of near name (dates_without_epoch station near s)
-    ++ other_to_come (to_come_told station s) name
+    ++ other_to_come (to_come_told station s) name ++ far_date_line_in station s name
 
 -- those of captures with these names
 abbrev pub all_other_dates : List (Bor (List ℕ)) → ℕ → ℕ → List CaptureSurvey → List ℕ
@@ -142,17 +147,21 @@ few_phases_lines ss station taken cs = flat_map (few_phases_line ss station take
 abbrev pub stray_lines : List (Bor (List ℕ)) → ℕ → List ℕ → List ℕ
 stray_lines names epoch places = flat_map (λ place. stray_line epoch (capture_name names place)) places
 
--- the systems whose clocks differ from those of their chains, those of which no clock is compared, and the captures that
--- tell other leap seconds
+-- the systems whose clocks differ from those of their chains, those of which no clock is compared, the captures that tell
+-- other leap seconds, and leap seconds that were found
 abbrev pub clock_lines_of : List (Bor (List ℕ)) → List CaptureSurvey → Plan → List ℕ
 clock_lines_of names ss plan =
     told_clock_lines plan.asked ss plan.setup.station plan.leap_seconds ++ unchecked_system_lines plan.setup.head.listed ss plan.setup.station
-    ++ other_leap_lines names plan.setup.station ss plan.setup.head.glonass
+    ++ leap_lines names ss plan
+
+-- the captures that are dated near the others, or whose clocks fall
+abbrev pub undated_notes : List (Bor (List ℕ)) → List CaptureSurvey → Plan → List ℕ
+undated_notes names ss plan = undated_lines plan.span.source names plan.captures.items ++ all_clock_notes names plan.span.source plan.setup ss
 
 -- everything before the line of late messages
 unfoldable pub lines_before_late : List (Bor (List ℕ)) → List CaptureSurvey → Plan → Equipment → List ℕ
 lines_before_late names ss plan told =
-    undated_lines plan.span.source names plan.captures.items
+    undated_notes names ss plan
     ++ all_other_dates names plan.setup.station plan.setup.near ss
     ++ clock_lines_of names ss plan
     ++ few_phases_lines ss plan.setup.station (taken_messages plan.setup) plan.setup.head.listed
@@ -209,7 +218,7 @@ epochs_lines names cs links = flat_map (epochs_lines_of names cs) links
 -- SBAS in them, and Doppler shifts, and whether 1012 are left out since they can't be dated
 unfoldable pub not_taken_by : Accepted → Bool → Bool → Bool → Bool → List CaptureSurvey → ℕ → List ℕ
 not_taken_by taken has_1004 has_sbas has_doppler is_long ss station =
-    obs_1004_line has_1004 ss station ++ msm_lines taken ss station ++ doppler_line_unless has_doppler taken ss station ++ sbas_line has_sbas ss station
+    obs_1004_line has_1004 ss station ++ msm_lines taken ss station ++ doppler_lines_unless has_doppler taken ss station ++ sbas_line has_sbas ss station
     ++ all_unread is_long taken ss
 
 -- GLONASS is asked for and a 1012 of the station has a value, but there is no moment near which 1012 are dated right
@@ -225,6 +234,7 @@ lines_behind_late names ss plan =
     skipped_lines names plan.captures.items plan.skipped.items
     ++ epochs_lines names plan.captures.items (places_of plan.links.items)
     ++ not_taken ss (leaves_long ss plan) plan.setup
+    ++ left_out_lines names ss plan
 
 -- ---- the links with a stray epoch
 

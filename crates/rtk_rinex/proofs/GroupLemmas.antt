@@ -411,7 +411,7 @@ module _ (doppler : Bool) where
       sg.shown ds i d group lt (omega (arith, lt, count)) (λ j le. name_is s text ds j d few (omega (arith, le, lt)) (line (types_count doppler * j / 13) (line_low doppler i j k le low))) in
       let prefix = types_prefix g ds k count names in
       let back = pieces_back (first_of s (length g)) first types_label (types_text doppler g) types (types_line_count doppler (length g)) m lines cut.0 cut.1
-      (λ some. (ap (first_of s) count, (ap types_line_count doppler count, prefix))) in
+      (λ some. (ap (first_of s) count, (ap (types_line_count doppler) count, prefix))) in
       record {
         rest = text_of back.0;
         begins = group_text s g sg.group ∙ ap text_of back.1 ∙ text_of-append lines back.0;

@@ -1,6 +1,6 @@
 //! What the header of a file of any systems says of the lines of its satellites.
 
-ghost use Rattle.std.specs.Prelude.{◌≡◌, ◌≤◌, ◌==◌, if◌then◌else◌, length};
+ghost use Rattle.std.specs.Prelude.{◌≡◌, ◌≤◌, ◌==◌, if◌then◌else◌, length, IsTrue};
 ghost use Rattle.rtk_obs.specs.Carriers.{IsSlot};
 ghost use Rattle.rtk_rinex.specs.MixedHeader.{codes_of};
 ghost use Rattle.rtk_rinex.specs.MixedForm.{width_at, has_channel, has_phases, most_satellites, form_of_head};
@@ -78,6 +78,17 @@ fn count_of(system: u8, head: &MixedHead) -> usize
     codes_of(system, head.codes()).len()
 }
 
+// Returns whether two headers tell the same of GLONASS, or both nothing.
+fn is_same_told(told: Option<Glonass>, other: Option<Glonass>) -> bool
+    ensures { IsTrue result → told ≡ other }
+{
+    match (told, other) {
+        (Some(told), Some(other)) => told == other,
+        (None, None) => true,
+        _ => false,
+    }
+}
+
 // Returns how many satellites of a system can have a line.
 fn satellites_with(codes: usize, satellites: usize) -> usize
     ensures { result ≡ (if codes == 0 then 0 else satellites) }
@@ -128,6 +139,21 @@ impl RecordForm {
             System::Sbas => self.sbas,
             System::Navic => self.navic,
         }
+    }
+
+    /// Returns whether another header says the same.
+    pub fn is_same(&self, other: &RecordForm) -> bool
+        ensures { IsTrue result → self.now ≡ other.now }
+    {
+        self.gps == other.gps
+            && self.glonass == other.glonass
+            && self.galileo == other.galileo
+            && self.beidou == other.beidou
+            && self.qzss == other.qzss
+            && self.sbas == other.sbas
+            && self.navic == other.navic
+            && self.doppler == other.doppler
+            && is_same_told(self.told, other.told)
     }
 
     /// Returns whether the lines show Doppler shifts.

@@ -13,6 +13,7 @@ ghost use Rattle.rtk_rinex.specs.MixedRecords.{IsRecordOf};
 ghost use Rattle.rtk_rinex.specs.Steps.MixedReadRecords.{BeginsWithMixedRecord};
 
 use crate::columns::EPOCH_LINE;
+use crate::digits::is_same;
 use crate::epoch_line_check::{EpochStamp, stamp_in};
 use crate::epoch_table::Observed;
 use crate::mixed_form::RecordForm;
@@ -127,7 +128,7 @@ fn first_record<'a>(text: &'a [u8], form: &RecordForm) -> (MixedRows<'a>, &'a [u
 }
 
 impl<'a> MixedRows<'a> {
-    ghost use Rattle.std.specs.Prelude.{◌≡◌, ◌≤◌, List, [], IfSome, MatchOption};
+    ghost use Rattle.std.specs.Prelude.{◌≡◌, ◌≤◌, List, [], IsTrue, IfSome, MatchOption};
     ghost use Rattle.rtk_rinex.specs.declared.epoch_table.SatelliteRow.{SatelliteRow};
     ghost use Rattle.rtk_rinex.specs.MixedTable.{IsMixedRow};
     ghost use Rattle.rtk_rinex.specs.MixedRecords.{IsMixedRowsView, AreRowsLeft, IsNextRowOf, ReadsRow};
@@ -178,6 +179,16 @@ impl<'a> MixedRows<'a> {
         ensures few { result ≤ 221 }
     {
         self.count
+    }
+
+    /// Returns whether the lines that are still to be read are those of another record, in a file of the same form. So
+    /// they show the same rows. A caller may then read the rows of one record alone.
+    pub fn has_rows_of(&self, other: &MixedRows<'_>) -> bool
+        ensures { IsTrue result → (rows : List SatelliteRow) → AreRowsLeft other.now rows → AreRowsLeft self.now rows }
+    {
+        self.count == other.count
+            && is_same(self.lines, other.lines)
+            && self.form.is_same(&other.form)
     }
 
     /// Returns the record with the rows that are still to be read, so that they can be read twice.

@@ -19,7 +19,10 @@ use crate::date_message::UtcDate;
 use crate::equipment::Equipment;
 use crate::equipment_message::EquipmentMessage;
 use crate::msm_parts::MsmParts;
-use crate::reference_point::{ReferencePoint, far_point_with, first_point_with};
+use crate::nameless::{count_nameless, no_nameless};
+use crate::reference_point::{
+    ReferencePoint, far_point_with, first_point_with, has_other_point_with,
+};
 use crate::sbas::has_sbas;
 use crate::signals::{Codes, Signals};
 use crate::station_dates::StationDates;
@@ -68,6 +71,10 @@ pub struct StationSurvey {
     pub dates: StationDates,
     /// What its 1007, 1008 and 1033 tell: an entry, or none if there is no such message.
     pub equipment: Vec<Equipment>,
+    /// How many of its messages have cells of satellites or signals without a name, by number (DF002).
+    pub nameless: BTreeMap<u16, u64>,
+    /// Has one of its 1005 or 1006 another reference point than the first that has one?
+    pub has_other_point: bool,
 }
 
 impl MessageCounts {
@@ -127,6 +134,8 @@ impl StationSurvey {
             far_point: None,
             dates: StationDates::new(),
             equipment: Vec::new(alloc),
+            nameless: no_nameless(alloc),
+            has_other_point: false,
         }
     }
 
@@ -152,9 +161,11 @@ impl StationSurvey {
         self.system_signals.mark_entries(signals);
         let first = self.reference_point;
         self.far_point = far_point_with(first, self.far_point, message);
+        self.has_other_point = has_other_point_with(first, self.has_other_point, message);
         self.reference_point = first_point_with(first, message);
         take_channels(alloc, &mut self.channels, message)?;
         take_clock(&mut self.clocks, message)?;
+        count_nameless(&mut self.nameless, message, entries, signals)?;
         take_system_message(&mut self.system_msm, message, signals)
     }
 
