@@ -13,14 +13,15 @@ import stages
 from captures import LAST_MADE
 from choosing import NOT_TOLD, Wanted
 from clocks import leap_seconds_at
-from finding import FIRST_DAY, Found, Stopped
+from finding import Found, Stopped
+from lost import nameless_lines, position_lines, refused_lines
 from messages import Refusal, frames_of, read_message
 from mixed_cells import has_sbas
 from mixed_model import Options, channels_text
 from model import Conversion, civil, moment
-from msm import LEGACY, LEGACY_GLONASS, letter_of
+from msm import LEGACY, LEGACY_GLONASS, letter_of, read_frame
 from summaries import UNTAKEN, look_of, sh_quoted
-from systems import GLONASS, GPS, SBAS, number_of
+from systems import BY_LETTER, GLONASS, LETTERS, SBAS, number_of
 from wire import MSMS, WEEK_MS, Fields, Message
 
 # By their bytes, as link1, link10, .., link2: another order than that of their numbers.
@@ -132,10 +133,18 @@ def to_come_text(now: int, captures: list[finding.Capture]) -> str:
 def to_come_lines(now: int, captures: list[finding.Capture], at: int) -> list[str]:
     """That of the capture at this place, or nothing."""
     it = finding.first_to_come(now, captures[at])
-    if it is None:
+    return [] if it is None else [f"{date_text(*it, name_of(at))}: it is after the time of making"]
+
+
+# pins: far_head, far_epoch
+def far_lines(now: int, captures: list[finding.Capture], at: int, station: int) -> list[str]:
+    """The first date of the station in the capture at this place that is far from the epoch beside it, or nothing."""
+    far = finding.far_date(now, captures[at], station)
+    if far is None:
         return []
-    moment = finding.DAY_MS * (it["day"] - FIRST_DAY) + 1000 * it["second"]
-    return [f"{date_text(it, moment, name_of(at))}: it is after the time of making"]
+    fields, epoch = far
+    date = date_text(fields, finding.utc_moment(fields), name_of(at))
+    return [f" other-date{date}: it dates the epoch beside it as {shown_time(epoch)}"]
 
 
 def distinct(told: list[finding.Told]) -> list[finding.Told]:
@@ -167,6 +176,7 @@ def auto_text(found: Found, asked: Asked, due: Conversion, texts: list[bytes]) -
     lines += late_lines(found, asked, due)
     lines += capture_lines(found, texts)
     lines += left_out_lines(found, texts, asked.wanted.doppler)
+    lines += lost_lines(found, asked, texts)
     lines += ["rtcm2rinex: no record came; the file is a header alone"] * (due.epochs == 0)
     return "".join(f"{line}\n" for line in lines)
 
@@ -237,18 +247,23 @@ def date_lines(found: Found, asked: Asked, texts: list[bytes]) -> list[str]:
     lines = []
     if asked.wanted.near is None:
         lines += [f" undated {name_of(at)}: dated near the others" for at, epochs in zip(kept, found.epochs) if epochs and not told[at]]
+    for at in range(len(texts)):
+        lines += [f" undated {name_of(at)}: dated near the others"] * (at in found.unnamed)
+        lines += [f" time-falls {name_of(at)}"] * (at in found.falling)
     firsts = [epochs[0] if epochs else found.near for epochs in found.epochs]
     for at, first in zip(kept, firsts):
         lines += [f" other-date{date_text(it.fields, it.first, name_of(at))}" for it in told[at] + passed[at] if it.first != first]
         lists = [finding.counting(tellings[at], station), *finding.passed_over(tellings[at], station)]
         lines += [f" more-dates in {name_of(at)}"] * any(len(distinct(of)) == 16 for of in lists)
         lines += [f" other-date{line}" for line in to_come_lines(asked.now, asked.captures(texts), at)]
+        lines += far_lines(asked.now, asked.captures(texts), at, station)
     return lines
 
 
-# pins: to_text, greatest_text, leap_words_of
+# pins: to_text, greatest_text, leap_words_of, found_leap_words
 def leap_lines(found: Found, asked: Asked, texts: list[bytes]) -> list[str]:
-    """The captures in which a 1013 of the station tells other leap seconds than those by which GLONASS is compared."""
+    """The captures in which a 1013 of the station tells other leap seconds than those by which GLONASS is compared; and those by
+    which GLONASS is right, if they are not given."""
     chosen, lines = found.chosen, []
     due = leap_seconds_at(found.near) if chosen.leap is None else chosen.leap
     for at, capture in enumerate(asked.captures(texts)):
@@ -256,7 +271,8 @@ def leap_lines(found: Found, asked: Asked, texts: list[bytes]) -> list[str]:
         if GLONASS.letter in chosen.kinds and at not in found.skipped and {*told} - {due}:
             range_of = f"{min(told)}" if min(told) == max(told) else f"{min(told)} to {max(told)}"
             lines.append(f" other-leap-seconds {range_of} by 1013 in {name_of(at)}")
-    return lines
+    is_found = GLONASS.letter in chosen.kinds and chosen.leap is not None and asked.wanted.leap is None
+    return lines + [f" leap-seconds {chosen.leap}: by the clocks of GLONASS"] * is_found
 
 
 def late_lines(found: Found, asked: Asked, due: Conversion) -> list[str]:
@@ -298,7 +314,7 @@ def system_text(number: int) -> str:
     return SYSTEMS.get(number // 10, "GLONASS") if number > 1080 or 1009 <= number <= 1012 else "GPS"
 
 
-# pins: msm_line_of, doppler_line_of, obs_1004_line, is_gps_system, ended_count_line, long_line, unread_legacy_glonass
+# pins: msm_line_of, obs_1004_line, is_gps_system, ended_count_line, long_line, unread_legacy_glonass
 def left_out_lines(found: Found, texts: list[bytes], has_doppler: bool) -> list[str]:
     """How many messages are not converted, or without a part: of GPS those of the station, of other systems those of all stations."""
     chosen = found.chosen
@@ -312,9 +328,7 @@ def left_out_lines(found: Found, texts: list[bytes], has_doppler: bool) -> list[
     numbers = sorted((set(others) & told) - chosen.numbers, key=lambda it: (system_text(it) != "GPS", it))
     of_gps = [it for it in numbers if it in gps]
     lines = [f" not in the file: GPS {it}, {others[it]} messages" for it in of_gps]
-    msm = number_of(GPS, chosen.kinds[GPS.letter]) if GPS.letter in chosen.kinds else None
-    doppler = sum(it.header["number"] == msm for it in own)
-    lines += [f" not in the file: Doppler of {msm}, {doppler} messages"] * (msm in (1075, 1077) and doppler > 0 and not has_doppler)
+    lines += [] if has_doppler else doppler_lines(found, texts)
     sbas = 0 if stages.CONVERTS_SBAS and SBAS.letter in chosen.kinds else sum(has_sbas(it) for it in own)
     lines += [f" not in the file: SBAS of 1004, {sbas} messages"] * (sbas > 0)
     is_long = stages.TAKES_1012 and found.is_long
@@ -326,7 +340,30 @@ def left_out_lines(found: Found, texts: list[bytes], has_doppler: bool) -> list[
     ]  # fmt: skip
 
 
-# pins: constellation_slots, are_too_many, satellite_of_slot, alike_name, alike_words, told_channel, several_words
+# pins: doppler_of_system, doppler_line_of
+def doppler_lines(found: Found, texts: list[bytes]) -> list[str]:
+    """How many MSM5 or MSM7 of the station of each system are converted, which have Doppler."""
+    kinds = found.chosen.kinds
+    numbers = [number_of(BY_LETTER[it], kinds[it]) for it in LETTERS if kinds.get(it) in (5, 7)]
+    counts = Counter(it.header["number"] for it in messages_of(found, texts))
+    return [f" not in the file: Doppler of {it}, {counts[it]} messages" for it in numbers if counts[it]]
+
+
+def messages_of(found: Found, texts: list[bytes]) -> list[Message]:
+    """All messages of the station that can be read."""
+    read = [read_frame(it.payload) for text in texts for it in frames_of(text)]
+    return [it for it in read if isinstance(it, Message) and it.header["station"] == found.station]
+
+
+def lost_lines(found: Found, asked: Asked, texts: list[bytes]) -> list[str]:
+    """What captures have and no file can show."""
+    names = NAMES[: len(texts)]
+    lines = refused_lines(found, texts, names) + nameless_lines(found, messages_of(found, texts))
+    return lines + position_lines(found, asked.captures(texts), names)
+
+
+# pins: constellation_slots, are_too_many, satellite_of_slot, alike_name, alike_words, told_fields, told_channel, several_words
+# pins: is_channel_of_field, own_channel, other_head, own_channels_words
 def slot_lines(found: Found) -> list[str]:
     """What is told of slots of GLONASS."""
     slots, lines = found.chosen.slots, []
@@ -336,7 +373,9 @@ def slot_lines(found: Found) -> list[str]:
         lines += [f" channels-alike {channel} {slot_names(its)}" for channel, its in sorted(slots.alike.items())]
         lines += [f" several-channels R{slot:02} {' '.join(map(str, its))}" for slot, its in sorted(slots.several.items())]
     header = "as a header's GLONASS SLOT / FRQ # of the same days has them"
-    return lines + [f" no-channel {slot_names(slots.without)}: give --channels, {header}"] * bool(slots.without)
+    lines += [f" no-channel {slot_names(slots.without)}: give --channels, {header}"] * bool(slots.without)
+    return lines + [f" other-channel R{slot:02} {slots.channels[slot]}: messages tell {' '.join(map(str, its))}"
+                    for slot, its in sorted(slots.others.items())]
 
 
 def slot_names(slots: Iterable[int]) -> str:

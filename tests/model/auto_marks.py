@@ -4,6 +4,7 @@ from __future__ import annotations
 
 from typing import Callable
 
+from channels import LAST_CHANNEL
 from finding import Found
 from properties import HOLDS, NOT_MET, Answer, Case, Property
 
@@ -53,6 +54,15 @@ def is_told_several_channels_of_a_slot(found: Found) -> bool:
     return found.chosen.slots is not None and found.chosen.slots.several != {}
 
 
+def is_told_a_channel_that_no_file_has(found: Found) -> bool:
+    slots = found.chosen.slots
+    return slots is not None and any(its[-1] > LAST_CHANNEL for its in slots.several.values())
+
+
+def is_given_another_channel_than_is_told(found: Found) -> bool:
+    return found.chosen.slots is not None and found.chosen.slots.others != {}
+
+
 def is_given_leap_seconds(found: Found) -> bool:
     return found.chosen.leap is not None
 
@@ -60,7 +70,8 @@ def is_given_leap_seconds(found: Found) -> bool:
 MARKS = (
     has_three_systems, leaves_a_wrong_clock_out, keeps_a_clock_that_is_off, tells_a_clock_of_glonass, takes_kinds_that_differ,
     takes_several_links_of_several_systems, takes_channels, takes_a_channel_of_1020, lacks_some_channels, has_no_channel,
-    is_told_several_channels_of_a_slot, is_given_leap_seconds,
+    is_told_several_channels_of_a_slot, is_told_a_channel_that_no_file_has, is_given_another_channel_than_is_told,
+    is_given_leap_seconds,
 )  # fmt: skip
 
 

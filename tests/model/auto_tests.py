@@ -167,15 +167,26 @@ def channels_of_slots() -> None:
     orbits = {2: Counter({2: 9}), 3: Counter({-1: 1, -4: 1}), 9: Counter({0: 1})}
     got = slots_of((4, 3, 2, 1, 1), told, orbits, None, True)
     same("channels", (got.channels, got.by_orbits, got.without), ({1: -7, 2: 1, 3: -4}, [3], [4]))
-    same("several", got.several, {1: [-7, 3, 6]})
+    same("several", got.several, {1: [-7, 3, 6], 3: [-4, -1]})
     got = slots_of((1, 4), told, orbits, {4: 6, 7: 1}, True)
     due = ({4: 6, 7: 1, 1: -7}, []) if stages.JOINS_CHANNELS else ({4: 6, 7: 1}, [1])
     same("given", (got.channels, got.without), due)
     alike = {slot: Counter({-7: 1}) for slot in (1, 2, 3, 25)}
     got = slots_of((1, 2, 3, 25), alike, orbits, None, True)
     same("alike", (got.alike, got.channels), ({-7: [1, 2, 3]}, {1: -7, 2: 2, 3: -4, 25: -7}))
+    same("alike and of 1020", (got.several, got.others), ({2: [-7, 2], 3: [-7, -4, -1]}, {}))
+    got = slots_of((1, 5, 9), told, orbits, {1: 0, 5: 0, 9: 4}, True)
+    same("given otherwise", (got.several, got.others), ({1: [-7, 3, 6]}, {1: [-7, 3, 6], 5: [6]}))
+    above = {8: Counter({10: 2})}
+    got = slots_of((8,), above, {8: Counter({3: 1})}, None, True)
+    same("above +6", (got.channels, got.several, got.others), ({8: 3}, {8: [3, 10]}, {}))
+    got = slots_of((8,), above, {}, None, True)
+    same("above +6 alone", (got.without, got.several), ([8], {}))
+    same("above +6 and given", slots_of((8,), above, {}, {8: 3}, True).others, {8: [10]})
     same("two alike", slots_of((1, 2, 25), alike, orbits, None, True).alike, {})
     same("a 1020", orbit_of(bytes.fromhex("3FC050") + bytes(42)), (1, 1))
+    same("a 1020 of +13", orbit_of(bytes.fromhex("3FC068") + bytes(42)), (1, 13))
+    same("a 1020 of none", orbit_of(bytes.fromhex("3FC06A") + bytes(42)), None)
     same("one that is short", orbit_of(bytes.fromhex("3FC050") + bytes(41)), None)
 
 

@@ -12,7 +12,9 @@ from systems import GLONASS
 from wire import BitReader, Message, paired
 
 ORBIT, ORBIT_BITS = 1020, 360
-TELLS_NONE = 14  # fields from here on tell no channel of -7 to 6
+TELLS_NONE = 15  # the field of an MSM that tells no channel
+LAST_FIELD = 20  # that of the greatest channel, +13, which messages can tell
+LAST_CHANNEL = 6  # the greatest one that a file can have
 MOST_ALIKE = 2  # so many slots may have one channel, on opposite sides of their orbit
 LAST_OF_ORBITS = 24  # the slots from here on are of spare satellites
 
@@ -26,8 +28,8 @@ def told_of_rows(message: Message) -> list[tuple[int, int]]:
         told = [*{row["slot"]: row["channel"] for row in message.satellites[::-1]}.items()]
     else:
         rows = paired(set_bits(message.header["satellite_mask"], 64), message.satellites)
-        told = [(slot, row.get("extended", TELLS_NONE)) for slot, row in rows]
-    return [(slot, field - 7) for slot, field in told if GLONASS.name(slot) and field < TELLS_NONE]
+        told = [(slot, row["extended"]) for slot, row in rows if row.get("extended", TELLS_NONE) != TELLS_NONE]
+    return [(slot, field - 7) for slot, field in told if GLONASS.name(slot) and field <= LAST_FIELD]
 
 
 def told_by(messages: Iterable[Message]) -> Told:
@@ -46,7 +48,7 @@ def orbit_of(payload: bytes) -> tuple[int, int] | None:
     if 8 * len(payload) < ORBIT_BITS or bits.take(12) != ORBIT:
         return None
     slot, field = bits.take(6), bits.take(5)
-    return (slot, field - 7) if GLONASS.name(slot) and field < TELLS_NONE else None
+    return (slot, field - 7) if GLONASS.name(slot) and field <= LAST_FIELD else None
 
 
 def told_by_orbits(orbits: Iterable[tuple[int, int]]) -> Told:
@@ -57,19 +59,20 @@ def told_by_orbits(orbits: Iterable[tuple[int, int]]) -> Told:
 
 
 def most_told(counted: Counter[int]) -> int | None:
-    """The channel that is told most often, of two alike the lesser."""
-    return min(counted, key=lambda channel: (-counted[channel], channel), default=None)
+    """The channel that is told most often, of those that a file can have, and of two alike the lesser."""
+    return min((it for it in counted if it <= LAST_CHANNEL), key=lambda channel: (-counted[channel], channel), default=None)
 
 
 class Slots(NamedTuple):
     """The channels of slots, and what is told of them: the slots whose channel a 1020 tells, those without one, those with several,
-    and those that are alike."""
+    those that are alike, and those of which observations tell others than the one that is given."""
 
     channels: dict[int, int]
     by_orbits: list[int]
     without: list[int]
     several: dict[int, list[int]]
     alike: dict[int, list[int]]
+    others: dict[int, list[int]]
 
 
 def alike_of(told: dict[int, Optional[int]]) -> dict[int, list[int]]:
@@ -96,5 +99,9 @@ def slots_of(shown: Iterable[int], by_rows: Told, by_orbits: Told, given: Option
         from_orbits += [slot] * is_by_orbit
         if found is not None:
             channels[slot] = found
-    several = {slot: sorted(by_rows[slot]) for slot in shown if len(by_rows.get(slot, nothing)) > 1}
-    return Slots(channels, from_orbits, [slot for slot in shown if slot not in channels], several, alike)
+    listed = {slot: {*by_rows.get(slot, nothing)} for slot in shown}
+    for slot in shown:
+        listed[slot] |= {*by_orbits.get(slot, nothing)} if doubts and (own[slot] is None or slot in doubted) else set()
+    several = {slot: sorted(its) for slot, its in listed.items() if len(its) > 1}
+    others = {slot: sorted(by_rows[slot]) for slot, its in listed.items() if slot in by_rows and channels.get(slot, min(its)) not in its}
+    return Slots(channels, from_orbits, [slot for slot in shown if slot not in channels], several, alike, others)

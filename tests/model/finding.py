@@ -19,7 +19,8 @@ from typing import NamedTuple
 import stages
 from channels import orbit_of
 from choosing import Allowed, Chosen, Sent, Wanted, choose, has_value_of_1012, leap_of
-from clocks import glonass_moment, leap_seconds_at, near_of_span
+from clock_spans import CLOCKS, DAY, Going, going, placed
+from clocks import leap_seconds_at, near_of_span
 from equipment import equipment_of
 from messages import Refusal, frames_of
 from model import civil, moment
@@ -97,7 +98,7 @@ def told_moment(now: int, fields: Fields, tow: int) -> int | None:
     day, second = fields["day"], fields["second"]
     if day < FIRST_DAY + 7 or second > 86_400 or day > FIRST_DAY + now // DAY_MS + 1:
         return None
-    at = DAY_MS * (day - FIRST_DAY) + 1000 * second
+    at = utc_moment(fields)
     # within half a week, and of two alike the later
     [told] = [it for it in moments_around(at, tow) if -HALF_WEEK_MS < it - at <= HALF_WEEK_MS]
     return told
@@ -183,10 +184,14 @@ class Capture(NamedTuple):
         """Whether a message of it came, be it one with observations, with a position, with a date, or with an antenna."""
         return station in self.equipped or any(it.get("station") == station for it in map(fields_of, self.read))
 
-    def points(self, station: int) -> list[tuple[int, ...]]:
-        """The first position of the station, and the first one that is far from it. Zeros are none."""
+    def positions(self, station: int) -> list[tuple[int, ...]]:
+        """All positions that the station tells. Zeros are none."""
         points = [tuple(it.header[axis] for axis in "xyz") for it in self.of_station(station) if "x" in it.header]
-        known = [it for it in points if any(it)]
+        return [it for it in points if any(it)]
+
+    def points(self, station: int) -> list[tuple[int, ...]]:
+        """The first of them, and the first one that is far from it."""
+        known = self.positions(station)
         return [*known[:1], *[it for it in known if dist(it, known[0]) > METRES_100][:1]]
 
     def times(self, station: int) -> list[int]:
@@ -208,6 +213,17 @@ class Told(NamedTuple):
 
 WAITING = 64  # how many messages before the first epoch are looked at,
 WAITING_WEEKS = 16  # and how many 1042, 1045 and 1046 beside them
+
+
+def dates_beside(capture: Capture, station: int) -> list[tuple[Fields, int]]:
+    """The messages that are looked at, each with the time of week of the last epoch before it, or else of the first one."""
+    times = capture.times(station)
+    beside, epochs, waits = [], 0, {at for at, _ in waiting_in(capture)}
+    for place, entry in enumerate(capture.read):
+        epochs += capture.observes(station, entry)
+        if not isinstance(entry, Message) and times and (epochs > 0 or place in waits):
+            beside.append((entry, times[max(epochs - 1, 0)]))
+    return beside
 
 
 def tellings(now: int, capture: Capture, station: int) -> list[Told]:
@@ -327,6 +343,8 @@ class Found(NamedTuple):
     few: list[str]  # codes with few phases
     stray: tuple[int, list[int]] | None  # an epoch more than a day after all others, and the captures that have it
     is_long: bool  # GLONASS is asked for, and 1012 with a value are not dated right near any moment
+    unnamed: list[int]  # captures without an epoch that name no date, and have messages of GLONASS or BeiDou that are converted
+    falling: list[int]  # captures in which a clock of these falls, and no epoch
 
 
 def station_of(captures: list[Capture], named: int | None) -> int:
@@ -377,14 +395,42 @@ def moment_named(now: int, fields: Fields) -> int | None:
     """That of its day and second, or the reference time of an ephemeris in its week."""
     if "toe" in fields:
         return told_moment(now, fields, reference_time(fields)) if reference_time(fields) < WEEK_MS else None
-    at = DAY_MS * (fields["day"] - FIRST_DAY) + 1000 * fields["second"]
-    return None if told_moment(now, fields, 0) is None else at
+    return None if told_moment(now, fields, 0) is None else utc_moment(fields)
 
 
-def first_to_come(now: int, capture: Capture) -> Fields | None:
-    """The first 1013 or 1029 whose day is more than one day after that of the present, which is why it tells nothing."""
-    dates = [it for it in capture.read if not isinstance(it, Message) and "day" in it]
-    return next((it for it in dates if it["day"] > FIRST_DAY + max(6, now // DAY_MS + 1) and it["second"] <= 86_400), None)
+# pins: ephemeris_to_come, system_week_to_come
+def to_come(now: int, fields: Fields) -> int | None:
+    """The moment that a message names, if it tells nothing because that is to come: a day more than one after that of the present,
+    or a week after that of the present."""
+    if "day" in fields:
+        is_after = fields["day"] > FIRST_DAY + max(6, now // DAY_MS + 1) and fields["second"] <= 86_400
+        return utc_moment(fields) if is_after else None
+    _, _, apart, first = OTHER_EPHEMERIDES.get(fields["number"], (None, None, 1024, 0))
+    week = fields["week"] if "week" in fields else fields["system_week"] + first
+    at = WEEK_MS * week + reference_time(fields)
+    weeks = range(week % apart, now // WEEK_MS + 1, apart)
+    return at if not weeks and FIRST_NEAR <= at <= LAST_NEAR else None
+
+
+def first_to_come(now: int, capture: Capture) -> tuple[Fields, int] | None:
+    """The first such message, with its moment."""
+    dates = [(it, to_come(now, it)) for it in capture.read if not isinstance(it, Message)]
+    return next(((it, at) for it, at in dates if at is not None), None)
+
+
+def utc_moment(fields: Fields) -> int:
+    """That of a day and a second."""
+    return DAY_MS * (fields["day"] - FIRST_DAY) + 1000 * fields["second"]
+
+
+# pins: is_far_from_epoch
+def far_date(now: int, capture: Capture, station: int) -> tuple[Fields, int] | None:
+    """The first 1013 or 1029 of the station that tells a time more than half a day from the epoch that it dates, with that epoch."""
+    for entry, tow in dates_beside(capture, station):
+        date = told_moment(now, entry, tow) if entry.get("station") == station else None
+        if date is not None and abs(date - utc_moment(entry)) > DAY_MS // 2:
+            return entry, date
+    return None
 
 
 def stray_of(epochs: list[list[int]], places: list[int]) -> tuple[int, list[int]] | None:
@@ -464,7 +510,12 @@ def find(texts: list[bytes], now: int, wanted: Wanted = Wanted()) -> Found:
     links = links_of(epochs, wanted.as_given)
     every = [it for of in epochs for it in of]
     span, sent = (min(every), max(every)), [it.sent(number) for it in captures]
-    middle = near_with_1012(captures, number, epochs, leap_of(sent, span, near, wanted), near) if stages.TAKES_1012 else None
+    leap = leap_of(sent, span, near, wanted)
+    seconds = leap_seconds_at(near) if leap is None else leap
+    clocks = [clocks_in(capture, number, of) for capture, of in zip(captures, epochs)]
+    owns = [None if wanted.near is not None or of else named_moment(now, capture, number) for capture, of in zip(captures, epochs)]
+    moments = [{it: placed(it, its, near if own is None else own.first, seconds) for it, its in of.items()} for of, own in zip(clocks, owns)]
+    middle = near_with_1012(every, clocks, moments) if stages.TAKES_1012 else None
     orbits = [it for capture in everything for it in capture.orbits]
     allowed = Allowed(span, near, middle is not None)
     chosen = choose(sent, links, orbits, allowed, wanted)
@@ -472,31 +523,46 @@ def find(texts: list[bytes], now: int, wanted: Wanted = Wanted()) -> Found:
         raise Stopped("no code")
     if FIRST_NEAR <= near <= LAST_NEAR:
         stop_without_rates(chosen.kinds, wanted)
+        stop_if_far(middle if chosen.with_1012 and middle is not None else near, chosen.letters, clocks, moments)
     stop_if_apart(near, links, [] if wanted.as_given else [point for capture in captures for point in capture.points(number)])
     near = middle if chosen.with_1012 and middle is not None else near
     places = [at for at in range(len(texts)) if at not in skipped]
     messages = [it for capture in captures for it in capture.of_station(number)]
+    letters = {*chosen.letters, *[DAY] * chosen.with_1012}
+    taken = [{it: its for it, its in of.items() if it in letters} for of in clocks]
     return Found(
         number, chosen, near, None if by is None else by.fields, [[places[at] for at in link] for link in links], epochs,
         [places[at] for at, of in enumerate(epochs) if not of], skipped, few_phases(messages, chosen), stray_of(epochs, places),
         middle is None and GLONASS.letter in wanted.letters and any(has_value_of_1012(it) for it in messages),
+        [] if wanted.near is not None else [at for at, own, of, it in zip(places, owns, epochs, taken) if it and own is None and not of],
+        [at for at, of, it in zip(places, epochs, taken) if any(its.falls for its in it.values()) and of == sorted(of)],
     )
 
 
-def near_with_1012(captures: list[Capture], station: int, epochs: list[list[int]], leap: int | None, near: int) -> int | None:
+def clocks_in(capture: Capture, station: int, epochs: list[int]) -> dict[str, Going]:
+    """How the clocks of GLONASS and BeiDou of the station go that have a message with a value."""
+    dated_by = iter(epochs)
+    messages = [(it, next(dated_by) if capture.observes(station, it) else None) for it in capture.of_station(station)]
+    goings = {clock: going(clock, messages) for clock in CLOCKS}
+    return {clock: it for clock, it in goings.items() if it.moments}
+
+
+# pins: middle_up, middle_second, can_date, dates_ends
+def near_with_1012(epochs: list[int], clocks: list[dict[str, Going]], moments: list[dict[str, list[int]]]) -> int | None:
     """The moment near which the station's 1012 are dated right, if there is one."""
-    seconds = leap_seconds_at(near) if leap is None else leap
-    every = [it for of in epochs for it in of]
-    every += [it for capture, of in zip(captures, epochs) for it in moments_of_1012(capture, station, of, seconds)]
+    every = [*epochs, *(it for of in moments for it in of.get(DAY, []))]
     middle = near_of_span(min(every), max(every))
+    if any(DAY in of and of[DAY].is_wide for of in clocks):
+        return None
     return middle if middle is not None and FIRST_NEAR <= middle <= LAST_NEAR else None
 
 
-# pins: day_time, day_time_from, moment_in_day, first_moment_at, middle_up, middle_second, can_date, dates_ends
-def moments_of_1012(capture: Capture, station: int, epochs: list[int], seconds: int) -> list[int]:
-    """The moments of the station's first and last 1012 with a value: within half a day of the first and of the last epoch."""
-    clocks = [it.header["tow"] for it in capture.of_station(station) if has_value_of_1012(it)]
-    return [glonass_moment(clocks[at], epochs[at], seconds) for at in (0, -1) if clocks and epochs]
+def stop_if_far(near: int, letters: str, clocks: list[dict[str, Going]], moments: list[dict[str, list[int]]]) -> None:
+    """Nothing is converted if a message of GLONASS or BeiDou that is converted would be dated otherwise."""
+    for of, its in zip(clocks, moments):
+        for clock in {*of} & {*letters}:
+            if of[clock].is_wide or any(not -HALF_WEEK_MS <= it - near < HALF_WEEK_MS for it in its[clock]):
+                raise Stopped("give them in parts")
 
 
 def links_of(epochs: list[list[int]], as_given: bool = False) -> list[list[int]]:

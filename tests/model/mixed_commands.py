@@ -159,18 +159,20 @@ def some_choice(rng: Random, text: str) -> tuple[list[str], set[str] | None]:
 
 
 def charts(count: int) -> Iterator[Due]:
-    """In characters, of files without and with lines of their records, and of one in which each satellite has a row."""
+    """In characters and in SVG, of files without and with lines of their records, and of one in which each satellite has a row."""
     rng = Random(mixed_pictures.SEED)
     files = [*(mixed_parts.some_file(rng)[0] for _ in range(count)), mixed_parts.a_day(rng)[0], mixed_parts.all_satellites(rng)[0]]
     for text in files:
         told = rng.choice((text, time_lines.with_lines(text, True, True)))
         width = rng.choice((40, 80, 400, rng.randint(40, 400)))
         chosen, names = some_choice(rng, text)
-        words = ["chart", "--text", "--columns", str(width), *chosen]
-        if mixed_pictures.is_there(text, names):
-            yield Due(words, told.encode(), 0, mixed_pictures.text_picture(text, width, names).encode(), b"")
-        else:
-            yield Due(words, told.encode(), 3, b"", b"rtcm2rinex: none of the chosen satellites is in the file\n")
+        for form in ["--text", "--columns", str(width)], []:
+            if not mixed_pictures.is_there(text, names):
+                yield Due(["chart", *form, *chosen], told.encode(), 3, b"", b"rtcm2rinex: none of the chosen satellites is in the file\n")
+            elif form:
+                yield Due(["chart", *form, *chosen], told.encode(), 0, mixed_pictures.text_picture(text, width, names).encode(), b"")
+            else:
+                yield Due(["chart", *chosen], told.encode(), 0, mixed_pictures.svg_picture(text, names).encode(), b"")
 
 
 def shows(count: int) -> Iterator[Due]:

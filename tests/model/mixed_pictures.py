@@ -1,5 +1,6 @@
-"""The slow model of a picture in characters of a file of any systems: the rows of each system below its name."""
+"""The slow model of the pictures of a file of any systems: the satellites of each system below its name."""
 # pins: group_place, group_epoch, first_group, second_group, with_satellites, titled_rows, system_title, title_of, both_numbers, systems_picture, drawn_systems
+# pins: moved_bands, both_counts, svg_of_systems, systems_svg_body
 
 from __future__ import annotations
 
@@ -37,9 +38,46 @@ class DrawnSystems(Drawn):
         width = self.width * len(self.systems[name[0]])
         return [shown_in(line[3:].ljust(width)[at : at + self.width]) for at in range(0, width, self.width)]
 
+    def codes_of(self, name: str) -> list[str]:
+        return self.systems[name[0]]
+
     def names_of(self, letter: str) -> list[str]:
         """The satellites of a system."""
         return [name for name in self.names if name[0] == letter]
+
+    def groups_of(self, letter: str) -> list[list[str]]:
+        """The satellites of a system in groups of 32 numbers."""
+        names = self.names_of(letter)
+        first = [name for name in names if int(name[1:]) <= LAST.get(letter, 99)]
+        return [first, names[len(first) :]]
+
+
+def svg_picture(file: str, chosen: set[str] | None = None) -> str:
+    """The picture of a file in SVG, of these satellites or of all. Each group of satellites is moved down as a whole, and the lines of
+    codes lie close."""
+    if is_of_gps(file):
+        return pictures.svg_picture(file, chosen)
+    it = DrawnSystems(file, pictures.UNITS, chosen)
+    if not it.epochs:
+        return pictures.svg_of_none(it)
+    out, never, top = [], [], 106
+    for letter, codes in it.systems.items():
+        has_name = False
+        for names in filter(None, it.groups_of(letter)):
+            if not has_name:
+                out.append(f"<text class='system' x='110' y='{top + 28}'>{NAMES[letter]}</text>")
+                top += 34
+                has_name = True
+            bands, height = pictures.bands_of(it, names, 140, True)
+            out += [f"<g transform='translate(0 {top - 140})'>", *bands, "</g>"]
+            top += height
+            for at, code in enumerate(codes):
+                lacking = [name for name in names if at not in it.had[name]]
+                if lacking:
+                    start = f"never {'' if letter == 'G' else letter}{code}:"
+                    never.append(f"<text class='never' x='110' y='{18 + 24 * len(never)}'>{' '.join([start, *lacking])}</text>")
+    out += [f"<g transform='translate(0 {top})'>", *never, "</g>"]
+    return pictures.svg_of(it, out, top + 24 * len(never), "125678")
 
 
 def is_there(file: str, chosen: set[str] | None) -> bool:
@@ -60,8 +98,7 @@ def text_picture(file: str, width: int, chosen: set[str] | None = None) -> str:
         out += [NAMES[letter], *(row_of(it, name) for name in names)] if names else []
     out += rows_below(it, width)
     for letter, codes in it.systems.items():
-        first = [name for name in it.names_of(letter) if int(name[1:]) <= LAST.get(letter, 99)]
-        for names in first, it.names_of(letter)[len(first) :]:
+        for names in it.groups_of(letter):
             for at, code in enumerate(codes):
                 # the names of all systems have the room that three characters leave
                 of_gps = letter == "G"

@@ -143,6 +143,10 @@ class Drawn:
         if self.epochs:
             self._lay(most)
 
+    def codes_of(self, name: str) -> list[str]:
+        """The names of the codes of a satellite, in the order of the file."""
+        return self.codes
+
     def _lay(self, most: int) -> None:
         times = [epoch.time for epoch in self.epochs]
         steps = Counter(b - a for a, b in zip(times, times[1:]))
@@ -255,38 +259,58 @@ SIGNS = [
 def svg_picture(text: str, chosen: set[str] | None = None) -> str:
     """The picture of a file in SVG, of these satellites or of all."""
     it = Drawn(text, UNITS, chosen)
-    marker = it.marker.replace("&", "&amp;").replace("<", "&lt;").replace(">", "&gt;")
-    close = bool(it.epochs) and sum(map(len, it.had.values())) > MOST_WIDE
-    highs = {name: band_height(len(it.had[name]), close) for name in it.names} if it.epochs else {}
-    never = [[name for name in it.names if at not in it.had[name]] for at in range(len(it.codes))] if it.epochs else []
-    bands = 140 + sum(highs.values())
-    end = bands + 24 * sum(map(bool, never)) if it.epochs else -120
-    lanes = lanes_of(it) if it.epochs else []
-    low = end + 46 * len(lanes)
-    out = [f"<svg xmlns='http://www.w3.org/2000/svg' viewBox='0 0 1620 {low + 230}'>", f"<title>{marker}</title>", STYLE]
-    out += [f"<rect class='page' width='1620' height='{low + 230}'/>", f"<text class='marker' x='110' y='42'>{marker}</text>"]
     if not it.epochs:
-        return "\n".join([*out, "<text x='110' y='72'>no records</text>", "</svg>\n"])
-    interval = f", interval {fixed(it.interval, 3)} s, column {fixed(it.length, 3)} s" if it.interval else ""
-    out.append(f"<text x='110' y='72'>{moment(it.first)} to {moment(it.last)}{interval}</text>")
-    counts = f"records {len(it.epochs)}, satellites {len(it.names)}, slips {it.kinds['slip']}, returns {it.kinds['return']}"
-    counts += f", rises {it.kinds['rise']}, missing epochs {it.missing}"
-    out.append(f"<text x='110' y='98'>{counts}</text>")
-    out.append(SYSTEM)
-    top = 140
-    for at, name in enumerate(it.names):
-        high = highs[name]
+        return svg_of_none(it)
+    close = sum(map(len, it.had.values())) > MOST_WIDE
+    bands, height = bands_of(it, it.names, 140, close)
+    never = [[name for name in it.names if at not in it.had[name]] for at in range(len(it.codes))]
+    end = 140 + height
+    y = end + 18
+    lines = []
+    for code, names in zip(it.codes, never):
+        if names:
+            lines.append(f"<text class='never' x='110' y='{y}'>{' '.join([f'never {code}:', *names])}</text>")
+            y += 24
+    return svg_of(it, [SYSTEM, *bands, *lines], end + 24 * len(lines), "125")
+
+
+def svg_start(it: Drawn, height: int) -> list[str]:
+    """The beginning of a picture so high."""
+    marker = it.marker.replace("&", "&amp;").replace("<", "&lt;").replace(">", "&gt;")
+    out = [f"<svg xmlns='http://www.w3.org/2000/svg' viewBox='0 0 1620 {height}'>", f"<title>{marker}</title>", STYLE]
+    return [*out, f"<rect class='page' width='1620' height='{height}'/>", f"<text class='marker' x='110' y='42'>{marker}</text>"]
+
+
+def svg_of_none(it: Drawn) -> str:
+    """The picture of a file without records."""
+    return "\n".join([*svg_start(it, 110), "<text x='110' y='72'>no records</text>", "</svg>\n"])
+
+
+def bands_of(it: Drawn, names: list[str], top: int, close: bool) -> tuple[list[str], int]:
+    """The bands of these satellites, of which the first begins so far from the top, and how high they are together."""
+    out = []
+    begin = top
+    for at, name in enumerate(names):
+        high = band_height(len(it.had[name]), close)
         ground = f"<rect class='b{at % 2}' x='-110' width='1620' height='{high}'/>"
         label = f"<text class='{'name low' if close else 'name'}' x='-40' y='{high // 2 + (7 if close else 9)}'>{name}</text>"
         lines = [line for row, code in enumerate(sorted(it.had[name])) for line in code_line(it, name, code, row, close)]
         outages = path("o", (f"M{begin} 4v{high - 8}H{end}v-{high - 8}z" for begin, end in runs(it, it.out[name])))
         out += group(110, top, [f"<title>{name}</title>", ground, label, *outages, *lines])
         top += high
-    y = bands + 18
-    for code, names in zip(it.codes, never):
-        if names:
-            out.append(f"<text class='never' x='110' y='{y}'>{' '.join([f'never {code}:', *names])}</text>")
-            y += 24
+    return out, top - begin
+
+
+def svg_of(it: Drawn, satellites_part: list[str], end: int, numbers: str) -> str:
+    """The picture with this part for the satellites, which ends so far from the top, and a lane for each of these bands."""
+    lanes = lanes_of(it, numbers)
+    low = end + 46 * len(lanes)
+    out = svg_start(it, low + 230)
+    interval = f", interval {fixed(it.interval, 3)} s, column {fixed(it.length, 3)} s" if it.interval else ""
+    out.append(f"<text x='110' y='72'>{moment(it.first)} to {moment(it.last)}{interval}</text>")
+    counts = f"records {len(it.epochs)}, satellites {len(it.names)}, slips {it.kinds['slip']}, returns {it.kinds['return']}"
+    counts += f", rises {it.kinds['rise']}, missing epochs {it.missing}"
+    out += [f"<text x='110' y='98'>{counts}</text>", *satellites_part]
     out += group(110, end, ["<title>missing epochs</title>", "<text class='code' x='-6' y='18'>missing</text>", *bars(it, "g", it.gaps, 12)])
     out += group(110, end + 26, satellites(it))
     for at, lane in enumerate(lanes):
@@ -318,9 +342,9 @@ def band_height(lines: int, close: bool) -> int:
 
 def code_line(it: Drawn, name: str, code: int, row: int, close: bool) -> list[str]:
     """The lines of a code of a satellite, which has so many codes before it."""
-    title = f"<title>{name} {it.codes[code]}: "
+    title = f"<title>{name} {it.codes_of(name)[code]}: "
     place = "class='code tiny' transform='scale(1 2)' x='-6' y='9'" if close else "class='code' x='-6' y='16'"
-    label = f"<text {place}>{it.codes[code]}</text>"
+    label = f"<text {place}>{it.codes_of(name)[code]}</text>"
     rows = {c: [epoch.satellites[name] for epoch in part if name in epoch.satellites] for c, part in enumerate(it.parts)}
     cells = {c: [row[code] for row in part] for c, part in rows.items()}
     phases = {c for c, part in cells.items() if any(shown.phase for shown in part)}
@@ -380,15 +404,21 @@ def satellites(it: Drawn) -> list[str]:
     ]
 
 
-def lanes_of(it: Drawn) -> list[list[str]]:
-    """The lane of each band that has a strength: its mean in columns of so many bins that there are 144 of them at most."""
+def lanes_of(it: Drawn, numbers: str) -> list[list[str]]:
+    """The lane of each of these bands that has a strength: its mean in columns of so many bins that there are 144 of them at most."""
     each = next(number for number in range(1, UNITS) if ceil(Fraction(it.columns, number)) <= 144)
     parts = [[epoch for part in it.parts[begin : begin + each] for epoch in part] for begin in range(0, it.columns, each)]
     lanes = []
-    for band in "125":
+    for band in numbers:
         means: dict[int, int] = {}
         for at, part in enumerate(parts):
-            cells = [cell for epoch in part for row in epoch.satellites.values() for code, cell in zip(it.codes, row) if code[0] == band]
+            cells = [
+                cell
+                for epoch in part
+                for name, row in epoch.satellites.items()
+                for code, cell in zip(it.codes_of(name), row)
+                if code[0] == band
+            ]
             strengths = [cell.strength for cell in cells if cell.strength is not None]
             if strengths:
                 means |= {c: floor(sum(strengths) / len(strengths)) for c in range(at * each, min((at + 1) * each, it.columns))}

@@ -9,7 +9,7 @@ from datetime import datetime, timedelta
 from itertools import groupby
 
 from chains import TIMING, Date, clock_lines, is_wrong, offsets_of, week_lines
-from channels import most_told, told_by
+from channels import LAST_CHANNEL, most_told, told_by
 from choosing import DEFAULT_KIND, has_value_of_1012, kind_of, names_shown, numbers_of, slots_shown
 from equipment import Told, equipment_lines, equipment_of
 from finding import FIRST_DAY, date_of
@@ -134,7 +134,7 @@ def epoch_lines(others: list[Message]) -> list[str]:
 
 def channel_lines(others: list[Message]) -> list[str]:
     """The channels that messages of GLONASS tell, of each slot from 1 to 27."""
-    told = [f"{slot}:{channel}" for slot, its in sorted(told_by(others).items()) for channel in sorted(its)]
+    told = [f"{slot}:{channel}" for slot, its in sorted(told_by(others).items()) for channel in sorted(its) if channel <= LAST_CHANNEL]
     return [f" channels {','.join(told)}"] if told else []
 
 

@@ -77,6 +77,7 @@ done 3<<'ROWS'
 3|one over_half_week|the captures tell dates that differ; choose one by --near\n 2024-05-17T12:00:00 by 1013 of station 2003 in one\n 2024-05-21T00:00:01 by 1019 in over_half_week
 3|undated|the captures tell no date; give one, as in --near GPS-TIME-WITHIN-HALF-A-WEEK
 3|passed_over|the captures tell no date; give one, as in --near GPS-TIME-WITHIN-HALF-A-WEEK\n 2024-07-09T12:00:00 by 1013 of station 2003 in passed_over: it is after the time of making
+3|beidou_to_come|the captures tell no date; give one, as in --near GPS-TIME-WITHIN-HALF-A-WEEK\n 2024-06-02T00:00:00 by 1042 in beidou_to_come: it is after the time of making
 3|one next_week|the captures are longer than half a week; convert them in parts\n 2024-05-26T23:59:50 until 2024-05-26T23:59:50 in next_week: 1 epochs\n 2024-05-17T12:00:00 until 2024-05-17T12:00:01 in one: 2 epochs
 3|--codes 5X --msm 7 --near 2099-12-31T23:59:59 --skip-empty empty nmea|the captures have no frame of RTCM 3\n empty is empty\n nmea looks like NMEA
 3|same.*|more than 16 captures are of the same time, and 16 links are taken\n same.00\n same.01\n same.02\n same.03\n same.04\n same.05\n same.06\n same.07\n same.08\n same.09\n same.10\n same.11\n same.12\n same.13\n same.14\n same.15\n same.16
@@ -241,6 +242,21 @@ finds sixteen_weeks "$two 1013" "$one_command sixteen_weeks" '19 17 0 0 2 0 0 0 
 # pins: date_to_come
 finds 'one to_come' "$noon until 2024-05-17T12:00:02 by 1013" "cat one to_come | $one_command stdin" '5 2 0 0 3 0 0 0 3' 0 '' \
     ' undated to_come: dated near the others\n other-date 2024-07-09T12:00:00 by 1013 of station 2003 in to_come: it is after the time of making'
+# Nor does an ephemeris whose week is after that of making.
+# pins: ephemeris_to_come, system_week_to_come
+finds galileo_to_come "$two 1013" "$one_command galileo_to_come" '4 2 0 0 2 0 0 0 2' 0 one.rnx \
+    ' other-date 2024-06-02T01:00:00 by 1046 in galileo_to_come: it is after the time of making'
+finds galileo_of_now "$two 1013" "$one_command galileo_of_now" '4 2 0 0 2 0 0 0 2' 0 one.rnx
+# A date that is more than half a day from the epoch beside it dates that by its week, and is told.
+# pins: is_far_from_epoch, far_head, far_epoch
+finds tuesday '2024-05-24T12:00:00 until 2024-05-24T12:00:01 by 1013' "$(command 2024-05-24T12:00:00) tuesday" "$counts" 0 '' \
+    ' other-date 2024-05-21T12:00:00 by 1013 of station 2003 in tuesday: it dates the epoch beside it as 2024-05-24T12:00:00'
+finds monday "$two 1013" "$one_command monday" '5 3 0 0 2 0 0 0 2' 0 one.rnx \
+    ' other-date 2024-05-20T12:00:02 by 1013 of station 2003 in monday: it dates the epoch beside it as 2024-05-17T12:00:01'
+finds half_day "$two 1013" "$one_command half_day" "$counts" 0 one.rnx
+finds over_half_day "$two 1029" "$one_command over_half_day" "$counts" 0 one.rnx \
+    ' other-date 2024-05-18T00:00:01 by 1029 of station 2003 in over_half_day: it dates the epoch beside it as 2024-05-17T12:00:00'
+finds monday_of_another "$two 1013" "$one_command monday_of_another" '4 2 0 0 2 0 0 0 2' 0 one.rnx
 position=
 finds 'one position' "$two 1013" "cat position one | $one_command stdin" '4 1 0 0 3 0 0 0 2' 0 '' ' no-epoch position'
 # a capture that begins with another station, before the one that tells which station is converted
@@ -266,7 +282,7 @@ finds few "$noon until 2024-05-17T12:00:03 by 1013" "$one_command few" '5 1 0 0 
 # pins: msm_line_of
 finds stray "$two 1013" "$one_command stray" '5 2 0 0 3 0 0 0 2' 0 '' ' not in the file: GPS 1077, 1 messages'
 # The epochs are those of the file: the second epoch has a 1074 alone.
-# pins: doppler_line, doppler_line_of
+# pins: doppler_of_system, doppler_line_of
 finds '--msm 7 stray' "$noon until $noon by 1013" "$(command $noon 1C,2W ' --msm 7') stray" '5 3 0 0 2 0 0 0 1' 0 '' \
     ' not in the file: GPS 1074, 2 messages\n not in the file: Doppler of 1077, 1 messages'
 finds of_1077 "$two 1013" "$(command $noon 1C ' --msm 7') of_1077" "$counts" 0 '' ' not in the file: Doppler of 1077, 2 messages'
@@ -283,9 +299,14 @@ $(command $noon 1C ' --msm 7') joined/1.rtcm of_1074" '10 6 0 0 4 0 0 0 4' 0 '' 
     ' not in the file: GPS 1074, 3 messages\n not in the file: Doppler of 1077, 4 messages'
 rm -r joined
 finds with_others "$two 1013" "$one_command with_others" '7 5 0 0 2 0 0 0 2' 0 one.rnx \
-    ' not in the file: GPS 1003, 1 messages\n not in the file: GLONASS 1012, 2 messages\n not in the file: GLONASS 1087, 1 messages'
+    ' not in the file: GPS 1003, 1 messages\n not in the file: GLONASS 1012, 2 messages\n not in the file: GLONASS 1087, 1 messages\n refused M3 1087 1 in with_others'
 finds short_msm "$two 1013" "$one_command short_msm" '6 4 0 0 2 0 0 0 2' 0 one.rnx \
-    ' not in the file: GPS 1076, 1 messages\n not in the file: GPS 1077, 2 messages'
+    ' not in the file: GPS 1076, 1 messages\n not in the file: GPS 1077, 2 messages\n refused M3 1076 1 in short_msm\n refused M3 1077 2 in short_msm'
+# Cells of a signal that no code names are left out, and MSM of GLONASS that tell no day are refused without 1012.
+# pins: nameless_line, refused_number_line
+finds nameless "$two 1013" "$(command $noon 1C,2W,E1C) nameless" '5 1 0 0 4 0 0 0 2' 0 '' ' unchecked E\n without-name E 1'
+finds no_day "$two 1013" "$(command $noon 1C,2W,R1C ' --msm 4,R7') --channels 9:-2 no_day" '5 1 1 0 3 0 0 0 2' 0 '' \
+    ' unchecked R\n not in the file: Doppler of 1087, 2 messages\n refused M4 1087 1 in no_day'
 finds '--codes 5X one' "$two 1013" "$(command $noon 5X) one" '3 1 0 0 2 0 0 0 0' 3 '' \
     'rtcm2rinex: no record came; the file is a header alone'
 # pins: skipped_line
@@ -320,7 +341,7 @@ expect sbas_alone_of_gps 3 '' 'rtcm2rinex: the captures have no observations tha
 printf ' %s\n' 'satellites G05 G07 S20 S38' 'codes 1C,2W,S1C' \
     "next rtcm2rinex convert --station 2003 --near $noon --made \"\$(date -u +%FT%T)\" --marker 2003 --codes 1C,2W,S1C with_sbas" >want
 same summary_of_sbas told want
-finds without_sbas "$noon until $noon by 1013" "$one_command without_sbas" '2 1 0 0 1 0 0 0 1' 0 ''
+finds without_sbas "$noon until $noon by 1013" "$one_command without_sbas" '2 1 0 0 1 0 0 0 1' 0 '' ' without-name G 1'
 # pins: next_before, is_stray, stray_line
 finds astray "$noon until 2024-05-19T12:00:00 by 1013" "$one_command astray" '4 1 0 0 3 0 0 0 3' 0 '' \
     ' gap 2024-05-17T12:00:02 until 2024-05-19T12:00:00\n stray astray 2024-05-19T12:00:00\n time-falls astray'
@@ -336,7 +357,7 @@ finds '--window 2 led_astray steady' "$noon until 2024-05-19T12:00:00 by 1013" "
     ' gap 2024-05-17T12:00:09 until 2024-05-19T12:00:00\n stray led_astray 2024-05-19T12:00:00\n late 3: observations after 2 newer epochs, and new positions after 2 epochs, are left out, 3 of them on a link with the stray epoch\n time-falls led_astray'
 # A date in a capture without an epoch is its own moment, and counts if no capture with epochs tells a date.
 position=
-# pins: own_moment_of_ephemeris, own_moment_of_system_week
+# pins: own_moment, own_moment_of_ephemeris, own_moment_of_system_week
 finds 'undated dated_place' "$noon until $noon by 1013" "cat dated_place undated | $one_command stdin" '3 1 0 0 2 0 0 0 1' 0 '' ' undated undated: dated near the others\n no-epoch dated_place'
 finds 'undated week_place' "$noon until $noon by 1019 (or 2004-10-01, 2044-01-01)" "cat week_place undated | $one_command stdin" '3 1 0 0 2 0 0 0 1' 0 '' ' undated undated: dated near the others\n no-epoch week_place'
 finds 'undated galileo_place' "$noon until $noon by 1045" "cat galileo_place undated | $one_command stdin" '3 1 0 0 2 0 0 0 1' 0 '' ' undated undated: dated near the others\n no-epoch galileo_place'
@@ -398,12 +419,12 @@ finds '--window 2 --near 2024-05-17T12:00:00 '"$examples/late.rtcm" "$noon until
 finds week_end "2024-05-18T23:59:50 until 2024-05-19T00:00:09 by 1013" "$(command 2024-05-18T23:59:50) week_end" '21 1 0 0 20 0 0 0 20' 0 week_end.rnx
 position=
 # A position that changes once the header is settled is late, though no newer epoch came.
-finds '--window 2 moves_late' "$noon until 2024-05-17T12:00:02 by 1013" "$(command $noon | sed 's/4096/2/') moves_late" '6 1 0 0 4 0 0 1 3' 0 '' " late 1: observations after 2 newer epochs, and new positions after 2 epochs, are left out"
+finds '--window 2 moves_late' "$noon until 2024-05-17T12:00:02 by 1013" "$(command $noon | sed 's/4096/2/') moves_late" '6 1 0 0 4 0 0 1 3' 0 '' " late 1: observations after 2 newer epochs, and new positions after 2 epochs, are left out\n other-position moves_late"
 links='here.0 here.1' # 100 m apart
 conflict=' conflict 1: later copies differ from the first, which the file has'
-# pins: conflicts_line
-finds "here.1 here.0" "$noon until 2024-05-17T12:00:10 by 1013" "$one_command $links" '8 2 0 0 5 0 1 0 4' 0 '' "$conflict"
-finds "--links-as-given here.2 here.0" "$noon until 2024-05-17T12:00:11 by 1013" "$one_command here.2 here.0" '8 2 0 0 5 0 1 0 4' 0 '' "$conflict"
+# pins: conflicts_line, other_position_line
+finds "here.1 here.0" "$noon until 2024-05-17T12:00:10 by 1013" "$one_command $links" '8 2 0 0 5 0 1 0 4' 0 '' "$conflict\n other-position here.1"
+finds "--links-as-given here.2 here.0" "$noon until 2024-05-17T12:00:11 by 1013" "$one_command here.2 here.0" '8 2 0 0 5 0 1 0 4' 0 '' "$conflict\n other-position here.0"
 sed "s/^frames 8/link 2 conflict 1005 -\n&/" want_err >want; auto --report --links-as-given here.2 here.0; leaves report 0 any want
 position=$no_position
 finds "$(seq -s ' ' -f 'same.%02.0f' 0 15)" "$two 1013" "$one_command $(seq -s ' ' -f 'same.%02.0f' 0 15)" '48 16 0 0 32 0 0 0 2' 0 ''
@@ -444,6 +465,8 @@ if [ "$before" -le "$shown" ] && [ "$shown" -le "$after" ]; then right a_present
 # A date counts from the day before on.
 run auto --made 2024-05-15T23:59:59 one; expect a_date_after_the_present 3 '' 'rtcm2rinex: the captures tell no date; give one, as in --near GPS-TIME-WITHIN-HALF-A-WEEK
  2024-05-17T12:00:00 by 1013 of station 2003 in one: it is after the time of making'
+run auto --made 1990-01-01T00:00:00 week_to_come; expect a_week_after_the_present 3 '' 'rtcm2rinex: the captures tell no date; give one, as in --near GPS-TIME-WITHIN-HALF-A-WEEK
+ 1991-07-07T00:00:16 by 1019 in week_to_come: it is after the time of making'
 run auto --made 2024-05-16T00:00:00 one; [ "$status" = 0 ] && right a_date_of_tomorrow || wrong a_date_of_tomorrow "$status"
 
 position=$no_position

@@ -6,8 +6,10 @@ from pathlib import Path
 sys.path.insert(0, str(Path(__file__).resolve().parents[1] / "model"))
 
 import model  # noqa: E402
+from clocks import UNKNOWN_DAY, glonass_clock  # noqa: E402
 from finding import EPHEMERIS, OTHER_EPHEMERIDES, TEXT  # noqa: E402
-from station import capture, date, frame_of_row, legacy_of, msm_of, point  # noqa: E402
+from msm import message_of, payload_of_msm  # noqa: E402
+from station import STATION, capture, date, frame_of_row, legacy_of, msm_of, point  # noqa: E402
 from wire import WEEK_MS, frame_of  # noqa: E402
 
 DAY = 5 * 86_400  # 2024-05-17 in its week, in s
@@ -47,6 +49,12 @@ def unread(number):
 
 def cell_of(second, number):
     return capture(msm_of(1000 * second, {5: (70, 0)}, {(5, 2): {"cnr": 40}}, number))
+
+
+def other_cells(number, tow, *cells, **satellite):
+    """An MSM of another system than GPS, of these cells by satellite and signal."""
+    rows = {bit: {"rough_ms": 70, **satellite} for bit, _ in cells}
+    return frame_of(payload_of_msm(message_of({"number": number, "station": STATION, "tow": tow}, rows, {it: {"cnr": 40} for it in cells})))
 
 
 def equipment(number, *fields, station=2003):
@@ -131,6 +139,17 @@ CAPTURES = {
     "fifteen_weeks": ONE + b"".join(date(43_200, 60_440 - 7 * it, 7) for it in range(15)),
     "sixteen_weeks": ONE + b"".join(date(43_200, 60_440 - 7 * it, 7) for it in range(16)),
     "to_come": date(43_200, 60_500) + epochs(NOON + 2),
+    # the day of making is the last one of week 2316 of GPS, and the next week is 1293 of Galileo and 961 of BeiDou
+    "galileo_to_come": ONE + system_week(1046, 1293, 3_600),
+    "galileo_of_now": ONE + system_week(1046, 1292, 604_740),
+    "beidou_to_come": system_week(1042, 961, 0) + epochs(NOON),
+    "week_to_come": week(600, 16) + date(43_200, 60_500) + epochs(NOON),
+    # a 1013 tells a Tuesday, or the Monday after two epochs of Friday, or 12 hours after one, or a second more; and one of another station
+    "tuesday": date(43_200, 60_451) + epochs(NOON, NOON + 1),
+    "monday": ONE + date(43_202, 60_450) + date(43_203, 60_449),
+    "half_day": date(0, 60_448) + epochs(NOON, NOON + 1),
+    "over_half_day": text_date(1, 60_448) + epochs(NOON, NOON + 1),
+    "monday_of_another": ONE + date(43_202, 60_450, 7),
     "with_sbas": date(43_200) + epochs(NOON, satellites=(5, 40)) + epochs(NOON + 1, satellites=(58, 5)) + epochs(NOON + 2),
     "sbas_alone": date(43_200) + epochs(NOON, satellites=(40,)),
     "without_sbas": date(43_200) + epochs(NOON, satellites=(39, 5, 59)),
@@ -154,6 +173,11 @@ CAPTURES = {
     "of_1077_later": date(43_202) + cell_of(NOON + 2, 1077) + cell_of(NOON + 3, 1077),
     # messages of other systems, and one of GPS, that are not converted
     "with_others": ONE + b"".join(unread(it) for it in (1087, 1012, 1003, 1012)),
+    # E36 in 1C, also beside the signal 1A, which no code names; and R09 of an unknown day, and of the Friday, 54,000 s in Moscow
+    "nameless": ONE + other_cells(1094, 1000 * NOON, (36, 2), (36, 3)) + other_cells(1094, 1000 * NOON + 1000, (36, 2)),
+    "no_day": ONE + b"".join(
+        other_cells(1087, glonass_clock(day, 53_982_000 + 1000 * second), (9, 2), extended=5)
+        for second, day in ((0, UNKNOWN_DAY), (1, 5))),
     "falls": date(43_200) + epochs(NOON + 1, NOON, NOON + 2),
     "few": date(43_200) + epochs(NOON, satellites=(5, 7)) + b"".join(
         capture(legacy_of(1000 * (NOON + it), [{**SATELLITE, "satellite": 5, "l2_range": -(1 << 13), "l2_offset": -(1 << 19)}]))

@@ -172,13 +172,22 @@ expect chart_of_mixed_without_records 0 "$(printf 'marker BASE\nno records')" ''
 chart --text --systems G heading
 expect none_of_mixed_without_records 3 '' 'rtcm2rinex: none of the chosen satellites is in the file'
 
-# In SVG there is no picture of a file with other systems, also without a record; a file that `check` refuses is none of them.
-for name in mixed galileo heading; do
-    for words in '' '--systems G' '--systems E' '--satellites G11,E11'; do
-        chart $words $name
-        expect "svg_of_$name$(echo "$words" | tr -d ' ')" 3 '' 'rtcm2rinex: other systems than GPS: add --text'
-    done
-done
+# In SVG the names of the systems stand above their bands, and below these the lines of the codes that satellites have nowhere.
+chart mixed
+# pins: drawn_in_order, svg_title, svg_heading, with_some_bins, systems_svg, ShowsSystemsInSvg
+sed -n "s/.*class='system' x='110' y='\([0-9]*\)'>\(.*\)<.*/\1 \2/p" out >got
+printf '%s\n' '134 GPS' '192 GLONASS' '274 Galileo' '332 BeiDou' '390 QZSS' '448 SBAS' '506 NavIC' >want
+same systems_of_mixed_in_svg got want
+# pins: never_group
+sed -n "s/.*class='never' x='110' y='\([0-9]*\)'>\(.*\)<.*/\1 \2/p" out >got
+printf '%s\n' '18 never R2P: R26' '42 never C6I: C41' '66 never C7I: C41' '90 never C5P: C41' >want
+same never_of_mixed_in_svg got want
+# pins: lower_band, upper_band, upper_number
+sed -n "s/.*'>of band \([0-9]\)<.*/\1/p" out >got
+printf '%s\n' 1 2 5 8 >want # no code of the bands 6 and 7 has a strength
+same strips_of_mixed_in_svg got want
+chart --systems R galileo
+expect none_of_galileo_in_svg 3 '' 'rtcm2rinex: none of the chosen satellites is in the file'
 sed '36s/25110278.381/       0.000/' mixed >bad
 for form in '' --text; do
     chart $form bad; expect "chart_of_a_bad_mixed_file$form" 3 '' 'line 36: C3 Value'

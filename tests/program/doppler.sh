@@ -145,7 +145,7 @@ $(report 7 0 0 0 7 0 0 0 1)
  from $near until $near by --near
  no-position: the header has zeros, as no 1005 or 1006 came in time, or the first one has zeros
 LINES
-# pins: words_of_doppler, doppler_line_unless
+# pins: words_of_doppler, doppler_lines_unless
 leaves auto_of_seven_systems 0 seven.rnx want_err
 python3 "$here/framed.py" $(more $G05_5X) $E36_7Q >two_kinds.rtcm
 run auto --near $near --made $made --marker BASE --doppler two_kinds.rtcm
@@ -170,7 +170,7 @@ sed 's/^E    4 C8X L8X D8X S8X    /E    3 C8X L8X S8X        /' seven.rnx >bad.r
 run check bad.rnx
 expect all_systems_or_none 3 'line 12: C1 HeaderLine' ''
 # cut gives the file of a conversion of the same records and codes, and label leaves the records.
-run cut --codes R2P seven.rnx; cp out cut.rnx
+run cut --systems R seven.rnx; cp out cut.rnx
 grep -e '^[A-Z]    4' -e '^R10 ' cut.rnx >told
 printf '%-60sSYS / # / OBS TYPES \n%s\n' 'R    4 C2P L2P D2P S2P' 'R10  20079294.057 6  83309237.891 6      1244.632          37.500' >want
 same cut told want

@@ -343,19 +343,23 @@ finds() {
     sed -n 's/^rtcm2rinex convert //p' err >said
     run $(cat said | sed 's/^/convert /'); cp out again; same "auto_${name}_as_said" again "$file"
 }
-doppler=' not in the file: Doppler of 1077, 1 messages\n'
+# rates NUMBER..: a line for each of these MSM, whose Doppler is left out
+rates() { printf ' not in the file: Doppler of %s, 1 messages\\n' "$@"; }
+doppler=$(rates 1077)
+all_rates=$(rates 1077 1087 1097 1127 1117 1107 1137)
 seven_codes=5X,R2P,E8X,C1P,J1X,S5I,I5A
 seven_options="$seven_codes --msm 7 --window 4096 --channels 10:-5"
 taken='7 0 0 0 7 0 0 0 1'
 # pins: said_code, channels_option, channel_of_field
-finds seven_systems seven.rnx "$seven_options chained.rtcm" "$taken" "$doppler" chained.rtcm
+finds seven_systems seven.rnx "$seven_options chained.rtcm" "$taken" "$all_rates" chained.rtcm
 # Words go before what messages tell.
-finds codes_in_another_order seven.rnx "$seven_options chained.rtcm" "$taken" "$doppler" --codes I5A,S5I,J1X,C1P,E8X,R2P,5X chained.rtcm
+finds codes_in_another_order seven.rnx "$seven_options chained.rtcm" "$taken" "$all_rates" --codes I5A,S5I,J1X,C1P,E8X,R2P,5X chained.rtcm
 # pins: leap_option
-finds given_leap_seconds seven.rnx "$seven_options --leap-seconds 18 chained.rtcm" "$taken" "$doppler" --leap-seconds 18 chained.rtcm
+finds given_leap_seconds seven.rnx "$seven_options --leap-seconds 18 chained.rtcm" "$taken" "$all_rates" --leap-seconds 18 chained.rtcm
 convert 5X,R2P --msm 7 --channels 10:-7 chained.rtcm; cp out other.rnx
+# pins: is_channel_of_field, own_channel, other_head, own_channels_words
 finds given_channels other.rnx '5X,R2P --msm 7 --window 64 --channels 10:-7 chained.rtcm' '7 5 0 0 2 0 0 0 1' \
-    "$doppler$(printf ' not in the file: %s, 1 messages\\n' 'Galileo 1097' 'SBAS 1107' 'QZSS 1117' 'BeiDou 1127' 'NavIC 1137')" \
+    " other-channel R10 -7: messages tell -5\n$(rates 1077 1087)$(printf ' not in the file: %s, 1 messages\\n' 'Galileo 1097' 'SBAS 1107' 'QZSS 1117' 'BeiDou 1127' 'NavIC 1137')" \
     --codes 5X,R2P --channels 10:-7 --window 64 chained.rtcm
 # Of a kind for each system the exceptions are said.
 python3 "$here/framed.py" $(more $G05_5X) $E36_7Q >two_kinds.rtcm
@@ -377,7 +381,7 @@ chain $(more $G05_5X 467001714BE800${C41_1P#??????????????}) $I14_5A >beidou_ahe
 convert 5X,I5A --msm 7 beidou_ahead.rtcm; cp out without.rnx
 # pins: is_wrong_offset, gps_ahead
 finds beidou_14_s_ahead without.rnx '5X,I5A --msm 7 --window 4096 beidou_ahead.rtcm' '3 1 0 0 2 0 0 0 1' \
-    " clock C +14.000 1 of 1\n$doppler not in the file: BeiDou 1127, 1 messages\n" beidou_ahead.rtcm
+    " clock C +14.000 1 of 1\n$(rates 1077 1137) not in the file: BeiDou 1127, 1 messages\n" beidou_ahead.rtcm
 # GLONASS a day ahead is left out, and 1 ms ahead it stays in records of its own.
 chain $(more $G05_5X) 43F001CCDECCC0${R10_2P#??????????????} >day_ahead.rtcm
 finds glonass_a_day_ahead gps_alone.rnx '5X --msm 7 --window 4096 day_ahead.rtcm' '2 1 0 0 1 0 0 0 1' \
@@ -385,18 +389,21 @@ finds glonass_a_day_ahead gps_alone.rnx '5X --msm 7 --window 4096 day_ahead.rtcm
 chain $(more $G05_5X) 43F001ACDECCC4${R10_2P#??????????????} >ms_ahead.rtcm
 convert 5X,R2P --msm 7 --channels 10:-5 ms_ahead.rtcm; cp out two_records.rnx
 finds glonass_1_ms_ahead two_records.rnx '5X,R2P --msm 7 --window 4096 --channels 10:-5 ms_ahead.rtcm' '2 0 0 0 2 0 0 0 2' \
-    " clock R +0.001 1 of 1\n$doppler" ms_ahead.rtcm
+    " clock R +0.001 1 of 1\n$(rates 1077 1087)" ms_ahead.rtcm
 # A whole second ahead everywhere is a wrong number of leap seconds.
 chain $(more $G05_5X) 43F001ACDEDC60${R10_2P#??????????????} >second_ahead.rtcm
 convert 5X,R2P --msm 7 --channels 10:-5 --leap-seconds 17 second_ahead.rtcm; cp out second.rnx
-# pins: truly_behind, whole_seconds
+# pins: truly_behind, whole_seconds, found_leap_words
 finds glonass_1_s_ahead second.rnx '5X,R2P --msm 7 --window 4096 --channels 10:-5 --leap-seconds 17 second_ahead.rtcm' '2 0 0 0 2 0 0 0 1' \
-    "$doppler" second_ahead.rtcm
+    " leap-seconds 17: by the clocks of GLONASS\n$(rates 1077 1087)" second_ahead.rtcm
+# It is told only where the words do not say it.
+finds glonass_1_s_ahead_as_given second.rnx '5X,R2P --msm 7 --window 4096 --channels 10:-5 --leap-seconds 17 second_ahead.rtcm' '2 0 0 0 2 0 0 0 1' \
+    "$(rates 1077 1087)" --leap-seconds 17 second_ahead.rtcm
 # A system whose messages stand in no epoch with another one is not compared.
 chain $G05_5X $R10_2P >apart.rtcm
 convert 5X,R2P --msm 7 --channels 10:-5 apart.rtcm; cp out apart.rnx
 # pins: unchecked_system_line
-finds glonass_apart apart.rnx '5X,R2P --msm 7 --window 4096 --channels 10:-5 apart.rtcm' '2 0 0 0 2 0 0 0 1' " unchecked R\n$doppler" apart.rtcm
+finds glonass_apart apart.rnx '5X,R2P --msm 7 --window 4096 --channels 10:-5 apart.rtcm' '2 0 0 0 2 0 0 0 1' " unchecked R\n$(rates 1077 1087)" apart.rtcm
 # 1012 are converted where they and all epochs lie within a day, near the middle of it.
 # legacy NAME NEAR OPTIONS PAYLOAD..: `auto` says this command, which writes the same file
 legacy() {
@@ -422,6 +429,33 @@ echo ' untaken GLONASS 1012 1: more than a day' >want; grep 1012 said >told; sam
 legacy with_1012_cut_short 2020-01-25T02:16:00 '1C --window 4096' $G05_1004 "$(echo $R12_1012 | cut -c 1-16)"
 # pins: glonass_line_of
 echo ' not in the file: GLONASS 1012, 1 messages' >want; grep 1012 said >told; same auto_with_1012_cut_short told want
+# The channels that are told of slot 12: by 1012 -1, none or +10; by 1020 -2 or 3. Of two alike it is the lesser.
+told_slots() {
+    name=$1 want=$2 options=$3
+    shift 3
+    python3 "$here/framed.py" "$@" >legacy.rtcm
+    run auto --near 2020-01-25T02:16:00 --made $made $options legacy.rtcm
+    # pins: told_fields, told_channel, several_words
+    grep channel err | grep -v rtcm2rinex >told; printf "$want" >want; same "auto_$name" told want
+}
+NONE_1012=3F400124210600818F98EAEE800097221CA7FACFF289C97E
+ABOVE_1012=3F400124210600818898EAEE800097221CA7FACFF289C97E
+rest_of_1020=$(printf '%084d' 0)
+MINUS_2=3FC30A$rest_of_1020
+PLUS_3=3FC314$rest_of_1020
+told_slots two_1020 ' several-channels R12 -2 3\n' '' $G05_1004 $PLUS_3 $NONE_1012 $MINUS_2 $G05_3_S
+told_slots one_1020 '' '' $G05_1004 $PLUS_3 $NONE_1012 $PLUS_3 $G05_3_S
+told_slots a_1012_before_1020 '' '' $G05_1004 $PLUS_3 $R12_1012 $MINUS_2 $G05_3_S
+told_slots channels_above_6 ' several-channels R12 3 10\n' '' $G05_1004 $PLUS_3 $ABOVE_1012 $G05_3_S
+told_slots a_channel_above_6_alone " no-channel R12: give --channels, as a header's GLONASS SLOT / FRQ # of the same days has them\n" '' \
+    $G05_1004 $ABOVE_1012 $G05_3_S
+told_slots a_channel_above_6_and_given ' other-channel R12 3: messages tell 10\n' '--channels 12:3' $G05_1004 $ABOVE_1012 $G05_3_S
+told_slots channels_that_are_given ' other-channel R12 5: messages tell -1\n' '--channels 12:5' $G05_1004 $R12_1012 $G05_3_S
+told_slots channels_of_1020_and_given ' several-channels R12 -2 3\n' '--channels 12:5' $G05_1004 $PLUS_3 $NONE_1012 $MINUS_2 $G05_3_S
+# `summary` lists the channels that RINEX has.
+# pins: place_is_counted
+python3 "$here/framed.py" $G05_1004 $ABOVE_1012 >above.rtcm; run summary above.rtcm; grep channels out >told; : >want; same summary_of_a_channel_above_6 told want
+python3 "$here/framed.py" $G05_1004 $R12_1012 >within.rtcm; run summary within.rtcm; grep '^ channels' out >told; echo ' channels 12:-1' >want; same summary_of_a_channel told want
 # A lone 1012 before the first epoch counts too: a second before it, and not nearly a day after it.
 legacy with_a_lone_1012 2020-01-25T02:16:02 '1C,R1C,R2P --window 4096 --channels 12:-1 --with-1012' $R12_1012 $G05_3_S
 # `summary` says the word where the times lie near the date of a 1013: of the same day, and not of half a day later.

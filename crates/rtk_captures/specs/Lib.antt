@@ -3,10 +3,12 @@ pub mod CaptureEquipment
 pub mod CaptureNames
 pub mod ChosenStation
 pub mod Dating
+pub mod FarDateLines
 pub mod Joining
 pub mod Kept
 pub mod Linking
 pub mod Lists
+pub mod OtherPositions
 pub mod Positions
 pub mod Reach
 pub mod RefusalLists

@@ -7,9 +7,6 @@ use Rattle.rtk_survey.specs.declared.survey.CaptureSurvey.{CaptureSurvey}
 use Rattle.rtk_survey.specs.Contents.{station_in}
 use Rattle.rtk_captures.specs.StationCaptures.{epochs_heard, is_observed_in}
 use Rattle.rtk_obs.specs.declared.time.TheConstants.{LAST_MS}
-use Rattle.rtk_survey.specs.Telling.{moment_of}
-use Rattle.rtk_survey.specs.declared.date_message.DateMessage.TheVariants.{Utc}
-use Rattle.rtk_survey.specs.declared.date_message.UtcDate.{UtcDate}
 use Rattle.rtk_survey.specs.declared.placing.Placed.{Placed}
 use Rattle.rtk_survey.specs.declared.reference_point.ReferencePoint.{ReferencePoint}
 use Rattle.rtk_survey.specs.declared.tellings.Told.{Told}
@@ -91,10 +88,11 @@ station_line s station name =
     else []
 
 -- formula
--- a date that is to come, and its capture
-abbrev pub to_come_line : UtcDate → List ℕ → List ℕ
-to_come_line d name =
-    codes " " ++ time_text (moment_of d) ++ date_message_text (Utc d) ++ words_and_name (codes " in ") name
+-- a date that is to come, and its capture, if the date can be written
+unfoldable pub to_come_line : Told → List ℕ → List ℕ
+to_come_line t name =
+    if nat_lt LAST_MS t.first then [] else
+    codes " " ++ time_text t.first ++ date_message_text t.message ++ words_and_name (codes " in ") name
     ++ codes ": it is after the time of making\n"
 
 -- formula

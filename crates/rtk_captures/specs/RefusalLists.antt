@@ -2,7 +2,6 @@
 use Rattle.std.specs.Prelude.{ℕ, nat_lt, List, [], length, flat_map, slice_get, codes, Option, None, Some, if◌then◌else◌}
 use Rattle.std.specs.Borrow.{Bor}
 use Rattle.std.specs.List.{range_with_len}
-use Rattle.rtk_survey.specs.declared.date_message.UtcDate.{UtcDate}
 use Rattle.rtk_survey.specs.declared.placing.Placed.{Placed}
 use Rattle.rtk_survey.specs.declared.survey.CaptureSurvey.{CaptureSurvey}
 use Rattle.rtk_survey.specs.declared.tellings.Told.{Told}
@@ -25,9 +24,9 @@ unfoldable pub listed_stations : List (Bor (List ℕ)) → List CaptureSurvey �
 listed_stations names ss = flat_map (listed_station names ss) (range_with_len 0 4096)
 
 -- the dates that are to come
-abbrev pub to_come_line_if : Option UtcDate → List ℕ → List ℕ
+abbrev pub to_come_line_if : Option Told → List ℕ → List ℕ
 to_come_line_if None name = []
-to_come_line_if (Some d) name = to_come_line d name
+to_come_line_if (Some t) name = to_come_line t name
 
 abbrev pub listed_to_come : List (Bor (List ℕ)) → List CaptureSurvey → List ℕ
 listed_to_come names ss = lines_by (λ at s. to_come_line_if (to_come_in s) (capture_name names at)) 0 ss

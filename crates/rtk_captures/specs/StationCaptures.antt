@@ -5,7 +5,6 @@ use Rattle.rtk_survey.specs.CaptureDates.{no_dates, do_system_weeks_decide, coun
 use Rattle.rtk_survey.specs.Parting.{parted_frame}
 use Rattle.rtk_survey.specs.Targets.{all_dating, has_dated_observation}
 use Rattle.rtk_survey.specs.declared.capture_dates.CaptureDates.{CaptureDates}
-use Rattle.rtk_survey.specs.declared.date_message.UtcDate.{UtcDate}
 use Rattle.rtk_survey.specs.declared.dating_systems.DatingSystems.{DatingSystems}
 use Rattle.rtk_survey.specs.declared.reference_point.ReferencePoint.{ReferencePoint}
 use Rattle.rtk_survey.specs.declared.station.StationSurvey.{StationSurvey}
@@ -31,6 +30,11 @@ point_of (Some t) = t.reference_point
 abbrev pub far_point_of : Option StationSurvey → Option ReferencePoint
 far_point_of None = None
 far_point_of (Some t) = t.far_point
+
+-- one of its 1005 or 1006 has another one than the first that has one
+abbrev pub tells_other_point : Option StationSurvey → Bool
+tells_other_point None = false
+tells_other_point (Some t) = t.has_other_point
 
 -- the systems that date a capture: those that it was surveyed for
 abbrev pub systems_for : Option TargetSurvey → DatingSystems
@@ -120,18 +124,18 @@ abbrev pub parting_in : ℕ → CaptureSurvey → Option ℕ
 parting_in n s = parting_for n s.contents.target
 
 -- the first date that is passed over since it is to come
-abbrev pub to_come_for : Option TargetSurvey → Option UtcDate
+abbrev pub to_come_for : Option TargetSurvey → Option Told
 to_come_for None = None
 to_come_for (Some t) = t.to_come
 
-abbrev pub to_come_in : CaptureSurvey → Option UtcDate
+abbrev pub to_come_in : CaptureSurvey → Option Told
 to_come_in s = to_come_for s.contents.target
 
-abbrev pub to_come_if : Bool → Option UtcDate → Option UtcDate
-to_come_if heard date = if heard then date else None
+abbrev pub to_come_if : Bool → Option Told → Option Told
+to_come_if heard told = if heard then told else None
 
 -- the same of a capture that has something of the station
-abbrev pub to_come_told : ℕ → CaptureSurvey → Option UtcDate
+abbrev pub to_come_told : ℕ → CaptureSurvey → Option Told
 to_come_told n s = to_come_if (is_heard (station_in n s)) (to_come_in s)
 
 -- ---- all of it
@@ -149,4 +153,5 @@ capture_of n s = record {
   is_own_moment = is_named_by_own n (moment_if_heard (is_heard (station_in n s)) (moment_in n s));
   parting = parting_in n s;
   outside = s.bytes - s.contents.framed;
+  has_other_point = tells_other_point (station_in n s);
 }

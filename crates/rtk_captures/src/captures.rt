@@ -11,7 +11,7 @@ use crate::lists::{
     put_to_come_line,
 };
 use crate::station_capture::{StationCapture, epochs_heard, to_come_in, told_in};
-use rtk_survey::{CaptureSurvey, Placed, Told, UtcDate};
+use rtk_survey::{CaptureSurvey, Placed, Told};
 use std::alloc::{AllocError, Global};
 
 /// The captures that were read, as they were given.
@@ -31,11 +31,11 @@ pub struct StationCaptures<'c, 's, 'n> {
     pub captures: &'c [StationCapture],
 }
 
-fn put_to_come_if(lines: &mut Vec<u8>, date: Option<UtcDate>, name: &str) -> Result<(), AllocError>
-    ensures { OnOk result (lines.new.items ≡ lines.old.items ++ spec.to_come_line_if date name.now) }
+fn put_to_come_if(lines: &mut Vec<u8>, told: Option<Told>, name: &str) -> Result<(), AllocError>
+    ensures { OnOk result (lines.new.items ≡ lines.old.items ++ spec.to_come_line_if told name.now) }
 {
-    match date {
-        Some(date) => put_to_come_line(lines, date, name),
+    match told {
+        Some(told) => put_to_come_line(lines, &told, name),
         None => Ok(()),
     }
 }

@@ -42,10 +42,12 @@ mod capture_equipment;
 mod captures;
 mod chosen_station;
 mod dating;
+mod far_dates;
 mod joining;
 mod kept;
 mod linking;
 mod lists;
+mod other_positions;
 mod position_lines;
 mod positions;
 mod reach;
@@ -60,6 +62,7 @@ pub use capture_equipment::equipment_in_captures;
 pub use captures::{Captures, StationCaptures};
 pub use chosen_station::{OnlyStation, is_observed, only_station};
 pub use dating::{Dating, are_out_of_reach, date_captures};
+pub use far_dates::put_far_date;
 pub use joining::{Ordered, in_order, links_of};
 pub use kept::empty_captures;
 pub use linking::{limit_links, links_as_given, links_found};
@@ -67,12 +70,13 @@ pub use lists::{
     put_capture_line, put_date_line, put_name_line, put_parting, put_stray_line, put_to_come_line,
     put_undated_line,
 };
+pub use other_positions::put_other_positions;
 pub use positions::{agree_on_position, put_no_position};
-pub use reach::{Base, is_out_of_reach, least_told, near_of, place_captures, reach_of};
+pub use reach::{Base, is_out_of_reach, least_told, near_of, place_captures, reach_of, reach_with};
 pub use refusal::{PlanFault, Refusal, refused};
 pub use span_line::{DateSource, DatedSpan, put_span};
 pub use station_capture::{
-    StationCapture, captures_of, is_station, others_passed_over, span_in, to_come_told,
+    StationCapture, capture_of, captures_of, is_station, others_passed_over, span_in, to_come_told,
     weeks_passed_over,
 };
 pub use times::put_time;

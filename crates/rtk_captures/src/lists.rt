@@ -11,19 +11,23 @@ use crate::station_capture::{epochs_heard, is_observed_in};
 use crate::times::{put_time, put_time_at};
 use rtk_message::{put_named, put_sh_quoted};
 use rtk_obs::{GpsMs, LAST_MS};
-use rtk_survey::{CaptureSurvey, DateMessage, Look, Placed, Told, UtcDate, moment_of};
+use rtk_survey::{CaptureSurvey, Look, Placed, Told};
 use std::alloc::AllocError;
 
-// Appends a line feed.
-fn end_line(lines: &mut Vec<u8>) -> Result<(), AllocError>
+/// Appends a line feed.
+pub(crate) fn end_line(lines: &mut Vec<u8>) -> Result<(), AllocError>
     ensures { OnOk result (lines.new.items ≡ lines.old.items ++ spec.line_end) }
 {
     lines.push(b'\n')?;
     Ok(())
 }
 
-// Appends words and the name of a capture.
-fn put_words_and_name(lines: &mut Vec<u8>, words: &[u8], name: &str) -> Result<(), AllocError>
+/// Appends words and the name of a capture.
+pub(crate) fn put_words_and_name(
+    lines: &mut Vec<u8>,
+    words: &[u8],
+    name: &str,
+) -> Result<(), AllocError>
     ensures { OnOk result (lines.new.items ≡ lines.old.items ++ spec.words_and_name words.now name.now) }
 {
     lines.extend_from_slice(words)?;
@@ -169,13 +173,17 @@ pub(crate) fn put_reach_line(
     put_epochs(lines, epochs)
 }
 
-/// Appends the line of a date that is to come.
-pub fn put_to_come_line(lines: &mut Vec<u8>, date: UtcDate, name: &str) -> Result<(), AllocError>
-    ensures { OnOk result (lines.new.items ≡ lines.old.items ++ spec.to_come_line date name.now) }
+/// Appends the line of a date that is to come, if it can be written.
+#[tactic(auto, unfolding(crate::specs::Lists::to_come_line))]
+pub fn put_to_come_line(lines: &mut Vec<u8>, told: &Told, name: &str) -> Result<(), AllocError>
+    ensures { OnOk result (lines.new.items ≡ lines.old.items ++ spec.to_come_line told.now name.now) }
 {
+    if LAST_MS < told.first {
+        return Ok(());
+    }
     lines.extend_from_slice(b" ")?;
-    put_time(lines, moment_of(date))?;
-    put_message(lines, DateMessage::Utc(date))?;
+    put_time_at(lines, told.first)?;
+    put_message(lines, told.message)?;
     put_words_and_name(lines, b" in ", name)?;
     lines.extend_from_slice(b": it is after the time of making\n")
 }

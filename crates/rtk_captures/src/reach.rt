@@ -205,7 +205,8 @@ fn joined(reach: Placed, more: Placed) -> Placed
     }
 }
 
-fn reach_with(reach: Option<Placed>, more: Option<Placed>) -> Option<Placed>
+/// The least first epoch, the least epoch and the greatest one of two reaches, as far as there are two.
+pub fn reach_with(reach: Option<Placed>, more: Option<Placed>) -> Option<Placed>
     ensures { result ≡ spec.reach_with reach more }
 {
     let Some(more) = more else {

@@ -7,7 +7,7 @@ ghost use Rattle.rtk_survey.specs.CaptureDates.{is_own};
 
 use rtk_survey::{
     CaptureSurvey, DateMessage, DatingSystems, Look, ReferencePoint, Span, StationSurvey,
-    TargetSurvey, Tellings, Told, UtcDate,
+    TargetSurvey, Tellings, Told,
 };
 use std::alloc::{AllocError, Global};
 
@@ -38,6 +38,8 @@ pub struct StationCapture {
     pub parting: Option<u64>,
     /// How many of its bytes are in no frame.
     pub outside: u64,
+    /// Has one of its 1005 or 1006 another reference point than the first that has one?
+    pub has_other_point: bool,
 }
 
 /// Does a capture have something of a station?
@@ -60,6 +62,15 @@ fn far_point_of(station: Option<&StationSurvey>) -> Option<ReferencePoint>
     ensures { result ≡ spec.far_point_of (option_copied station.entry) }
 {
     station?.far_point
+}
+
+fn tells_other_point(station: Option<&StationSurvey>) -> bool
+    ensures { result ≡ spec.tells_other_point (option_copied station.entry) }
+{
+    match station {
+        Some(station) => station.has_other_point,
+        None => false,
+    }
 }
 
 // The systems that date a capture.
@@ -217,20 +228,20 @@ fn parting_in(station: u16, survey: &CaptureSurvey) -> Option<u64>
 }
 
 /// The first date in a capture that is passed over since it is to come.
-pub(crate) fn to_come_in(survey: &CaptureSurvey) -> Option<UtcDate>
+pub(crate) fn to_come_in(survey: &CaptureSurvey) -> Option<Told>
     ensures { result ≡ spec.to_come_in survey.now }
 {
     survey.contents.target.as_ref()?.to_come
 }
 
-fn to_come_if(heard: bool, date: Option<UtcDate>) -> Option<UtcDate>
-    ensures { result ≡ spec.to_come_if heard date }
+fn to_come_if(heard: bool, told: Option<Told>) -> Option<Told>
+    ensures { result ≡ spec.to_come_if heard told }
 {
-    if heard { date } else { None }
+    if heard { told } else { None }
 }
 
 /// The same of a capture that has something of the station.
-pub fn to_come_told(station: u16, survey: &CaptureSurvey) -> Option<UtcDate>
+pub fn to_come_told(station: u16, survey: &CaptureSurvey) -> Option<Told>
     ensures { result ≡ spec.to_come_told station survey.now }
 {
     let heard = is_heard(survey.contents.stations.get(&station));
@@ -238,7 +249,7 @@ pub fn to_come_told(station: u16, survey: &CaptureSurvey) -> Option<UtcDate>
 }
 
 /// What a capture tells of a station.
-pub(crate) fn capture_of(station: u16, survey: &CaptureSurvey) -> StationCapture
+pub fn capture_of(station: u16, survey: &CaptureSurvey) -> StationCapture
     ensures { result ≡ spec.capture_of station survey.now }
 {
     let heard = survey.contents.stations.get(&station);
@@ -256,6 +267,7 @@ pub(crate) fn capture_of(station: u16, survey: &CaptureSurvey) -> StationCapture
         is_own_moment: is_named_by_own(station, moment),
         parting: parting_in(station, survey),
         outside: survey.bytes.saturating_sub(survey.contents.framed),
+        has_other_point: tells_other_point(heard),
     }
 }
 

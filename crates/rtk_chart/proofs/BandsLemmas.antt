@@ -1,16 +1,17 @@
 -- How many bytes the bands of a picture in SVG have.
 use Rattle.std.proofs.Common.{◌≡◌, ◌≤◌, ◌<◌, ℕ, zero, suc, ◌+◌, ◌*◌, ◌/◌, ◌%◌, ◌-◌, Bool, true, false, cond, List, [], ◌∷◌, ◌++◌, length, codes, arith, length-append}
-use Rattle.std.specs.Prelude.{decimal, count_by}
+use Rattle.std.specs.Prelude.{decimal, count_by, All}
 use Rattle.std.specs.List.{range_with_len, sum_by}
 use Rattle.std.proofs.lemmas.Fmt.{length-decimal-le}
+use Rattle.std.proofs.lemmas.List.Elements.{All-head, All-tail}
 use Rattle.std.proofs.lemmas.List.Concat.{length-flat_map}
 use Rattle.std.proofs.lemmas.List.Sums.{sum_by-cons}
-use Rattle.rtk_obs.specs.declared.code.Code.{Code}
 use Rattle.rtk_chart.specs.Signs.{is_drawn, has_code}
 use Rattle.rtk_chart.specs.TextPicture.{satellite_label, drawn_before}
 use Rattle.rtk_chart.specs.SvgPicture.{number_between, codes_before, lines_before, line_if_had, code_line, code_lines, height_of, height_if_drawn, band_top, name_start, name_drop, band_start, outage_flags, outage_boxes, band_text, band_if_drawn, bands_text}
 use Rattle.rtk_chart.specs.Size.{boxes_over, forms_in_bar, forms_if_had, forms_in_band, forms_if_drawn, forms_in_bands}
 use Rattle.rtk_chart.specs.SizeLaws.{BandsAreSmall}
+use Rattle.rtk_chart.specs.declared.groups.Names.{Names}
 use Rattle.rtk_chart.specs.declared.time_bin.TimeBin.{TimeBin}
 use Rattle.rtk_chart.specs.declared.spacing.Spacing.{Spacing}
 use Rattle.rtk_chart.specs.declared.spacing.Spacing.TheVariants.{Wide, Close}
@@ -22,15 +23,15 @@ line-if : (had : Bool) (line : List ℕ) (forms : ℕ) → length line ≤ 620 +
 line-if false line forms few = omega arith
 line-if true line forms few = omega (arith, few)
 
-code-lines-few : (spacing : Spacing) (bins : List TimeBin) (place at : ℕ) (cs : List Code) → length bins ≤ 1440 → at + length cs ≤ 16
-    → length (code_lines spacing bins place at cs)
+code-lines-few : (names : Names) (spacing : Spacing) (bins : List TimeBin) (place at : ℕ) (cs : List (List ℕ)) → All (λ (name : List ℕ). length name ≤ 2) cs → length bins ≤ 1440 → at + length cs ≤ 16
+    → length (code_lines names spacing bins place at cs)
     ≤ 620 * count_by (has_code bins place) (range_with_len at (length cs)) + 22 * sum_by (forms_if_had bins place) (range_with_len at (length cs))
-code-lines-few spacing bins place at [] few listed = omega arith
-code-lines-few spacing bins place at (c ∷ cs) few listed =
-    let rest = code-lines-few spacing bins place (at + 1) cs few (omega (arith, listed)) in
-    let line = bars-small spacing bins place at c few (omega (arith, listed)) in
-    let here = line-if (has_code bins place at) (code_line spacing bins place at c) (forms_in_bar bins place at) line in
-    let both = length-append (line_if_had spacing bins place at c) (code_lines spacing bins place (at + 1) cs) in
+code-lines-few names spacing bins place at [] short few listed = omega arith
+code-lines-few names spacing bins place at (c ∷ cs) short few listed =
+    let rest = code-lines-few names spacing bins place (at + 1) cs (All-tail (λ (name : List ℕ). length name ≤ 2) c cs short) few (omega (arith, listed)) in
+    let line = bars-small names spacing bins place at c (All-head (λ (name : List ℕ). length name ≤ 2) c cs short) few (omega (arith, listed)) in
+    let here = line-if (has_code bins place at) (code_line names spacing bins place at c) (forms_in_bar bins place at) line in
+    let both = length-append (line_if_had names spacing bins place at c) (code_lines names spacing bins place (at + 1) cs) in
     rw (
       sum_by-cons (λ (code : ℕ). cond (has_code bins place code) 1 0) at (range_with_len (at + 1) (length cs)),
       sum_by-cons (forms_if_had bins place) at (range_with_len (at + 1) (length cs)),
@@ -78,10 +79,10 @@ pub seven-long : (a b c d e f g : List ℕ)
     → length (a ++ b ++ c ++ d ++ e ++ f ++ g) ≡ length a + length b + length c + length d + length e + length f + length g
 seven-long a b c d e f g = omega (arith, length-append (a ++ b ++ c ++ d ++ e ++ f) g, six-long a b c d e f)
 
-band-start-few : (spacing : Spacing) (top satellite stripe height : ℕ) → top ≤ 11_852 → stripe < 2 → height ≤ 366
-    → length (band_start spacing top satellite stripe height) ≤ 200
+band-start-few : (spacing : Spacing) (top letter number stripe height : ℕ) → top ≤ 11_852 → stripe < 2 → height ≤ 366
+    → length (band_start spacing top letter number stripe height) ≤ 200
 unfolding band_start
-band-start-few spacing top satellite stripe height low even high =
+band-start-few spacing top letter number stripe height low even high =
     let first = place-few (codes "<g transform='translate(110 ") (codes ")'>\n<title>") top (omega (arith, low)) in
     let second = place-few (codes "</title>\n<rect class='b") (codes "' x='-110' width='1620'") stripe (omega (arith, even)) in
     let third = place-few (codes " height='") (codes "'/>\n") height (omega (arith, high)) in
@@ -97,11 +98,11 @@ band-start-few spacing top satellite stripe height low even high =
       name,
       seven-long
           (number_between (codes "<g transform='translate(110 ") top (codes ")'>\n<title>"))
-          (satellite_label 71 satellite)
+          (satellite_label letter number)
           (number_between (codes "</title>\n<rect class='b") stripe (codes "' x='-110' width='1620'"))
           (number_between (codes " height='") height (codes "'/>\n"))
           (number_between (name_start spacing) (height / 2 + name_drop spacing) (codes "'>"))
-          (satellite_label 71 satellite) (codes "</text>\n"),
+          (satellite_label letter number) (codes "</text>\n"),
     )
 
 outages-few : (outages : List Bool) (n place high : ℕ) → high ≤ 366 → length (outage_boxes outages n place high) ≤ 24 + 22 * boxes_over (outage_flags outages n place)
@@ -115,25 +116,25 @@ outages-few outages n place high few =
 
 -- ---- the bands
 
-band-few : (spacing : Spacing) (listed : List Code) (bins : List TimeBin) (outages : List Bool) (place before : ℕ)
-    → length listed ≤ 16 → length bins ≤ 1440 → place < 32
-    → length (band_text spacing listed bins outages place before) ≤ 260 + 620 * codes_before bins place (length listed) + 22 * forms_in_band bins outages (length listed) place
+band-few : (names : Names) (spacing : Spacing) (listed : List (List ℕ)) (bins : List TimeBin) (outages : List Bool) (place before : ℕ)
+    → All (λ (name : List ℕ). length name ≤ 2) listed → length listed ≤ 16 → length bins ≤ 1440 → place < 32
+    → length (band_text names spacing listed bins outages place before) ≤ 260 + 620 * codes_before bins place (length listed) + 22 * forms_in_band bins outages (length listed) place
 unfolding band_text forms_in_band codes_before
-band-few spacing listed bins outages place before few many within =
+band-few names spacing listed bins outages place before short few many within =
     let high = height-few spacing bins (length listed) place few in
-    let start = band-start-few spacing (band_top spacing bins (length listed) place) (place + 1) (before % 2) (height_of spacing bins (length listed) place)
+    let start = band-start-few spacing (band_top spacing bins (length listed) place) names.letter (names.before + place + 1) (before % 2) (height_of spacing bins (length listed) place)
     (top-few spacing bins (length listed) place few (omega (arith, within))) (omega arith) high in
     let boxes = outages-few outages (length bins) place (height_of spacing bins (length listed) place - 8) (omega (arith, high)) in
-    let lines = code-lines-few spacing bins place 0 listed many (omega (arith, few)) in
+    let lines = code-lines-few names spacing bins place 0 listed short many (omega (arith, few)) in
     omega (
       arith,
       start,
       boxes,
       lines,
       four-long
-          (band_start spacing (band_top spacing bins (length listed) place) (place + 1) (before % 2) (height_of spacing bins (length listed) place))
+          (band_start spacing (band_top spacing bins (length listed) place) names.letter (names.before + place + 1) (before % 2) (height_of spacing bins (length listed) place))
           (outage_boxes outages (length bins) place (height_of spacing bins (length listed) place - 8))
-          (code_lines spacing bins place 0 listed) (codes "</g>\n"),
+          (code_lines names spacing bins place 0 listed) (codes "</g>\n"),
     )
 
 band-if : (drawn : Bool) (text : List ℕ) (bars forms : ℕ) → length text ≤ 260 + 620 * bars + 22 * forms
@@ -157,10 +158,10 @@ sums-of-bands f drawn bars forms from (suc n) each =
 
 pub bands-small : BandsAreSmall
 unfolding bands_text lines_before forms_in_bands drawn_before
-bands-small spacing listed bins outages few many =
-    let sums = sums-of-bands (λ place. length (band_if_drawn spacing listed bins outages place)) (λ place. cond (is_drawn bins place) 1 0)
+bands-small names spacing listed bins outages short few many =
+    let sums = sums-of-bands (λ place. length (band_if_drawn names spacing listed bins outages place)) (λ place. cond (is_drawn bins place) 1 0)
     (λ place. codes_before bins place (length listed)) (forms_if_drawn bins outages (length listed)) 0 32
-    (λ place within. band-if (is_drawn bins place) (band_text spacing listed bins outages place (drawn_before bins place))
+    (λ place within. band-if (is_drawn bins place) (band_text names spacing listed bins outages place (drawn_before bins place))
     (codes_before bins place (length listed)) (forms_in_band bins outages (length listed) place)
-    (band-few spacing listed bins outages place (drawn_before bins place) few many (omega (arith, within)))) in
-    omega (arith, sums, length-flat_map (band_if_drawn spacing listed bins outages) (range_with_len 0 32))
+    (band-few names spacing listed bins outages place (drawn_before bins place) short few many (omega (arith, within)))) in
+    omega (arith, sums, length-flat_map (band_if_drawn names spacing listed bins outages) (range_with_len 0 32))

@@ -278,24 +278,23 @@ eight-long a b c d e f g h = omega (arith, length-append (a ++ b ++ c ++ d ++ e 
 
 pub bars-small : BarsAreSmall
 unfolding code_line
-bars-small spacing bins place at code few listed =
+bars-small names spacing bins place at name two few listed =
     let before : List ℕ = number_between (codes "<g transform='translate(0 ") (line_top spacing (codes_before bins place at)) (line_start spacing) in
     let lines = lines-few bins place at in
     let top = place-few (codes "<g transform='translate(0 ") (line_start spacing) (line_top spacing (codes_before bins place at))
     (top-few spacing (codes_before bins place at) (omega (arith, lines, listed))) in
     let start = start-few spacing in
-    let name = name-few spacing in
-    let two = two-characters code in
+    let start_of = name-few spacing in
     let bar = bar-few bins place at few in
     omega (
       arith,
       top,
       start,
-      name,
+      start_of,
       two,
       bar,
-      eight-long before (satellite_label 71 (place + 1)) (codes " ") (name_of code) (drawn_bar bins place at)
-          (code_start spacing) (name_of code) (codes "</text>\n</g>\n"),
+      eight-long before (satellite_label names.letter (names.before + place + 1)) (codes " ") name (drawn_bar bins place at)
+          (code_start spacing) name (codes "</text>\n</g>\n"),
     )
 
 -- ---- no bar is larger
@@ -374,7 +373,7 @@ forms-few bins place code few =
     omega (arith, levels, boxes, part, absent, few, within Part, within Absent, within Slip, within Half, within Return, within Rise)
 
 pub no-bar-larger : NoBarIsLarger
-no-bar-larger spacing bins place at code few listed =
-    let line = bars-small spacing bins place at code few listed in
+no-bar-larger names spacing bins place at name two few listed =
+    let line = bars-small names spacing bins place at name two few listed in
     let forms = forms-few bins place at few in
     omega (arith, line, forms)

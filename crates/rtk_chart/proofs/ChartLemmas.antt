@@ -1,5 +1,5 @@
 -- The picture of a table, from what was read of it.
-use Rattle.std.proofs.Common.{◌≡◌, ◌-◌, ℕ, List, [], ◌∷◌, Bool, Option, Some, None, length, refl, ap, subst, ◌∙◌}
+use Rattle.std.proofs.Common.{◌≡◌, ◌-◌, ℕ, List, [], ◌∷◌, Bool, Option, Some, None, length, map, refl, ap, subst, ◌∙◌}
 use Rattle.rtk_rinex.specs.Record.{EpochTableView}
 use Rattle.rtk_tracking.specs.Epochs.{capped, newest_moment}
 use Rattle.rtk_tracking.specs.Interval.{missing_in}
@@ -8,8 +8,10 @@ use Rattle.rtk_chart.specs.Grid.{bins_of, outages_of, gaps_of, recorded_of}
 use Rattle.rtk_chart.specs.TextPicture.{text_picture, text_of_none}
 use Rattle.rtk_chart.specs.Chart.{slips_at, returns_at, rises_at, text_at, text_of_epochs, svg_at, svg_of_epochs}
 use Rattle.rtk_chart.specs.SvgPicture.{svg_picture, svg_of_none}
-use Rattle.rtk_chart.specs.Means.{columns_of}
+use Rattle.rtk_chart.specs.Means.{bands_of, columns_of}
 use Rattle.rtk_chart.specs.Steps.Standing.{StandsForGrid}
+use Rattle.rtk_obs.specs.Code.{name_of}
+use Rattle.rtk_obs.specs.declared.code.Band.{Band}
 use Rattle.rtk_obs.specs.declared.code.Code.{Code}
 use Rattle.rtk_chart.specs.declared.scale.Scale.{Scale}
 use Rattle.rtk_chart.specs.declared.grid.Grid.{Grid}
@@ -35,7 +37,7 @@ scale-is first f last allowed interval s e es from to is =
     is ∙ ap (λ (t : ℕ). scale_of t last interval allowed) from ∙ ap (λ (t : ℕ). scale_of first t interval allowed) (same-moment last e.time to)
 
 -- a picture of the numbers of a grid, of its bins and of its gaps
-same-parts : (P : ℕ → ℕ → ℕ → ℕ → ℕ → List TimeBin → List Bool → List Bool → List Bool → List Strengths → List ℕ) (records : ℕ) (g : Grid) (s : Scale) (listed : List Code) (es : List EpochTableView)
+same-parts : (P : ℕ → ℕ → ℕ → ℕ → ℕ → List TimeBin → List Bool → List Bool → List Bool → List Strengths → List ℕ) (records : ℕ) (g : Grid) (s : Scale) (listed : List (Option Band)) (es : List EpochTableView)
     → records ≡ capped (length es) → StandsForGrid g s listed es
     → P records g.slips g.returns g.rises g.missing g.bins.items g.outages.items g.recorded.items g.gaps.items g.strengths.items
     ≡ P (capped (length es)) (slips_at s es) (returns_at s es) (rises_at s es) (capped (missing_in s.unit es)) (bins_of s es) (outages_of s es) (recorded_of s es) (gaps_of s es) (columns_of s listed es)
@@ -52,15 +54,15 @@ same-parts P records g s listed es many stands =
     ∙ ap (λ (x : List Bool). P all (slips_at s es) (returns_at s es) (rises_at s es) (capped (missing_in s.unit es)) (bins_of s es) (outages_of s es) (recorded_of s es) x g.strengths.items) stands.missing.gaps
     ∙ ap (λ (x : List Strengths). P all (slips_at s es) (returns_at s es) (rises_at s es) (capped (missing_in s.unit es)) (bins_of s es) (outages_of s es) (recorded_of s es) (gaps_of s es) x) stands.strengths
 
-pub text-is : (marker m : List ℕ) (listed ls : List Code) (first f last width records : ℕ) (interval : Option ℕ) (s : Scale) (g : Grid) (es : List EpochTableView)
+pub text-is : (marker m : List ℕ) (listed ls : List Code) (bands : List (Option Band)) (first f last width records : ℕ) (interval : Option ℕ) (s : Scale) (g : Grid) (es : List EpochTableView)
     → m ≡ marker → ls ≡ listed → f ≡ first → Some last ≡ newest_moment es → s ≡ scale_of f last interval (width - 5)
-    → records ≡ capped (length es) → StandsForGrid g s ls es
+    → records ≡ capped (length es) → StandsForGrid g s bands es
     → text_picture m ls s width records g.slips g.returns g.rises g.missing g.bins.items g.outages.items g.recorded.items g.gaps.items ≡ text_of_epochs marker listed first interval width es
-text-is marker m listed ls first f last width records interval s g [] name named from to is many stands = cc
-text-is marker m listed ls first f last width records interval s g (e ∷ es) name named from to is many stands =
+text-is marker m listed ls bands first f last width records interval s g [] name named from to is many stands = cc
+text-is marker m listed ls bands first f last width records interval s g (e ∷ es) name named from to is many stands =
     ap (λ (x : List ℕ). text_picture x ls s width records g.slips g.returns g.rises g.missing g.bins.items g.outages.items g.recorded.items g.gaps.items) name
     ∙ ap (λ (x : List Code). text_picture marker x s width records g.slips g.returns g.rises g.missing g.bins.items g.outages.items g.recorded.items g.gaps.items) named
-    ∙ same-parts (λ records slips returns rises missing bins outages recorded gaps strengths. text_picture marker listed s width records slips returns rises missing bins outages recorded gaps) records g s ls (e ∷ es) many stands
+    ∙ same-parts (λ records slips returns rises missing bins outages recorded gaps strengths. text_picture marker listed s width records slips returns rises missing bins outages recorded gaps) records g s bands (e ∷ es) many stands
     ∙ ap (λ (x : Scale). text_at marker listed width x (e ∷ es)) (scale-is first f last (width - 5) interval s e es from to is)
 
 -- ---- in SVG
@@ -70,13 +72,14 @@ pub no-svg : (marker : List ℕ) (listed : List Code) (first : ℕ) (interval : 
 no-svg marker listed first interval [] none = refl
 no-svg marker listed first interval (e ∷ es) none = cc
 
-pub svg-is : (marker m : List ℕ) (listed ls : List Code) (first f last records : ℕ) (interval : Option ℕ) (s : Scale) (g : Grid) (es : List EpochTableView)
-    → m ≡ marker → ls ≡ listed → f ≡ first → Some last ≡ newest_moment es → s ≡ scale_of f last interval 1440
-    → records ≡ capped (length es) → StandsForGrid g s ls es
-    → svg_picture m ls s records g.slips g.returns g.rises g.missing g.bins.items g.outages.items g.gaps.items g.strengths.items ≡ svg_of_epochs marker listed first interval es
-svg-is marker m listed ls first f last records interval s g [] name named from to is many stands = cc
-svg-is marker m listed ls first f last records interval s g (e ∷ es) name named from to is many stands =
-    ap (λ (x : List ℕ). svg_picture x ls s records g.slips g.returns g.rises g.missing g.bins.items g.outages.items g.gaps.items g.strengths.items) name
-    ∙ ap (λ (x : List Code). svg_picture marker x s records g.slips g.returns g.rises g.missing g.bins.items g.outages.items g.gaps.items g.strengths.items) named
-    ∙ same-parts (λ records slips returns rises missing bins outages recorded gaps strengths. svg_picture marker listed s records slips returns rises missing bins outages gaps strengths) records g s listed (e ∷ es) many (subst (λ (cs : List Code). StandsForGrid g s cs (e ∷ es)) named stands)
+pub svg-is : (marker m : List ℕ) (listed ls : List Code) (bands : List (Option Band)) (first f last records : ℕ) (interval : Option ℕ) (s : Scale) (g : Grid) (es : List EpochTableView)
+    → m ≡ marker → ls ≡ listed → bands ≡ bands_of ls → f ≡ first → Some last ≡ newest_moment es → s ≡ scale_of f last interval 1440
+    → records ≡ capped (length es) → StandsForGrid g s bands es
+    → svg_picture m (map name_of ls) s records g.slips g.returns g.rises g.missing g.bins.items g.outages.items g.gaps.items g.strengths.items ≡ svg_of_epochs marker listed first interval es
+svg-is marker m listed ls bands first f last records interval s g [] name named banded from to is many stands = cc
+svg-is marker m listed ls bands first f last records interval s g (e ∷ es) name named banded from to is many stands =
+    ap (λ (x : List ℕ). svg_picture x (map name_of ls) s records g.slips g.returns g.rises g.missing g.bins.items g.outages.items g.gaps.items g.strengths.items) name
+    ∙ ap (λ (x : List Code). svg_picture marker (map name_of x) s records g.slips g.returns g.rises g.missing g.bins.items g.outages.items g.gaps.items g.strengths.items) named
+    ∙ same-parts (λ records slips returns rises missing bins outages recorded gaps strengths. svg_picture marker (map name_of listed) s records slips returns rises missing bins outages gaps strengths) records g s (bands_of listed) (e ∷ es) many
+    (subst (λ (bs : List (Option Band)). StandsForGrid g s bs (e ∷ es)) (banded ∙ ap (λ (cs : List Code). bands_of cs) named) stands)
     ∙ ap (λ (x : Scale). svg_at marker listed x (e ∷ es)) (scale-is first f last 1440 interval s e es from to is)

@@ -1,5 +1,6 @@
 -- Equal headings tell equal numbers.
-use Rattle.std.proofs.Common.{◌≡◌, ◌<◌, ◌+◌, ◌^◌, ℕ, List, [], ◌∷◌, ◌++◌, length, drop, codes, refl, sym, ap, ◌∙◌, append_assoc, lit<, arith}
+use Rattle.std.proofs.Common.{◌≡◌, ◌<◌, ◌+◌, ◌^◌, ℕ, List, [], ◌∷◌, ◌++◌, length, map, drop, codes, refl, sym, ap, ◌∙◌, append_assoc, lit<, arith}
+use Rattle.rtk_obs.specs.Code.{name_of}
 use Rattle.rtk_obs.specs.declared.code.Code.{Code}
 use Rattle.rtk_obs.specs.Calendar.{ReadsAs}
 use Rattle.rtk_rinex.specs.Header.{IsMarker}
@@ -13,7 +14,7 @@ use Rattle.rtk_tracking.specs.Interval.{missing_in}
 use Rattle.rtk_chart.specs.Grid.{bins_of, outages_of, gaps_of, recorded_of}
 use Rattle.rtk_chart.specs.TextPicture.{satellites_in, named_count_line, moment_line, text_heading, number_lines, text_body, text_picture}
 use Rattle.rtk_chart.specs.SvgPicture.{number_between, interval_text, svg_span, svg_numbers, svg_start, svg_body, spacing_of, never_end, svg_picture}
-use Rattle.rtk_chart.specs.Means.{columns_of}
+use Rattle.rtk_chart.specs.Means.{bands_of, columns_of}
 use Rattle.rtk_chart.specs.SvgStrip.{strip_height}
 use Rattle.rtk_chart.specs.Chart.{slips_at, returns_at, rises_at, text_at, svg_at}
 use Rattle.rtk_chart.specs.HeadingLaws.{HasNumbers, HaveSameBins, HaveSameNumbers, heading_in_text, heading_in_svg}
@@ -276,9 +277,10 @@ pub svg-has : (marker : List ℕ) (listed : List Code) (s : Scale) (es : List Ep
 unfolding svg_picture
 svg-has marker listed s es =
     let satellites = satellites_in (bins_of s es) in
-    let spacing = spacing_of (bins_of s es) (length listed) in
-    let end = never_end spacing (bins_of s es) (length listed) in
+    let names : List (List ℕ) = map name_of listed in
+    let spacing = spacing_of (bins_of s es) (length names) in
+    let end = never_end spacing (bins_of s es) (length names) in
     let numbers : List ℕ = svg_numbers (capped (length es)) satellites (slips_at s es) (returns_at s es) (rises_at s es) (capped (missing_in s.unit es)) in
-    let body : List ℕ = svg_body spacing listed s (bins_of s es) (outages_of s es) (gaps_of s es) (columns_of s listed es) end in
-    let start : List ℕ = svg_start marker (end + strip_height (columns_of s listed es) + 230) in
+    let body : List ℕ = svg_body spacing names s (bins_of s es) (outages_of s es) (gaps_of s es) (columns_of s (bands_of listed) es) end in
+    let start : List ℕ = svg_start marker (end + strip_height (columns_of s (bands_of listed) es) + 230) in
     (start, body, ap (λ (t : List ℕ). t ++ body) (append_assoc start (svg_span s) numbers))

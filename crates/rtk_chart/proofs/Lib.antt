@@ -3,6 +3,7 @@ pub mod BitLemmas
 pub mod BytesLemmas
 pub mod ChartLemmas
 pub mod ChoiceLemmas
+pub mod CodeLemmas
 pub mod FileLemmas
 pub mod GridLemmas
 pub mod GroupLemmas
@@ -19,4 +20,5 @@ pub mod SeenLemmas
 pub mod SizeLemmas
 pub mod StrengthLemmas
 pub mod SvgLemmas
+pub mod SvgSystemLemmas
 pub mod WidthLemmas

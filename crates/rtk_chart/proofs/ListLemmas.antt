@@ -1,13 +1,13 @@
 -- Lists of parts, one for each number, and lists whose items change one after another.
 use Rattle.std.proofs.Common.{◌≡◌, ◌≢◌, ◌<◌, ◌≤◌, ◌+◌, ℕ, zero, suc, Bool, true, false, cond, ltb, ◌||◌, count_by, List, [], ◌∷◌, ◌++◌, length, take, drop, set, get_or, map, inl, inr, refl, sym, ap, ◌∙◌, append_assoc, get_or-set_same, get_or-set_other, arith}
 use Rattle.std.proofs.lemmas.List.Folds.{list_any-append}
-use Rattle.std.proofs.lemmas.List.Sums.{sum_by_push, sum_by-cons, count_by-le-length}
+use Rattle.std.proofs.lemmas.List.Sums.{sum_by_push, sum_by-cons, count_by-le-length, fold_more}
 use Rattle.std.proofs.lemmas.Bool.{cases_eq, cases_lt, lt-ltb, le-ltb}
 use Rattle.std.proofs.lemmas.List.{append-nil, length-set, take_more, drop_more, map_push}
 use Rattle.std.proofs.lemmas.List.FromFn.{fill_by_all, length-range_with_len, get_or-map-range_with_len, length-map-range_with_len}
 use Rattle.std.proofs.lemmas.Grind.{flat_map-append}
 use Rattle.std.specs.Prelude.{flat_map}
-use Rattle.std.specs.List.{range_with_len, list_any, sum_by}
+use Rattle.std.specs.List.{fold, range_with_len, list_any, sum_by}
 use Rattle.rtk_chart.specs.TextPicture.{never_lines, all_never_lines}
 use Rattle.rtk_chart.specs.declared.groups.Names.{Names}
 use Rattle.rtk_chart.specs.declared.time_bin.TimeBin.{TimeBin}
@@ -15,6 +15,13 @@ use Rattle.rtk_chart.specs.declared.time_bin.TimeBin.{TimeBin}
 or-true : (b : Bool) → (b || true) ≡ true
 or-true true = refl
 or-true false = refl
+
+-- ---- values that are made one after another
+
+-- the value of one item more
+pub fold-taken : {X Y : Type 0} (f : Y → X → Y) (start so_far next : Y) (xs : List X) (k : ℕ) (d : X) → k < length xs → so_far ≡ fold f start (take k xs) → next ≡ f so_far (get_or xs k d)
+    → next ≡ fold f start (take (k + 1) xs)
+fold-taken {X} {Y} f start so_far next xs k d within before more = more ∙ ap (λ (y : Y). f y (get_or xs k d)) before ∙ sym (fold_more f start xs k d within)
 
 -- ---- parts of a text
 

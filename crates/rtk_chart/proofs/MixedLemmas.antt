@@ -1,7 +1,7 @@
 -- The picture of a file of any systems, from what was read of it.
 use Rattle.std.proofs.Common.{◌≡◌, ◌<◌, ◌+◌, ◌-◌, ◌++◌, ◌==◌, ◌||◌, ℕ, Bool, List, [], ◌∷◌, length, map, Option, Some, None, refl, sym, ap, subst, ◌∙◌, arith}
 use Rattle.std.specs.List.{range_with_len}
-use Rattle.std.proofs.lemmas.List.{length-map}
+use Rattle.std.proofs.lemmas.List.{length-map, map_push}
 use Rattle.rtk_message.specs.declared.system.System.{System}
 use Rattle.rtk_obs.specs.declared.any_code.AnyCode.{AnyCode}
 use Rattle.rtk_rinex.specs.Record.{EpochTableView}
@@ -21,8 +21,16 @@ use Rattle.rtk_chart.specs.declared.grid.Grid.{Grid}
 use Rattle.rtk_chart.specs.declared.groups.Names.{Names}
 use Rattle.rtk_chart.specs.declared.scale.Scale.{Scale}
 use Rattle.rtk_chart.specs.declared.time_bin.TimeBin.{TimeBin}
-use Rattle.rtk_chart.proofs.ListLemmas.{map-same}
+use Rattle.rtk_chart.proofs.ListLemmas.{map-same, range-more}
 use Rattle.rtk_chart.proofs.ChartLemmas.{scale-is}
+
+-- ---- a list that grows
+
+pub grow-more : {X : Type 0} (f : ℕ → X) (n : ℕ) (xs ys : List X) → xs ≡ map f (range_with_len 0 n) → ys ≡ xs ++ f n ∷ [] → ys ≡ map f (range_with_len 0 (n + 1))
+grow-more {X} f n xs ys so_far more =
+    let here : 0 + n ≡ n = omega arith in
+    more ∙ ap (λ (zs : List X). zs ++ f n ∷ []) so_far
+    ∙ sym (ap (λ t. map f t) (range-more 0 n) ∙ map_push f (range_with_len 0 n) (0 + n) ∙ ap (λ k. map f (range_with_len 0 n) ++ f k ∷ []) here)
 
 -- ---- the satellites of a grid
 
@@ -83,13 +91,13 @@ record-bare : (s : Scale) (es : List EpochTableView) (c : ℕ) → has_record s 
 record-bare s [] c = refl
 record-bare s (e ∷ es) c = ap (λ (b : Bool). (bin_at s e.time == c) || b) (record-bare s es c)
 
-count-bare : (unit : ℕ) (es : List EpochTableView) → missing_in unit (bare_epochs es) ≡ missing_in unit es
+pub count-bare : (unit : ℕ) (es : List EpochTableView) → missing_in unit (bare_epochs es) ≡ missing_in unit es
 count-bare unit [] = refl
 count-bare unit (e ∷ es) =
     ap (λ (n : ℕ). n + missing_before unit (newest_moment (bare_epochs es)) e.time) (count-bare unit es)
     ∙ ap (λ (o : Option ℕ). missing_in unit es + missing_before unit o e.time) (newest-bare es)
 
-gaps-bare : (s : Scale) (es : List EpochTableView) → gaps_of s (bare_epochs es) ≡ gaps_of s es
+pub gaps-bare : (s : Scale) (es : List EpochTableView) → gaps_of s (bare_epochs es) ≡ gaps_of s es
 unfolding gaps_of
 gaps-bare s es = map-same (has_missing s (bare_epochs es)) (has_missing s es) 0 s.bins (λ k lt. missing-bare s es k)
 

@@ -1,10 +1,12 @@
 -- How many bytes a picture in SVG has beside its bands.
-use Rattle.std.proofs.Common.{◌≡◌, ◌≤◌, ◌<◌, ◌==◌, ℕ, zero, suc, ◌+◌, ◌-◌, ◌*◌, ◌/◌, ◌%◌, ◌^◌, Bool, true, false, cond, List, [], ◌∷◌, ◌++◌, Option, None, Some, length, map, codes, refl, arith, length-append}
-use Rattle.std.specs.Prelude.{decimal, flat_map, max, min, unwrap_or, is_some}
+use Rattle.std.proofs.Common.{◌≡◌, ◌≤◌, ◌<◌, ◌==◌, ℕ, zero, suc, ◌+◌, ◌-◌, ◌*◌, ◌/◌, ◌%◌, ◌^◌, Bool, true, false, cond, List, [], ◌∷◌, ◌++◌, Option, None, Some, length, get_or, map, codes, refl, ap, subst, arith, length-append}
+use Rattle.std.specs.Prelude.{All, decimal, flat_map, max, min, unwrap_or, is_some}
 use Rattle.std.specs.Option.{ForSome}
 use Rattle.std.specs.List.{range_with_len, sum_by, fold}
 use Rattle.std.specs.Ordering.{nat_cmp, is_lt}
 use Rattle.std.proofs.lemmas.Fmt.{length-decimal-le}
+use Rattle.std.proofs.lemmas.List.{get_or-map, length-map}
+use Rattle.std.proofs.lemmas.List.Elements.{All-head, All-tail}
 use Rattle.std.proofs.lemmas.List.Concat.{length-flat_map}
 use Rattle.std.proofs.lemmas.List.Sums.{sum_by-cons, count_by-le-length}
 use Rattle.std.proofs.lemmas.List.FromFn.{length-range_with_len, length-map-range_with_len}
@@ -14,21 +16,22 @@ use Rattle.rtk_obs.specs.declared.time.Civil.{Civil}
 use Rattle.rtk_obs.specs.declared.code.Band.{Band}
 use Rattle.rtk_obs.specs.declared.code.Band.TheVariants.{L1, L2, L5}
 use Rattle.rtk_obs.specs.declared.code.Code.{Code}
+use Rattle.rtk_obs.specs.declared.code.Code.TheVariants.{G1C}
 use Rattle.rtk_obs.specs.Reading.{reading_of}
 use Rattle.rtk_rinex.specs.Record.{EpochTableView}
 use Rattle.rtk_tracking.specs.Epochs.{capped}
 use Rattle.rtk_tracking.specs.Extremes.{lesser, greater}
 use Rattle.rtk_tracking.specs.Interval.{missing_in}
-use Rattle.rtk_chart.specs.Chart.{slips_at, returns_at, rises_at}
+use Rattle.rtk_chart.specs.Chart.{slips_at, returns_at, rises_at, svg_at}
 use Rattle.rtk_chart.specs.Heading.{seconds_text}
 use Rattle.rtk_chart.specs.Scale.{IsScale}
 use Rattle.rtk_chart.specs.Grid.{bin_in, bins_of, outages_of, gaps_of, has_missing, tracking_in, trackings_in}
-use Rattle.rtk_chart.specs.Means.{number_of, columns_of, bins_per_column, mean_of, mean_at, of_band, least_mean, greatest_mean}
+use Rattle.rtk_chart.specs.Means.{number_of, bands_of, columns_of, bins_per_column, mean_of, mean_at, of_band, least_mean, greatest_mean}
 use Rattle.rtk_chart.specs.Signs.{is_tracked, is_never}
 use Rattle.rtk_chart.specs.Ticks.{tick_at, tick_label}
-use Rattle.rtk_chart.specs.TextPicture.{satellite_label, satellites_in}
-use Rattle.rtk_chart.specs.SvgPath.{edge_of, tracked_in, most_tracked, step_part, steps_from, steps_text}
-use Rattle.rtk_chart.specs.SvgStrip.{reach_of, depth_of, depth_at, depths_of, depth_part, depths_from, depths_text, lane_start, lane_text, lane_height, lane_if_measured, strip_height, strip_text}
+use Rattle.rtk_chart.specs.TextPicture.{gps_names, satellite_label, satellites_in}
+use Rattle.rtk_chart.specs.SvgPath.{edge_of, tracked_in, tracked_counts, most_tracked, step_part, steps_from, steps_text}
+use Rattle.rtk_chart.specs.SvgStrip.{reach_of, depth_of, depth_at, depths_of, depth_part, depths_from, depths_text, lane_start, strip_number, lane_text, lane_height, lane_if_measured, strip_height, strip_text}
 use Rattle.rtk_chart.specs.SvgPicture.{xml_character, xml_text, number_between, runs_layer, lines_before, lacked_before, is_lacked, never_name, never_text, never_if_lacked, never_texts, bands_text, bands_end, never_end, spacing_of, gaps_band, satellites_band, svg_tick_step, label_start, tick_text, ticks_text, interval_text, svg_span, svg_numbers, svg_start, svg_legend, svg_body, svg_picture}
 use Rattle.rtk_chart.specs.Size.{forms_in_bands}
 use Rattle.rtk_chart.specs.SizeLaws.{PicturesAreSmall, DaysAreSmall}
@@ -180,20 +183,19 @@ numbers-few records satellites slips returns rises missing few-1 few-2 few-3 few
 
 -- ---- the lines `never`
 
-never-name-few : (bins : List TimeBin) (at place : ℕ) → length (never_name bins at place) ≤ 4
-never-name-few bins at place = if-few (is_never bins at place) (32 ∷ satellite_label 71 (place + 1)) 4 (omega arith)
+never-name-few : (bins : List TimeBin) (at place : ℕ) → length (never_name gps_names bins at place) ≤ 4
+never-name-few bins at place = if-few (is_never bins at place) (32 ∷ satellite_label 71 (0 + place + 1)) 4 (omega arith)
 
-never-names-few : (bins : List TimeBin) (at : ℕ) → length (flat_map (never_name bins at) (range_with_len 0 32)) ≤ 128
+never-names-few : (bins : List TimeBin) (at : ℕ) → length (flat_map (never_name gps_names bins at) (range_with_len 0 32)) ≤ 128
 never-names-few bins at =
-    let sums = texts-few 4 (never_name bins at) 0 32 (λ place within. never-name-few bins at place) in
-    omega (arith, sums, length-flat_map (never_name bins at) (range_with_len 0 32))
+    let sums = texts-few 4 (never_name gps_names bins at) 0 32 (λ place within. never-name-few bins at place) in
+    omega (arith, sums, length-flat_map (never_name gps_names bins at) (range_with_len 0 32))
 
-never-text-few : (bins : List TimeBin) (top at : ℕ) (code : Code) → top ≤ 20_000 → at ≤ 16 → length (never_text bins top at code) ≤ 200
+never-text-few : (bins : List TimeBin) (top at : ℕ) (name : List ℕ) → length name ≤ 2 → top ≤ 20_000 → at ≤ 16 → length (never_text gps_names bins top at name) ≤ 200
 unfolding never_text
-never-text-few bins top at code low few =
+never-text-few bins top at name two low few =
     let lacked = nevers-few bins at in
     let first = place-few (codes "<text class='never' x='110' y='") (codes "'>never ") (top + 24 * lacked_before bins at) (omega (arith, low, few, lacked)) in
-    let two = two-characters code in
     let names = never-names-few bins at in
     omega (
       arith,
@@ -202,15 +204,15 @@ never-text-few bins top at code low few =
       names,
       five-long
           (number_between (codes "<text class='never' x='110' y='") (top + 24 * lacked_before bins at) (codes "'>never "))
-          (name_of code) (codes ":") (flat_map (never_name bins at) (range_with_len 0 32)) (codes "</text>\n"),
+          name (codes ":") (flat_map (never_name gps_names bins at) (range_with_len 0 32)) (codes "</text>\n"),
     )
 
-never-texts-few : (bins : List TimeBin) (top at : ℕ) (cs : List Code) → top ≤ 20_000 → at + length cs ≤ 16 → length (never_texts bins top at cs) ≤ 200 * length cs
-never-texts-few bins top at [] low few = omega arith
-never-texts-few bins top at (c ∷ cs) low few =
-    let rest = never-texts-few bins top (at + 1) cs low (omega (arith, few)) in
-    let here = if-few (is_lacked bins at) (never_text bins top at c) 200 (never-text-few bins top at c low (omega (arith, few))) in
-    omega (arith, rest, here, length-append (never_if_lacked bins top at c) (never_texts bins top (at + 1) cs))
+never-texts-few : (bins : List TimeBin) (top at : ℕ) (cs : List (List ℕ)) → All (λ (name : List ℕ). length name ≤ 2) cs → top ≤ 20_000 → at + length cs ≤ 16 → length (never_texts gps_names bins top at cs) ≤ 200 * length cs
+never-texts-few bins top at [] short low few = omega arith
+never-texts-few bins top at (c ∷ cs) short low few =
+    let rest = never-texts-few bins top (at + 1) cs (All-tail (λ (name : List ℕ). length name ≤ 2) c cs short) low (omega (arith, few)) in
+    let here = if-few (is_lacked bins at) (never_text gps_names bins top at c) 200 (never-text-few bins top at c (All-head (λ (name : List ℕ). length name ≤ 2) c cs short) low (omega (arith, few))) in
+    omega (arith, rest, here, length-append (never_if_lacked gps_names bins top at c) (never_texts gps_names bins top (at + 1) cs))
 
 -- ---- missing epochs, and numbers of satellites
 
@@ -240,35 +242,35 @@ step-if false x y few low =
     let short = length-decimal-le 2 y (omega arith) (omega arith) (omega arith) in
     omega (arith, long, short, four-long (codes "H") (decimal x) (codes "V") (decimal y))
 
-steps-few : (most n c was : ℕ) (bins : List TimeBin) → 0 < n → c + length bins ≤ n → length (steps_from most n c was bins) ≤ 8 * length bins
+steps-few : (most n c was : ℕ) (counts : List ℕ) → 0 < n → c + length counts ≤ n → length (steps_from most n c was counts) ≤ 8 * length counts
 steps-few most n c was [] some within = omega arith
-steps-few most n c was (b ∷ bs) some within =
-    let rest = steps-few most n (c + 1) (tracked_in b) bs some (omega (arith, within)) in
-    let here = step-if (tracked_in b == was) (edge_of n c) (40 - tracked_in b * 40 / max most 1) (edge-few n c some (omega (arith, within))) (omega arith) in
-    omega (arith, rest, here, length-append (step_part most (edge_of n c) was (tracked_in b)) (steps_from most n (c + 1) (tracked_in b) bs))
+steps-few most n c was (k ∷ ks) some within =
+    let rest = steps-few most n (c + 1) k ks some (omega (arith, within)) in
+    let here = step-if (k == was) (edge_of n c) (40 - k * 40 / max most 1) (edge-few n c some (omega (arith, within))) (omega arith) in
+    omega (arith, rest, here, length-append (step_part most (edge_of n c) was k) (steps_from most n (c + 1) k ks))
 
-all-steps-few : (bins : List TimeBin) → length (steps_text bins) ≤ 8 * length bins
+all-steps-few : (counts : List ℕ) → length (steps_text counts) ≤ 8 * length counts
 unfolding steps_text
 all-steps-few [] = omega arith
-all-steps-few (b ∷ bs) = steps-few (most_tracked (b ∷ bs)) (length (b ∷ bs)) 0 0 (b ∷ bs) (omega arith) (omega arith)
+all-steps-few (k ∷ ks) = steps-few (most_tracked (k ∷ ks)) (length (k ∷ ks)) 0 0 (k ∷ ks) (omega arith) (omega arith)
 
 tracked-few : (s : Scale) (es : List EpochTableView) (c : ℕ) → tracked_in (bin_in s es c) ≤ 32
 unfolding trackings_in
 tracked-few s es c =
     omega (arith, count_by-le-length is_tracked (trackings_in s es c), length-map-range_with_len (λ place. tracking_in s (place + 1) es c) 0 32)
 
-most-few : (s : Scale) (es : List EpochTableView) (most : ℕ) (xs : List ℕ) → most ≤ 32 → fold (λ m bin. max m (tracked_in bin)) most (map (bin_in s es) xs) ≤ 32
+most-few : (s : Scale) (es : List EpochTableView) (most : ℕ) (xs : List ℕ) → most ≤ 32 → fold (λ m n. max m n) most (tracked_counts (map (bin_in s es) xs)) ≤ 32
 most-few s es most [] few = few
 most-few s es most (x ∷ xs) few =
     let here = tracked-few s es x in
     most-few s es (max most (tracked_in (bin_in s es x))) xs (omega (arith, few, here))
 
-satellites-band-few : (top : ℕ) (bins : List TimeBin) → top ≤ 20_000 → most_tracked bins ≤ 32 → length bins ≤ 1440 → length (satellites_band top bins) ≤ 12_000
+satellites-band-few : (top : ℕ) (counts : List ℕ) → top ≤ 20_000 → most_tracked counts ≤ 32 → length counts ≤ 1440 → length (satellites_band top counts) ≤ 12_000
 unfolding satellites_band
-satellites-band-few top bins low most few =
+satellites-band-few top counts low most few =
     let first = place-few (codes "<g transform='translate(110 ") (codes ")'>\n<title>satellites with a phase</title>\n<text class='code' x='-6' y='18'>satellites</text>\n") top (omega (arith, low)) in
-    let second = place-few (codes "<text class='code' x='-6' y='38'>at most ") (codes "</text>\n<path class='n' d='M0 40") (most_tracked bins) (omega (arith, most)) in
-    let steps = all-steps-few bins in
+    let second = place-few (codes "<text class='code' x='-6' y='38'>at most ") (codes "</text>\n<path class='n' d='M0 40") (most_tracked counts) (omega (arith, most)) in
+    let steps = all-steps-few counts in
     omega (
       arith,
       first,
@@ -277,8 +279,8 @@ satellites-band-few top bins low most few =
       few,
       four-long
           (number_between (codes "<g transform='translate(110 ") top (codes ")'>\n<title>satellites with a phase</title>\n<text class='code' x='-6' y='18'>satellites</text>\n"))
-          (number_between (codes "<text class='code' x='-6' y='38'>at most ") (most_tracked bins) (codes "</text>\n<path class='n' d='M0 40"))
-          (steps_text bins) (codes "H1440V40z'/>\n</g>\n"),
+          (number_between (codes "<text class='code' x='-6' y='38'>at most ") (most_tracked counts) (codes "</text>\n<path class='n' d='M0 40"))
+          (steps_text counts) (codes "H1440V40z'/>\n</g>\n"),
     )
 
 -- ---- the strip
@@ -354,15 +356,10 @@ depths-text-few band columns reach each n few =
     (omega (arith, long, size)) in
     omega (arith, forms, size, few)
 
-number-few : (band : Band) → number_of band ≤ 5
-number-few L1 = omega arith
-number-few L2 = omega arith
-number-few L5 = omega arith
-
 five-digits : (n : ℕ) → n < 100_000 → length (decimal n) ≤ 5
 five-digits n few = length-decimal-le 5 n (omega arith) (omega arith) (omega arith)
 
-lane-start-few : (top number : ℕ) (reach : Reach) → top ≤ 20_000 → number ≤ 5 → reach.until < 100_000 → reach.from < 100_000 → length (lane_start top number reach) ≤ 400
+lane-start-few : (top number : ℕ) (reach : Reach) → top ≤ 20_000 → number ≤ 9 → reach.until < 100_000 → reach.from < 100_000 → length (lane_start top number reach) ≤ 400
 unfolding lane_start
 lane-start-few top number reach low few until from =
     let a = five-digits top (omega (arith, low)) in
@@ -388,44 +385,52 @@ lane-start-few top number reach low few until from =
       length-append (decimal reach.from) (codes "</text>\n<path class='k' d='"),
     )
 
-lane-few : (top : ℕ) (band : Band) (columns : List Strengths) (each n : ℕ) → top ≤ 20_000 → n ≤ 1440 → length (lane_text top band columns each n) ≤ 16_300
+strip-number-few : (upper : Bool) (band : Band) → strip_number upper band ≤ 8
+strip-number-few true L1 = omega arith
+strip-number-few true L2 = omega arith
+strip-number-few true L5 = omega arith
+strip-number-few false L1 = omega arith
+strip-number-few false L2 = omega arith
+strip-number-few false L5 = omega arith
+
+lane-few : (upper : Bool) (top : ℕ) (band : Band) (columns : List Strengths) (each n : ℕ) → top ≤ 20_000 → n ≤ 1440 → length (lane_text upper top band columns each n) ≤ 16_300
 unfolding lane_text
-lane-few top band columns each n low few =
+lane-few upper top band columns each n low few =
     let least : unwrap_or (least_mean band columns) 0 ≤ 63_750 = least-few band None columns (omega arith) in
     let greatest : unwrap_or (greatest_mean band columns) 0 ≤ 63_750 = greatest-few band None columns (omega arith) in
-    let start = lane-start-few top (number_of band) (reach_of band columns) low (number-few band) (omega (arith, least, greatest)) (omega (arith, least)) in
+    let start = lane-start-few top (strip_number upper band) (reach_of band columns) low (omega (arith, strip-number-few upper band)) (omega (arith, least, greatest)) (omega (arith, least)) in
     let depths = depths-text-few band columns (reach_of band columns) each n few in
     omega (
       arith,
       start,
       depths,
-      three-long (lane_start top (number_of band) (reach_of band columns))
+      three-long (lane_start top (strip_number upper band) (reach_of band columns))
           (depths_text (depths_of band columns (reach_of band columns) each n)) (codes "'/>\n</g>\n"),
     )
 
-lane-if-few : (top : ℕ) (band : Band) (columns : List Strengths) (each n : ℕ) → top ≤ 20_000 → n ≤ 1440 → length (lane_if_measured top band columns each n) ≤ 16_300
-lane-if-few top band columns each n low few =
-    if-few (is_some (least_mean band columns)) (lane_text top band columns each n) 16_300 (lane-few top band columns each n low few)
+lane-if-few : (upper : Bool) (top : ℕ) (band : Band) (columns : List Strengths) (each n : ℕ) → top ≤ 20_000 → n ≤ 1440 → length (lane_if_measured upper top band columns each n) ≤ 16_300
+lane-if-few upper top band columns each n low few =
+    if-few (is_some (least_mean band columns)) (lane_text upper top band columns each n) 16_300 (lane-few upper top band columns each n low few)
 
 high-if : (measured : Bool) → cond measured 46 0 ≤ 46
 high-if true = omega arith
 high-if false = omega arith
 
-strip-few : (top : ℕ) (columns : List Strengths) (each n : ℕ) → top ≤ 19_000 → n ≤ 1440 → length (strip_text top columns each n) ≤ 48_900
+strip-few : (upper : Bool) (top : ℕ) (columns : List Strengths) (each n : ℕ) → top ≤ 19_000 → n ≤ 1440 → length (strip_text upper top columns each n) ≤ 48_900
 unfolding strip_text
-strip-few top columns each n low few =
+strip-few upper top columns each n low few =
     let one = high-if (is_some (least_mean L1 columns)) in
     let two = high-if (is_some (least_mean L2 columns)) in
-    let first = lane-if-few top L1 columns each n (omega (arith, low)) few in
-    let second = lane-if-few (top + lane_height L1 columns) L2 columns each n (omega (arith, low, one)) few in
-    let third = lane-if-few (top + lane_height L1 columns + lane_height L2 columns) L5 columns each n (omega (arith, low, one, two)) few in
+    let first = lane-if-few upper top L1 columns each n (omega (arith, low)) few in
+    let second = lane-if-few upper (top + lane_height L1 columns) L2 columns each n (omega (arith, low, one)) few in
+    let third = lane-if-few upper (top + lane_height L1 columns + lane_height L2 columns) L5 columns each n (omega (arith, low, one, two)) few in
     omega (
       arith,
       first,
       second,
       third,
-      three-long (lane_if_measured top L1 columns each n) (lane_if_measured (top + lane_height L1 columns) L2 columns each n)
-          (lane_if_measured (top + lane_height L1 columns + lane_height L2 columns) L5 columns each n),
+      three-long (lane_if_measured upper top L1 columns each n) (lane_if_measured upper (top + lane_height L1 columns) L2 columns each n)
+          (lane_if_measured upper (top + lane_height L1 columns + lane_height L2 columns) L5 columns each n),
     )
 
 strip-low : (columns : List Strengths) → strip_height columns ≤ 138
@@ -505,16 +510,16 @@ gaps-many : (s : Scale) (es : List EpochTableView) → length (gaps_of s es) ≡
 unfolding gaps_of
 gaps-many s es = length-map-range_with_len (has_missing s es) 0 s.bins
 
-most-tracked-few : (s : Scale) (es : List EpochTableView) → most_tracked (bins_of s es) ≤ 32
+most-tracked-few : (s : Scale) (es : List EpochTableView) → most_tracked (tracked_counts (bins_of s es)) ≤ 32
 unfolding bins_of
 most-tracked-few s es = most-few s es 0 (range_with_len 0 s.bins) (omega arith)
 
-body-few : (spacing : Spacing) (listed : List Code) (s : Scale) (es : List EpochTableView) (columns : List Strengths) → length listed ≤ 16 → IsScale s
+body-few : (spacing : Spacing) (listed : List (List ℕ)) (s : Scale) (es : List EpochTableView) (columns : List Strengths) → All (λ (name : List ℕ). length name ≤ 2) listed → length listed ≤ 16 → IsScale s
     → length (svg_body spacing listed s (bins_of s es) (outages_of s es) (gaps_of s es) columns (never_end spacing (bins_of s es) (length listed)))
     ≤ 245_000 + 260 * satellites_in (bins_of s es) + 620 * lines_before (bins_of s es) (length listed) 32
     + 22 * forms_in_bands (bins_of s es) (outages_of s es) (length listed)
 unfolding svg_body
-body-few spacing listed s es columns few is =
+body-few spacing listed s es columns short few is =
     let bins : List TimeBin = bins_of s es in
     let many = bins-many s es in
     let bound = is.few in
@@ -524,11 +529,12 @@ body-few spacing listed s es columns few is =
     let top = top-few spacing (bins_of s es) (length listed) 32 few (omega arith) in
     let strip = strip-low columns in
     let a = system-few in
-    let b = bands-small spacing listed (bins_of s es) (outages_of s es) few size in
-    let c = never-texts-few (bins_of s es) (bands_end spacing (bins_of s es) (length listed) + 18) 0 listed (omega (arith, top)) (omega (arith, few)) in
+    let b = bands-small gps_names spacing listed (bins_of s es) (outages_of s es) short few size in
+    let c = never-texts-few (bins_of s es) (bands_end spacing (bins_of s es) (length listed) + 18) 0 listed short (omega (arith, top)) (omega (arith, few)) in
     let d = gaps-few end (gaps_of s es) (omega (arith, low)) (omega (arith, gaps-many s es, bound)) in
-    let e = satellites-band-few (end + 26) (bins_of s es) (omega (arith, low)) (most-tracked-few s es) size in
-    let f = strip-few (end + 72) columns (bins_per_column s) (length (bins_of s es)) (omega (arith, low)) size in
+    let counted : length (tracked_counts (bins_of s es)) ≡ length (bins_of s es) = length-map (bins_of s es) tracked_in in
+    let e = satellites-band-few (end + 26) (tracked_counts (bins_of s es)) (omega (arith, low)) (most-tracked-few s es) (omega (arith, counted, size)) in
+    let f = strip-few false (end + 72) columns (bins_per_column s) (length (bins_of s es)) (omega (arith, low)) size in
     let g = ticks-few s (svg_tick_step s) (end + strip_height columns + 72) (omega (arith, low, strip)) bound in
     let h = legend-few (end + strip_height columns + 104) (omega (arith, low, strip)) in
     omega (
@@ -543,27 +549,39 @@ body-few spacing listed s es columns few is =
       h,
       few,
       nine-long
-          SYSTEM.now (bands_text spacing listed (bins_of s es) (outages_of s es)) (never_texts (bins_of s es) (bands_end spacing (bins_of s es) (length listed) + 18) 0 listed)
-          (gaps_band end (gaps_of s es)) (satellites_band (end + 26) (bins_of s es))
-          (strip_text (end + 72) columns (bins_per_column s) (length (bins_of s es)))
+          SYSTEM.now (bands_text gps_names spacing listed (bins_of s es) (outages_of s es)) (never_texts gps_names (bins_of s es) (bands_end spacing (bins_of s es) (length listed) + 18) 0 listed)
+          (gaps_band end (gaps_of s es)) (satellites_band (end + 26) (tracked_counts (bins_of s es)))
+          (strip_text false (end + 72) columns (bins_per_column s) (length (bins_of s es)))
           (ticks_text s (svg_tick_step s) (end + strip_height columns + 72)) (svg_legend (end + strip_height columns + 104)) (codes "</svg>\n"),
     )
 
-pub pictures-small : PicturesAreSmall
+-- the names of codes of GPS have two characters
+names-short : (listed : List Code) → All (λ (name : List ℕ). length name ≤ 2) (map name_of listed)
+names-short listed k d lt =
+    let within : k < length listed = omega (arith, length-map listed name_of, lt) in
+    let two = two-characters (get_or listed k G1C) in
+    let same : length (get_or (map name_of listed) k d) ≡ length (name_of (get_or listed k G1C)) = ap (λ (n : List ℕ). length n) (get_or-map name_of listed k G1C d within) in
+    omega (arith, two, same)
+
+-- a picture of codes with these names
+picture-few : (marker : List ℕ) (listed : List (List ℕ)) (s : Scale) (es : List EpochTableView) (columns : List Strengths)
+    → All (λ (name : List ℕ). length name ≤ 2) listed → length marker ≤ 60 → length listed ≤ 16 → IsScale s → ForSome s.interval (λ ms. ms < 2 ^ 64)
+    → length (svg_picture marker listed s (capped (length es)) (slips_at s es) (returns_at s es) (rises_at s es) (capped (missing_in s.unit es)) (bins_of s es) (outages_of s es) (gaps_of s es) columns)
+    ≤ 260_000 + 260 * satellites_in (bins_of s es) + 620 * lines_before (bins_of s es) (length listed) 32
+    + 22 * forms_in_bands (bins_of s es) (outages_of s es) (length listed)
 unfolding svg_picture
-pictures-small marker listed s es short few is some =
+picture-few marker listed s es columns names short few is some =
     let bins : List TimeBin = bins_of s es in
-    let columns : List Strengths = columns_of s listed es in
     let spacing : Spacing = spacing_of (bins_of s es) (length listed) in
     let height : ℕ = never_end spacing bins (length listed) + strip_height columns + 230 in
-    let high = height-is (bins_of s es) (length listed) (columns_of s listed es) in
-    let low = none-is-higher (bins_of s es) (length listed) (columns_of s listed es) few in
+    let high = height-is (bins_of s es) (length listed) columns in
+    let low = none-is-higher (bins_of s es) (length listed) columns few in
     let a = start-few marker height short (omega (arith, high, low)) in
     let b = span-few s is some in
     let there = satellites-few (bins_of s es) in
     let c = numbers-few (capped (length es)) (satellites_in (bins_of s es)) (slips_at s es) (returns_at s es) (rises_at s es) (capped (missing_in s.unit es))
     (omega arith) (omega (arith, there)) (omega arith) (omega arith) (omega arith) (omega arith) in
-    let d = body-few spacing listed s es (columns_of s listed es) few is in
+    let d = body-few spacing listed s es columns names few is in
     omega (
       arith,
       a,
@@ -572,8 +590,15 @@ pictures-small marker listed s es short few is some =
       d,
       four-long (svg_start marker height) (svg_span s)
           (svg_numbers (capped (length es)) (satellites_in (bins_of s es)) (slips_at s es) (returns_at s es) (rises_at s es) (capped (missing_in s.unit es)))
-          (svg_body spacing listed s (bins_of s es) (outages_of s es) (gaps_of s es) (columns_of s listed es) (never_end spacing (bins_of s es) (length listed))),
+          (svg_body spacing listed s (bins_of s es) (outages_of s es) (gaps_of s es) columns (never_end spacing (bins_of s es) (length listed))),
     )
+
+pub pictures-small : PicturesAreSmall
+pictures-small marker listed s es short few is some =
+    let many : length (map name_of listed) ≡ length listed = length-map listed name_of in
+    subst (λ (n : ℕ). length (svg_at marker listed s es)
+    ≤ 260_000 + 260 * satellites_in (bins_of s es) + 620 * lines_before (bins_of s es) n 32 + 22 * forms_in_bands (bins_of s es) (outages_of s es) n) many
+    (picture-few marker (map name_of listed) s es (columns_of s (bands_of listed) es) (names-short listed) short (omega (arith, many, few)) is some)
 
 pub days-small : DaysAreSmall
 days-small marker listed s es short few is some satellites bars forms =

@@ -1,14 +1,16 @@
 -- How high a picture in SVG is.
-use Rattle.std.proofs.Common.{◌≡◌, ◌≤◌, ◌<◌, ℕ, zero, suc, ◌+◌, ◌*◌, Bool, true, false, cond, List, [], ◌∷◌, ◌++◌, length, refl, ap, ◌∙◌, append_assoc, arith}
+use Rattle.std.proofs.Common.{◌≡◌, ◌≤◌, ◌<◌, ℕ, zero, suc, ◌+◌, ◌*◌, Bool, true, false, cond, List, [], ◌∷◌, ◌++◌, length, map, refl, ap, ◌∙◌, append_assoc, arith}
 use Rattle.std.specs.Prelude.{max, nat_lt, is_some, count_by}
 use Rattle.std.specs.List.{range_with_len, sum_by}
 use Rattle.std.proofs.Math.Nat.{mul-add}
 use Rattle.std.proofs.lemmas.Bool.{ltb-false}
+use Rattle.std.proofs.lemmas.List.{length-map}
 use Rattle.std.proofs.lemmas.List.Sums.{sum_by-cons, count_by-le-length}
 use Rattle.std.proofs.lemmas.List.FromFn.{length-range_with_len}
+use Rattle.rtk_obs.specs.Code.{name_of}
 use Rattle.rtk_obs.specs.declared.code.Band.TheVariants.{L1, L2, L5}
 use Rattle.rtk_chart.specs.Signs.{is_drawn, has_code}
-use Rattle.rtk_chart.specs.Means.{least_mean, columns_of}
+use Rattle.rtk_chart.specs.Means.{least_mean, bands_of, columns_of}
 use Rattle.rtk_chart.specs.TextPicture.{drawn_before, satellites_in}
 use Rattle.rtk_tracking.specs.Epochs.{capped}
 use Rattle.rtk_tracking.specs.Interval.{missing_in}
@@ -85,15 +87,19 @@ pub svg-has-its-height : SvgHasItsHeight
 unfolding svg_picture
 svg-has-its-height marker listed s es =
     let bins = bins_of s es in
-    let columns = columns_of s listed es in
-    let spacing = spacing_of bins (length listed) in
-    let end = never_end spacing bins (length listed) in
+    let columns = columns_of s (bands_of listed) es in
+    let names : List (List ℕ) = map name_of listed in
+    let spacing = spacing_of bins (length names) in
+    let end = never_end spacing bins (length names) in
     let numbers : List ℕ = svg_numbers (capped (length es)) (satellites_in bins) (slips_at s es) (returns_at s es) (rises_at s es) (capped (missing_in s.unit es)) in
-    let body : List ℕ = svg_body spacing listed s bins (outages_of s es) (gaps_of s es) columns end in
+    let body : List ℕ = svg_body spacing names s bins (outages_of s es) (gaps_of s es) columns end in
     let start : List ℕ = svg_start marker (end + strip_height columns + 230) in
     let same = ap (λ (t : List ℕ). t ++ body) (append_assoc start (svg_span s) numbers) ∙ append_assoc start (svg_span s ++ numbers) body in
-    let rest : List ℕ = svg_span s ++ numbers ++ body in
-    (rest, same ∙ ap (λ (height : ℕ). svg_start marker height ++ rest) (height-is bins (length listed) columns))
+    let rest : List ℕ = svg_span s ++ numbers ++ body in (
+      rest,
+      same ∙ ap (λ (height : ℕ). svg_start marker height ++ rest) (height-is bins (length names) columns)
+          ∙ ap (λ (n : ℕ). svg_start marker (picture_height bins n columns) ++ rest) (length-map listed name_of),
+    )
 
 -- ---- it is not high
 

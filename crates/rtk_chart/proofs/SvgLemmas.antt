@@ -3,11 +3,11 @@ use Rattle.std.proofs.Common.{◌≡◌, ◌≤◌, ◌<◌, ◌+◌, ◌*◌, �
 use Rattle.std.proofs.Math.Nat.{mul-div_cancel_left}
 use Rattle.std.proofs.lemmas.List.{drop_more}
 use Rattle.std.proofs.lemmas.Nat.{mul-le}
-use Rattle.rtk_obs.specs.declared.code.Code.{Code}
 use Rattle.rtk_chart.specs.Scale.{longest_bin}
 use Rattle.rtk_chart.specs.SvgPath.{edge_of, middle_of, run_part, runs_from, mark_part, marks_from, tracked_in, step_part, steps_from}
 use Rattle.rtk_chart.specs.SvgStrip.{depth_part, depths_from}
 use Rattle.rtk_chart.specs.SvgPicture.{line_if_had, code_lines, never_if_lacked, never_texts}
+use Rattle.rtk_chart.specs.declared.groups.Names.{Names}
 use Rattle.rtk_chart.specs.declared.spacing.Spacing.{Spacing}
 use Rattle.rtk_chart.specs.declared.time_bin.TimeBin.{TimeBin}
 use Rattle.rtk_chart.proofs.LawLemmas.{div-mono}
@@ -54,39 +54,39 @@ marks-more form n i x flags d all mid after within at so_far more =
     ∙ ap (λ (k : ℕ). (mid ++ mark_part form k b) ++ marks_from form n (i + 1) rest) (sym at)
     ∙ ap (λ (t : List ℕ). t ++ marks_from form n (i + 1) rest) (sym more)
 
-pub steps-more : (most n i x was now : ℕ) (bins : List TimeBin) (d : TimeBin) (all mid after : List ℕ) → i < length bins → x ≡ edge_of n i
-    → now ≡ tracked_in (get_or bins i d) → all ≡ mid ++ steps_from most n i was (drop i bins) → after ≡ mid ++ step_part most x was now
-    → all ≡ after ++ steps_from most n (i + 1) now (drop (i + 1) bins)
-steps-more most n i x was now bins d all mid after within at is so_far more =
-    let b = get_or bins i d in
-    let rest = drop (i + 1) bins in
-    so_far ∙ ap (λ (bs : List TimeBin). mid ++ steps_from most n i was bs) (drop_more bins i d within)
-    ∙ sym (append_assoc mid (step_part most (edge_of n i) was (tracked_in b)) (steps_from most n (i + 1) (tracked_in b) rest))
-    ∙ ap (λ (k : ℕ). (mid ++ step_part most k was (tracked_in b)) ++ steps_from most n (i + 1) (tracked_in b) rest) (sym at)
+pub steps-more : (most n i x was now : ℕ) (counts : List ℕ) (d : ℕ) (all mid after : List ℕ) → i < length counts → x ≡ edge_of n i
+    → now ≡ get_or counts i d → all ≡ mid ++ steps_from most n i was (drop i counts) → after ≡ mid ++ step_part most x was now
+    → all ≡ after ++ steps_from most n (i + 1) now (drop (i + 1) counts)
+steps-more most n i x was now counts d all mid after within at is so_far more =
+    let b = get_or counts i d in
+    let rest = drop (i + 1) counts in
+    so_far ∙ ap (λ (ks : List ℕ). mid ++ steps_from most n i was ks) (drop_more counts i d within)
+    ∙ sym (append_assoc mid (step_part most (edge_of n i) was b) (steps_from most n (i + 1) b rest))
+    ∙ ap (λ (k : ℕ). (mid ++ step_part most k was b) ++ steps_from most n (i + 1) b rest) (sym at)
     ∙ ap (λ (k : ℕ). (mid ++ step_part most x was k) ++ steps_from most n (i + 1) k rest) (sym is)
     ∙ ap (λ (t : List ℕ). t ++ steps_from most n (i + 1) now rest) (sym more)
 
 -- the line of one code more
-pub codes-more : (spacing : Spacing) (bins : List TimeBin) (place i : ℕ) (codes : List Code) (d : Code) (all mid after : List ℕ) → i < length codes
-    → all ≡ mid ++ code_lines spacing bins place i (drop i codes) → after ≡ mid ++ line_if_had spacing bins place i (get_or codes i d)
-    → all ≡ after ++ code_lines spacing bins place (i + 1) (drop (i + 1) codes)
-codes-more spacing bins place i codes d all mid after within so_far more =
+pub codes-more : (names : Names) (spacing : Spacing) (bins : List TimeBin) (place i : ℕ) (codes : List (List ℕ)) (d : List ℕ) (all mid after : List ℕ) → i < length codes
+    → all ≡ mid ++ code_lines names spacing bins place i (drop i codes) → after ≡ mid ++ line_if_had names spacing bins place i (get_or codes i d)
+    → all ≡ after ++ code_lines names spacing bins place (i + 1) (drop (i + 1) codes)
+codes-more names spacing bins place i codes d all mid after within so_far more =
     let c = get_or codes i d in
     let rest = drop (i + 1) codes in
-    so_far ∙ ap (λ (cs : List Code). mid ++ code_lines spacing bins place i cs) (drop_more codes i d within)
-    ∙ sym (append_assoc mid (line_if_had spacing bins place i c) (code_lines spacing bins place (i + 1) rest))
-    ∙ ap (λ (t : List ℕ). t ++ code_lines spacing bins place (i + 1) rest) (sym more)
+    so_far ∙ ap (λ (cs : List (List ℕ)). mid ++ code_lines names spacing bins place i cs) (drop_more codes i d within)
+    ∙ sym (append_assoc mid (line_if_had names spacing bins place i c) (code_lines names spacing bins place (i + 1) rest))
+    ∙ ap (λ (t : List ℕ). t ++ code_lines names spacing bins place (i + 1) rest) (sym more)
 
 -- the line of one code more that satellites have nowhere
-pub nevers-more : (bins : List TimeBin) (top i : ℕ) (codes : List Code) (d : Code) (all mid after : List ℕ) → i < length codes
-    → all ≡ mid ++ never_texts bins top i (drop i codes) → after ≡ mid ++ never_if_lacked bins top i (get_or codes i d)
-    → all ≡ after ++ never_texts bins top (i + 1) (drop (i + 1) codes)
-nevers-more bins top i codes d all mid after within so_far more =
+pub nevers-more : (names : Names) (bins : List TimeBin) (top i : ℕ) (codes : List (List ℕ)) (d : List ℕ) (all mid after : List ℕ) → i < length codes
+    → all ≡ mid ++ never_texts names bins top i (drop i codes) → after ≡ mid ++ never_if_lacked names bins top i (get_or codes i d)
+    → all ≡ after ++ never_texts names bins top (i + 1) (drop (i + 1) codes)
+nevers-more names bins top i codes d all mid after within so_far more =
     let c = get_or codes i d in
     let rest = drop (i + 1) codes in
-    so_far ∙ ap (λ (cs : List Code). mid ++ never_texts bins top i cs) (drop_more codes i d within)
-    ∙ sym (append_assoc mid (never_if_lacked bins top i c) (never_texts bins top (i + 1) rest))
-    ∙ ap (λ (t : List ℕ). t ++ never_texts bins top (i + 1) rest) (sym more)
+    so_far ∙ ap (λ (cs : List (List ℕ)). mid ++ never_texts names bins top i cs) (drop_more codes i d within)
+    ∙ sym (append_assoc mid (never_if_lacked names bins top i c) (never_texts names bins top (i + 1) rest))
+    ∙ ap (λ (t : List ℕ). t ++ never_texts names bins top (i + 1) rest) (sym more)
 
 -- the step between ticks has its bound
 pub step-bound : (n length : ℕ) → n ≤ 1440 → 0 < length → length ≤ longest_bin → ((n / 10 + 1) * length ≤ 145 * longest_bin) × (0 < (n / 10 + 1) * length)

@@ -8,9 +8,10 @@ use Rattle.rtk_chart.specs.Epochs.{slips_in, returns_in, rises_in}
 use Rattle.rtk_tracking.specs.Interval.{interval_of_file, missing_in}
 use Rattle.rtk_chart.specs.Scale.{scale_of}
 use Rattle.rtk_chart.specs.Grid.{bins_of, outages_of, gaps_of, recorded_of}
-use Rattle.rtk_chart.specs.Means.{columns_of}
+use Rattle.rtk_chart.specs.Means.{bands_of, columns_of}
 use Rattle.rtk_chart.specs.TextPicture.{text_picture, text_of_none}
 use Rattle.rtk_chart.specs.SvgPicture.{svg_picture, svg_of_none}
+use Rattle.rtk_obs.specs.Code.{name_of}
 use Rattle.rtk_obs.specs.declared.code.Code.{Code}
 use Rattle.rtk_chart.specs.declared.choice.Choice.{Choice}
 use Rattle.rtk_chart.specs.declared.scale.Scale.{Scale}
@@ -59,8 +60,8 @@ ShowsChosen choice file width text =
 -- the picture in SVG of these epochs, newest first, at a scale
 abbrev pub svg_at : List ℕ → List Code → Scale → List EpochTableView → List ℕ
 svg_at marker listed s es =
-    svg_picture marker listed s (capped (length es)) (slips_at s es) (returns_at s es) (rises_at s es)
-    (capped (missing_in s.unit es)) (bins_of s es) (outages_of s es) (gaps_of s es) (columns_of s listed es)
+    svg_picture marker (map name_of listed) s (capped (length es)) (slips_at s es) (returns_at s es) (rises_at s es)
+    (capped (missing_in s.unit es)) (bins_of s es) (outages_of s es) (gaps_of s es) (columns_of s (bands_of listed) es)
 
 -- formula
 -- the picture of a file of this marker, these codes and this first time, with this interval

@@ -1,7 +1,8 @@
 -- The satellites of any systems in groups of 32 at most, which is as many as a grid has places; and what a group has in an epoch
 -- (this project's rule).
-use Rattle.std.specs.Prelude.{◌≡◌, ℕ, ◌+◌, ◌-◌, ◌==◌, nat_lt, nat_le, Bool, true, ◌&&◌, List, map, min, filter_map, Option, None, Some, if◌then◌else◌}
+use Rattle.std.specs.Prelude.{◌≡◌, ℕ, ◌+◌, ◌-◌, ◌==◌, nat_lt, nat_le, Bool, true, ◌&&◌, List, [], ◌∷◌, map, min, filter_map, Option, None, Some, if◌then◌else◌}
 use Rattle.rtk_message.specs.declared.system.System.{System}
+use Rattle.rtk_message.specs.declared.system.System.TheVariants.{Gps, Glonass, Galileo, Beidou, Qzss, Sbas, Navic}
 use Rattle.rtk_obs.specs.declared.any_code.AnyCode.{AnyCode}
 use Rattle.rtk_obs.specs.AnyCode.{system_of, name_of, text_of}
 use Rattle.rtk_obs.specs.SatelliteIndex.{satellites_of_system, satellites_before, letter_of, name_offset}
@@ -20,14 +21,27 @@ use Rattle.rtk_chart.specs.declared.groups.Group.{Group}
 abbrev pub title_of : AnyCode → List ℕ
 title_of code = if letter_of (system_of code) == 71 then name_of code else text_of code
 
+-- table
+-- the systems, in the order of a file
+abbrev pub drawn_in_order : List System
+drawn_in_order = Gps ∷ Glonass ∷ Galileo ∷ Beidou ∷ Qzss ∷ Sbas ∷ Navic ∷ []
+
 -- the codes of a system
 abbrev pub listed_in : System → List AnyCode → List AnyCode
 listed_in s listed = codes_of (letter_of s) listed
 
 -- ---- the groups of a system
 
+-- the satellites of a system, as one group that may be larger than a grid; their numbers in names follow on each other
+abbrev pub whole_group : System → Group
+whole_group s = record {
+  before = satellites_before s;
+  count = satellites_of_system s;
+  names = record { letter = letter_of s; before = name_offset s };
+}
+
 -- formula
--- the satellites of a system, or the first 32 of them; their numbers in names follow on each other
+-- the satellites of a system, or the first 32 of them
 abbrev pub first_group : System → Group
 first_group s = record {
   before = satellites_before s;

@@ -1,7 +1,6 @@
 -- Laws of the definitions of a picture.
 use Rattle.std.specs.Prelude.{◌≡◌, ◌≤◌, ◌<◌, ◌↔◌, ℕ, ◌+◌, ◌-◌, ◌*◌, ◌/◌, ◌^◌, Bool, true, List, [], ◌∷◌, length, get_or, sum, min, Option, None, Some}
 use Rattle.rtk_obs.specs.declared.code.Band.{Band}
-use Rattle.rtk_obs.specs.declared.code.Code.{Code}
 use Rattle.rtk_rinex.specs.Record.{EpochTableView}
 use Rattle.rtk_chart.specs.Scale.{half_of, intervals_of, IsScale, scale_of, bin_at}
 use Rattle.rtk_chart.specs.Grid.{bins_of, has_missing_before, gaps_of, recorded_of}
@@ -76,7 +75,7 @@ mean_of_strengths (x ∷ xs) = Some (min (sum (x ∷ xs) / length (x ∷ xs)) 63
 -- column, if these and their sum are below 2^64
 abbrev pub MeansAreOfStrengths : Type 0
 MeansAreOfStrengths =
-    (s : Scale) (listed : List Code) (es : List EpochTableView) (band : Band) (bin : ℕ) → bin < s.bins
+    (s : Scale) (listed : List (Option Band)) (es : List EpochTableView) (band : Band) (bin : ℕ) → bin < s.bins
     → let strengths : List ℕ = strengths_in s listed band es (bin / bins_per_column s) in
     length strengths < 2 ^ 64 → sum strengths < 2 ^ 64
     → mean_at band (get_or (columns_of s listed es) (bin / bins_per_column s) all_without) ≡ mean_of_strengths strengths

@@ -19,5 +19,6 @@ pub mod Steps
 pub mod SvgPath
 pub mod SvgPicture
 pub mod SvgStrip
+pub mod SvgSystems
 pub mod TextPicture
 pub mod Ticks

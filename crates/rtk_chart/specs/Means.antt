@@ -1,5 +1,5 @@
 -- The mean strength of each band along the time of a picture (this project's rule), in at most 144 columns of whole bins.
-use Rattle.std.specs.Prelude.{ℕ, ◌+◌, ◌/◌, ◌==◌, Bool, List, [], ◌∷◌, ◌++◌, length, map, flat_map, sum, Option, None, Some, min, if◌then◌else◌}
+use Rattle.std.specs.Prelude.{ℕ, ◌+◌, ◌/◌, ◌==◌, Bool, false, List, [], ◌∷◌, ◌++◌, length, map, flat_map, sum, Option, None, Some, min, if◌then◌else◌}
 use Rattle.std.specs.List.{fold, range_with_len}
 use Rattle.rtk_obs.specs.Code.{band_of}
 use Rattle.rtk_obs.specs.declared.code.Band.{Band}
@@ -24,24 +24,29 @@ number_of L1 = 1
 number_of L2 = 2
 number_of L5 = 5
 
--- a code is of this band
-abbrev pub is_of_band : Band → Code → Bool
-is_of_band band code = number_of (band_of code) == number_of band
+-- the bands of codes of GPS
+abbrev pub bands_of : List Code → List (Option Band)
+bands_of listed = map (λ c. Some (band_of c)) listed
+
+-- the band of a code is this one; a code may have none of the three
+abbrev pub is_of_band : Band → Option Band → Bool
+is_of_band band None = false
+is_of_band band (Some b) = number_of b == number_of band
 
 -- a strength, if it is there
 abbrev pub list_of_strength : Option ℕ → List ℕ
 list_of_strength None = []
 list_of_strength (Some strength) = strength ∷ []
 
--- the strengths of a band in a row, whose codes are listed
-abbrev pub strengths_of_row : Band → List Code → List Observed → List ℕ
+-- the strengths of a band in a row, whose codes have these bands
+abbrev pub strengths_of_row : Band → List (Option Band) → List Observed → List ℕ
 strengths_of_row band [] os = []
 strengths_of_row band (c ∷ cs) [] = []
 strengths_of_row band (c ∷ cs) (o ∷ os) =
     (if is_of_band band c then list_of_strength o.strength_millidbhz else []) ++ strengths_of_row band cs os
 
 -- those in the rows of a record
-abbrev pub strengths_of_rows : Band → List Code → List SatelliteRow → List ℕ
+abbrev pub strengths_of_rows : Band → List (Option Band) → List SatelliteRow → List ℕ
 strengths_of_rows band listed rows = flat_map (λ r. strengths_of_row band listed r.observed.items) rows
 
 -- ---- columns
@@ -57,22 +62,22 @@ column_at s t = bin_at s t / bins_per_column s
 
 -- formula
 -- the strengths of a band in the epochs of a column, in the order of time
-abbrev pub strengths_in : Scale → List Code → Band → List EpochTableView → ℕ → List ℕ
+abbrev pub strengths_in : Scale → List (Option Band) → Band → List EpochTableView → ℕ → List ℕ
 strengths_in s listed band [] c = []
 strengths_in s listed band (e ∷ before) c =
     if column_at s e.time == c then strengths_in s listed band before c ++ strengths_of_rows band listed e.rows
     else strengths_in s listed band before c
 
 -- how many they are, and their sum
-abbrev pub band_in : Scale → List Code → List EpochTableView → ℕ → Band → BandStrengths
+abbrev pub band_in : Scale → List (Option Band) → List EpochTableView → ℕ → Band → BandStrengths
 band_in s listed es c band =
     record { count = capped (length (strengths_in s listed band es c)); sum = capped (sum (strengths_in s listed band es c)) }
 
-abbrev pub column_in : Scale → List Code → List EpochTableView → ℕ → Strengths
+abbrev pub column_in : Scale → List (Option Band) → List EpochTableView → ℕ → Strengths
 column_in s listed es c = record { l1 = band_in s listed es c L1; l2 = band_in s listed es c L2; l5 = band_in s listed es c L5 }
 
 -- what all columns have
-unfoldable pub columns_of : Scale → List Code → List EpochTableView → List Strengths
+unfoldable pub columns_of : Scale → List (Option Band) → List EpochTableView → List Strengths
 columns_of s listed es = map (column_in s listed es) (range_with_len 0 144)
 
 -- ---- means

@@ -1,5 +1,6 @@
 -- The picture in characters of a file of any systems (this project's rule): the rows of each system stand below its name.
 use Rattle.std.specs.Prelude.{◌≡◌, ℕ, ◌+◌, ◌-◌, ◌==◌, Bool, List, [], ◌∷◌, ◌++◌, length, codes, Option, if◌then◌else◌}
+use Rattle.std.specs.List.{fold}
 use Rattle.rtk_message.specs.declared.system.System.{System}
 use Rattle.rtk_message.specs.declared.system.System.TheVariants.{Gps, Glonass, Galileo, Beidou, Qzss, Sbas, Navic}
 use Rattle.rtk_obs.specs.declared.any_code.AnyCode.{AnyCode}
@@ -9,7 +10,7 @@ use Rattle.rtk_tracking.specs.Epochs.{capped, newest_first}
 use Rattle.rtk_tracking.specs.Interval.{interval_of_epochs, missing_in}
 use Rattle.rtk_chart.specs.Chart.{slips_at, returns_at, rises_at}
 use Rattle.rtk_chart.specs.Grid.{bins_of, outages_of, gaps_of, recorded_of}
-use Rattle.rtk_chart.specs.Groups.{title_of, listed_in, first_group, second_group, group_epochs}
+use Rattle.rtk_chart.specs.Groups.{title_of, drawn_in_order, listed_in, first_group, second_group, group_epochs}
 use Rattle.rtk_chart.specs.Scale.{scale_of}
 use Rattle.rtk_chart.specs.TextPicture.{satellite_rows, gap_row, never_in_line, all_never_lines, satellites_in, text_heading, number_lines, time_rows, text_of_none}
 use Rattle.rtk_chart.specs.declared.choice.Choice.{Choice}
@@ -102,21 +103,14 @@ abbrev pub with_listed : Scale → ℕ → Choice → List EpochTableView → Sy
 with_listed s width choice es system [] d = d
 with_listed s width choice es system (c ∷ cs) d = then_system system (drawn_of_system s width choice es system (c ∷ cs)) d
 
--- a system of a file of these codes
-abbrev pub with_drawn_system : Scale → ℕ → Choice → List EpochTableView → List AnyCode → System → DrawnView → DrawnView
-with_drawn_system s width choice es listed system d = with_listed s width choice es system (listed_in system listed) d
+-- what is drawn, and then a system of a file of these codes
+abbrev pub with_drawn_system : Scale → ℕ → Choice → List EpochTableView → List AnyCode → DrawnView → System → DrawnView
+with_drawn_system s width choice es listed d system = with_listed s width choice es system (listed_in system listed) d
 
--- table
--- the systems, in the order of a file
+-- formula
+-- all systems of a file, in its order
 unfoldable pub drawn_systems : Scale → ℕ → Choice → List EpochTableView → List AnyCode → DrawnView
-drawn_systems s width choice es listed =
-    with_drawn_system s width choice es listed Navic (
-    with_drawn_system s width choice es listed Sbas (
-    with_drawn_system s width choice es listed Qzss (
-    with_drawn_system s width choice es listed Beidou (
-    with_drawn_system s width choice es listed Galileo (
-    with_drawn_system s width choice es listed Glonass (
-    with_drawn_system s width choice es listed Gps nothing_drawn))))))
+drawn_systems s width choice es listed = fold (with_drawn_system s width choice es listed) nothing_drawn drawn_in_order
 
 -- ---- the picture
 

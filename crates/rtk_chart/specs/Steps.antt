@@ -3,3 +3,4 @@ pub mod Added
 pub mod Pictures
 pub mod Shown
 pub mod Standing
+pub mod SvgParts

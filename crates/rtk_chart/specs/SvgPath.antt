@@ -1,5 +1,5 @@
 -- Paths of bins in an SVG picture (this project's rule). The n bins of a picture share 1440 units.
-use Rattle.std.specs.Prelude.{ℕ, ◌+◌, ◌-◌, ◌*◌, ◌/◌, ◌==◌, Bool, true, false, List, [], ◌∷◌, ◌++◌, codes, decimal, length, count_by, max, if◌then◌else◌}
+use Rattle.std.specs.Prelude.{ℕ, ◌+◌, ◌-◌, ◌*◌, ◌/◌, ◌==◌, Bool, true, false, List, [], ◌∷◌, ◌++◌, codes, decimal, length, map, count_by, max, if◌then◌else◌}
 use Rattle.std.specs.List.{fold}
 use Rattle.rtk_chart.specs.Signs.{is_tracked}
 use Rattle.rtk_chart.specs.declared.time_bin.TimeBin.{TimeBin}
@@ -48,8 +48,13 @@ marks_text form bs = marks_from form (length bs) 0 bs
 abbrev pub tracked_in : TimeBin → ℕ
 tracked_in bin = count_by is_tracked bin.satellites
 
-abbrev pub most_tracked : List TimeBin → ℕ
-most_tracked bins = fold (λ most bin. max most (tracked_in bin)) 0 bins
+-- the number of each bin
+abbrev pub tracked_counts : List TimeBin → List ℕ
+tracked_counts bins = map tracked_in bins
+
+-- the greatest of these numbers
+abbrev pub most_tracked : List ℕ → ℕ
+most_tracked counts = fold (λ most n. max most n) 0 counts
 
 -- formula
 -- a step to another number: 40 units above none is the greatest one
@@ -58,9 +63,10 @@ step_part most x was now =
     if now == was then [] else codes "H" ++ decimal x ++ codes "V" ++ decimal (40 - now * 40 / max most 1)
 
 -- the steps of bins from a place on
-abbrev pub steps_from : ℕ → ℕ → ℕ → ℕ → List TimeBin → List ℕ
+abbrev pub steps_from : ℕ → ℕ → ℕ → ℕ → List ℕ → List ℕ
 steps_from most n c was [] = []
-steps_from most n c was (b ∷ bs) = step_part most (edge_of n c) was (tracked_in b) ++ steps_from most n (c + 1) (tracked_in b) bs
+steps_from most n c was (k ∷ ks) = step_part most (edge_of n c) was k ++ steps_from most n (c + 1) k ks
 
-unfoldable pub steps_text : List TimeBin → List ℕ
-steps_text bins = steps_from (most_tracked bins) (length bins) 0 0 bins
+-- of bins with these numbers
+unfoldable pub steps_text : List ℕ → List ℕ
+steps_text counts = steps_from (most_tracked counts) (length counts) 0 0 counts

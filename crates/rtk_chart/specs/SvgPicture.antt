@@ -1,21 +1,20 @@
 -- A picture in SVG (this project's rule). Lengths are in units of the picture, which is 1620 wide:
 -- bands begin 110 from the left and 140 from the top, and are 1440 wide.
-use Rattle.std.specs.Prelude.{ℕ, ◌+◌, ◌-◌, ◌*◌, ◌/◌, ◌%◌, ◌==◌, nat_lt, Bool, not, List, [], ◌∷◌, ◌++◌, length, max, map, flat_map, count_by, codes, decimal, Option, None, Some, if◌then◌else◌}
+use Rattle.std.specs.Prelude.{ℕ, ◌+◌, ◌-◌, ◌*◌, ◌/◌, ◌%◌, ◌==◌, nat_lt, Bool, false, not, List, [], ◌∷◌, ◌++◌, length, max, map, flat_map, count_by, codes, decimal, Option, None, Some, if◌then◌else◌}
 use Rattle.std.specs.List.{list_any, range_with_len, sum_by}
-use Rattle.rtk_obs.specs.declared.code.Code.{Code}
-use Rattle.rtk_obs.specs.Code.{name_of}
 use Rattle.rtk_obs.specs.Reading.{reading_of}
 use Rattle.rtk_obs.specs.CivilText.{civil_text}
 use Rattle.rtk_chart.specs.Heading.{seconds_text}
 use Rattle.rtk_chart.specs.Ticks.{tick_step, tick_at, tick_label}
 use Rattle.rtk_chart.specs.Grid.{tracking_at, marks_at, is_out}
 use Rattle.rtk_chart.specs.Signs.{is_drawn, has_code, is_never}
-use Rattle.rtk_chart.specs.TextPicture.{satellite_label, never_before, drawn_before, satellites_in}
+use Rattle.rtk_chart.specs.TextPicture.{gps_names, satellite_label, never_before, drawn_before, satellites_in}
 use Rattle.rtk_chart.specs.Means.{bins_per_column}
 use Rattle.rtk_chart.specs.SvgStrip.{strip_height, strip_text}
-use Rattle.rtk_chart.specs.SvgPath.{edge_of, runs_text, marks_text, most_tracked, steps_text}
+use Rattle.rtk_chart.specs.SvgPath.{edge_of, runs_text, marks_text, tracked_counts, most_tracked, steps_text}
 use Rattle.rtk_chart.specs.Layers.{shows}
 use Rattle.rtk_chart.specs.declared.svg_picture.TheConstants.{STYLE, SYSTEM, LEGEND}
+use Rattle.rtk_chart.specs.declared.groups.Names.{Names}
 use Rattle.rtk_chart.specs.declared.scale.Scale.{Scale}
 use Rattle.rtk_chart.specs.declared.time_bin.TimeBin.{TimeBin}
 use Rattle.rtk_chart.specs.declared.layer.Layer.{Layer}
@@ -152,20 +151,21 @@ code_start Close = codes "<text class='code tiny' transform='scale(1 2)' x='-6' 
 
 -- formula
 -- the line of a code of a satellite, as in G05 1C
-unfoldable pub code_line : Spacing → List TimeBin → ℕ → ℕ → Code → List ℕ
-code_line spacing bins place at code =
-    number_between (codes "<g transform='translate(0 ") (line_top spacing (codes_before bins place at)) (line_start spacing) ++ satellite_label 71 (place + 1)
-    ++ codes " " ++ name_of code ++ drawn_bar bins place at ++ code_start spacing ++ name_of code ++ codes "</text>\n</g>\n"
+unfoldable pub code_line : Names → Spacing → List TimeBin → ℕ → ℕ → List ℕ → List ℕ
+code_line names spacing bins place at name =
+    number_between (codes "<g transform='translate(0 ") (line_top spacing (codes_before bins place at)) (line_start spacing)
+    ++ satellite_label names.letter (names.before + place + 1)
+    ++ codes " " ++ name ++ drawn_bar bins place at ++ code_start spacing ++ name ++ codes "</text>\n</g>\n"
 
 -- formula
 -- a code that the satellite has nowhere has no line
-abbrev pub line_if_had : Spacing → List TimeBin → ℕ → ℕ → Code → List ℕ
-line_if_had spacing bins place at code = if has_code bins place at then code_line spacing bins place at code else []
+abbrev pub line_if_had : Names → Spacing → List TimeBin → ℕ → ℕ → List ℕ → List ℕ
+line_if_had names spacing bins place at name = if has_code bins place at then code_line names spacing bins place at name else []
 
--- the codes from a place on
-abbrev pub code_lines : Spacing → List TimeBin → ℕ → ℕ → List Code → List ℕ
-code_lines spacing bins place at [] = []
-code_lines spacing bins place at (c ∷ cs) = line_if_had spacing bins place at c ++ code_lines spacing bins place (at + 1) cs
+-- the codes from a place on, by their names
+abbrev pub code_lines : Names → Spacing → List TimeBin → ℕ → ℕ → List (List ℕ) → List ℕ
+code_lines names spacing bins place at [] = []
+code_lines names spacing bins place at (c ∷ cs) = line_if_had names spacing bins place at c ++ code_lines names spacing bins place (at + 1) cs
 
 -- ---- bands
 
@@ -203,12 +203,12 @@ name_drop Close = 7
 
 -- formula
 -- the beginning of a band: its satellite, and its stripe, 0 for none
-unfoldable pub band_start : Spacing → ℕ → ℕ → ℕ → ℕ → List ℕ
-band_start spacing top satellite stripe height =
-    number_between (codes "<g transform='translate(110 ") top (codes ")'>\n<title>") ++ satellite_label 71 satellite
+unfoldable pub band_start : Spacing → ℕ → ℕ → ℕ → ℕ → ℕ → List ℕ
+band_start spacing top letter number stripe height =
+    number_between (codes "<g transform='translate(110 ") top (codes ")'>\n<title>") ++ satellite_label letter number
     ++ number_between (codes "</title>\n<rect class='b") stripe (codes "' x='-110' width='1620'")
     ++ number_between (codes " height='") height (codes "'/>\n")
-    ++ number_between (name_start spacing) (height / 2 + name_drop spacing) (codes "'>") ++ satellite_label 71 satellite ++ codes "</text>\n"
+    ++ number_between (name_start spacing) (height / 2 + name_drop spacing) (codes "'>") ++ satellite_label letter number ++ codes "</text>\n"
 
 -- the bins of so many in which a satellite has an outage
 abbrev pub outage_flags : List Bool → ℕ → ℕ → List Bool
@@ -223,26 +223,30 @@ outage_boxes outages n place high =
 
 -- formula
 -- the band of a satellite after so many others: every other one has a stripe
-unfoldable pub band_text : Spacing → List Code → List TimeBin → List Bool → ℕ → ℕ → List ℕ
-band_text spacing listed bins outages place before =
-    band_start spacing (band_top spacing bins (length listed) place) (place + 1) (before % 2) (height_of spacing bins (length listed) place)
+unfoldable pub band_text : Names → Spacing → List (List ℕ) → List TimeBin → List Bool → ℕ → ℕ → List ℕ
+band_text names spacing listed bins outages place before =
+    band_start spacing (band_top spacing bins (length listed) place) names.letter (names.before + place + 1) (before % 2) (height_of spacing bins (length listed) place)
     ++ outage_boxes outages (length bins) place (height_of spacing bins (length listed) place - 8)
-    ++ code_lines spacing bins place 0 listed ++ codes "</g>\n"
+    ++ code_lines names spacing bins place 0 listed ++ codes "</g>\n"
 
 -- formula
-abbrev pub band_if_drawn : Spacing → List Code → List TimeBin → List Bool → ℕ → List ℕ
-band_if_drawn spacing listed bins outages place =
-    if is_drawn bins place then band_text spacing listed bins outages place (drawn_before bins place) else []
+abbrev pub band_if_drawn : Names → Spacing → List (List ℕ) → List TimeBin → List Bool → ℕ → List ℕ
+band_if_drawn names spacing listed bins outages place =
+    if is_drawn bins place then band_text names spacing listed bins outages place (drawn_before bins place) else []
 
 -- formula
-unfoldable pub bands_text : Spacing → List Code → List TimeBin → List Bool → List ℕ
-bands_text spacing listed bins outages = flat_map (band_if_drawn spacing listed bins outages) (range_with_len 0 32)
+unfoldable pub bands_text : Names → Spacing → List (List ℕ) → List TimeBin → List Bool → List ℕ
+bands_text names spacing listed bins outages = flat_map (band_if_drawn names spacing listed bins outages) (range_with_len 0 32)
 
 -- ---- codes that satellites have nowhere
 
 -- formula
-abbrev pub never_name : List TimeBin → ℕ → ℕ → List ℕ
-never_name bins at place = if is_never bins at place then 32 ∷ satellite_label 71 (place + 1) else []
+abbrev pub never_name : Names → List TimeBin → ℕ → ℕ → List ℕ
+never_name names bins at place = if is_never bins at place then 32 ∷ satellite_label names.letter (names.before + place + 1) else []
+
+-- the name of a code, with the letter of its system unless this is GPS
+abbrev pub never_title : Names → List ℕ → List ℕ
+never_title names name = if names.letter == 71 then name else names.letter ∷ name
 
 -- some satellite has the code at a place nowhere
 abbrev pub is_lacked : List TimeBin → ℕ → Bool
@@ -254,19 +258,19 @@ lacked_before bins at = count_by (is_lacked bins) (range_with_len 0 at)
 
 -- formula
 -- the satellites that have a code nowhere, as in never 5X: G03 G06
-unfoldable pub never_text : List TimeBin → ℕ → ℕ → Code → List ℕ
-never_text bins top at code =
-    number_between (codes "<text class='never' x='110' y='") (top + 24 * lacked_before bins at) (codes "'>never ") ++ name_of code ++ codes ":"
-    ++ flat_map (never_name bins at) (range_with_len 0 32) ++ codes "</text>\n"
+unfoldable pub never_text : Names → List TimeBin → ℕ → ℕ → List ℕ → List ℕ
+never_text names bins top at name =
+    number_between (codes "<text class='never' x='110' y='") (top + 24 * lacked_before bins at) (codes "'>never ") ++ never_title names name ++ codes ":"
+    ++ flat_map (never_name names bins at) (range_with_len 0 32) ++ codes "</text>\n"
 
 -- formula
-abbrev pub never_if_lacked : List TimeBin → ℕ → ℕ → Code → List ℕ
-never_if_lacked bins top at code = if is_lacked bins at then never_text bins top at code else []
+abbrev pub never_if_lacked : Names → List TimeBin → ℕ → ℕ → List ℕ → List ℕ
+never_if_lacked names bins top at name = if is_lacked bins at then never_text names bins top at name else []
 
 -- the codes from a place on, with the first line so far from the top
-abbrev pub never_texts : List TimeBin → ℕ → ℕ → List Code → List ℕ
-never_texts bins top at [] = []
-never_texts bins top at (c ∷ cs) = never_if_lacked bins top at c ++ never_texts bins top (at + 1) cs
+abbrev pub never_texts : Names → List TimeBin → ℕ → ℕ → List (List ℕ) → List ℕ
+never_texts names bins top at [] = []
+never_texts names bins top at (c ∷ cs) = never_if_lacked names bins top at c ++ never_texts names bins top (at + 1) cs
 
 -- ---- below these lines, so far from the top
 
@@ -278,12 +282,12 @@ gaps_band top gaps =
     ++ runs_layer (codes "g") (codes " 12") [] gaps ++ codes "</g>\n"
 
 -- formula
--- the numbers of satellites with a phase, and the greatest of them
-unfoldable pub satellites_band : ℕ → List TimeBin → List ℕ
-satellites_band top bins =
+-- the numbers of satellites with a phase in each bin, and the greatest of them
+unfoldable pub satellites_band : ℕ → List ℕ → List ℕ
+satellites_band top counts =
     number_between (codes "<g transform='translate(110 ") top (codes ")'>\n<title>satellites with a phase</title>\n<text class='code' x='-6' y='18'>satellites</text>\n")
-    ++ number_between (codes "<text class='code' x='-6' y='38'>at most ") (most_tracked bins) (codes "</text>\n<path class='n' d='M0 40")
-    ++ steps_text bins ++ codes "H1440V40z'/>\n</g>\n"
+    ++ number_between (codes "<text class='code' x='-6' y='38'>at most ") (most_tracked counts) (codes "</text>\n<path class='n' d='M0 40")
+    ++ steps_text counts ++ codes "H1440V40z'/>\n</g>\n"
 
 -- formula
 -- ticks are 144 units apart or more
@@ -359,17 +363,17 @@ never_end spacing bins listed = bands_end spacing bins listed + 24 * lacked_befo
 
 -- formula
 -- what stands below the heading: the name of the system, its satellites, and so far from the top what is of all
-unfoldable pub svg_body : Spacing → List Code → Scale → List TimeBin → List Bool → List Bool → List Strengths → ℕ → List ℕ
+unfoldable pub svg_body : Spacing → List (List ℕ) → Scale → List TimeBin → List Bool → List Bool → List Strengths → ℕ → List ℕ
 svg_body spacing listed s bins outages gaps strengths end =
-    SYSTEM.now ++ bands_text spacing listed bins outages ++ never_texts bins (bands_end spacing bins (length listed) + 18) 0 listed ++ gaps_band end gaps ++ satellites_band (end + 26) bins
-    ++ strip_text (end + 72) strengths (bins_per_column s) (length bins)
+    SYSTEM.now ++ bands_text gps_names spacing listed bins outages ++ never_texts gps_names bins (bands_end spacing bins (length listed) + 18) 0 listed ++ gaps_band end gaps ++ satellites_band (end + 26) (tracked_counts bins)
+    ++ strip_text false (end + 72) strengths (bins_per_column s) (length bins)
     ++ ticks_text s (svg_tick_step s) (end + strip_height strengths + 72) ++ svg_legend (end + strip_height strengths + 104) ++ codes "</svg>\n"
 
 -- formula
--- the picture of a file with records: its marker, its codes, its scale, the numbers of its records,
+-- the picture of a file with records: its marker, the names of its codes, its scale, the numbers of its records,
 -- slips, returns, rises and missing epochs, what its bins show, and its strengths
 unfoldable pub svg_picture
-    : List ℕ → List Code → Scale → ℕ → ℕ → ℕ → ℕ → ℕ → List TimeBin → List Bool → List Bool → List Strengths → List ℕ
+    : List ℕ → List (List ℕ) → Scale → ℕ → ℕ → ℕ → ℕ → ℕ → List TimeBin → List Bool → List Bool → List Strengths → List ℕ
 svg_picture marker listed s records slips returns rises missing bins outages gaps strengths =
     svg_start marker (never_end (spacing_of bins (length listed)) bins (length listed) + strip_height strengths + 230)
     ++ svg_span s ++ svg_numbers records (satellites_in bins) slips returns rises missing

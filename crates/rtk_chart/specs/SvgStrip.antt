@@ -1,5 +1,5 @@
 -- The strip of strengths in an SVG picture (this project's rule): a lane for each band, 46 units high.
-use Rattle.std.specs.Prelude.{ℕ, ◌+◌, ◌-◌, ◌*◌, ◌/◌, ◌==◌, List, [], ◌∷◌, ◌++◌, length, get_or, map, max, codes, decimal, Option, None, Some, is_some, unwrap_or, if◌then◌else◌}
+use Rattle.std.specs.Prelude.{ℕ, Bool, ◌+◌, ◌-◌, ◌*◌, ◌/◌, ◌==◌, List, [], ◌∷◌, ◌++◌, length, get_or, map, max, codes, decimal, Option, None, Some, is_some, unwrap_or, if◌then◌else◌}
 use Rattle.std.specs.List.{range_with_len}
 use Rattle.rtk_obs.specs.declared.code.Band.{Band}
 use Rattle.rtk_obs.specs.declared.code.Band.TheVariants.{L1, L2, L5}
@@ -62,19 +62,29 @@ lane_start top number reach =
     ++ (decimal reach.until ++ codes "</text>\n<text class='side' x='1446' y='40'>")
     ++ (decimal reach.from ++ codes "</text>\n<path class='k' d='")
 
+-- table
+-- a strip has the bands 1, 2 and 5, or the upper ones, 6, 7 and 8, which no code of GPS has
+abbrev pub upper_number : Band → ℕ
+upper_number L1 = 6
+upper_number L2 = 7
+upper_number L5 = 8
+
+abbrev pub strip_number : Bool → Band → ℕ
+strip_number upper band = if upper then upper_number band else number_of band
+
 -- formula
 -- the lane of a band over so many bins
-unfoldable pub lane_text : ℕ → Band → List Strengths → ℕ → ℕ → List ℕ
-lane_text top band columns each n =
-    lane_start top (number_of band) (reach_of band columns) ++ depths_text (depths_of band columns (reach_of band columns) each n) ++ codes "'/>\n</g>\n"
+unfoldable pub lane_text : Bool → ℕ → Band → List Strengths → ℕ → ℕ → List ℕ
+lane_text upper top band columns each n =
+    lane_start top (strip_number upper band) (reach_of band columns) ++ depths_text (depths_of band columns (reach_of band columns) each n) ++ codes "'/>\n</g>\n"
 
 -- formula
 -- a band without a strength has no lane
 abbrev pub lane_height : Band → List Strengths → ℕ
 lane_height band columns = if is_some (least_mean band columns) then 46 else 0
 
-abbrev pub lane_if_measured : ℕ → Band → List Strengths → ℕ → ℕ → List ℕ
-lane_if_measured top band columns each n = if is_some (least_mean band columns) then lane_text top band columns each n else []
+abbrev pub lane_if_measured : Bool → ℕ → Band → List Strengths → ℕ → ℕ → List ℕ
+lane_if_measured upper top band columns each n = if is_some (least_mean band columns) then lane_text upper top band columns each n else []
 
 -- formula
 unfoldable pub strip_height : List Strengths → ℕ
@@ -82,7 +92,7 @@ strip_height columns = lane_height L1 columns + lane_height L2 columns + lane_he
 
 -- formula
 -- the lanes, one below the other
-unfoldable pub strip_text : ℕ → List Strengths → ℕ → ℕ → List ℕ
-strip_text top columns each n =
-    lane_if_measured top L1 columns each n ++ lane_if_measured (top + lane_height L1 columns) L2 columns each n
-    ++ lane_if_measured (top + lane_height L1 columns + lane_height L2 columns) L5 columns each n
+unfoldable pub strip_text : Bool → ℕ → List Strengths → ℕ → ℕ → List ℕ
+strip_text upper top columns each n =
+    lane_if_measured upper top L1 columns each n ++ lane_if_measured upper (top + lane_height L1 columns) L2 columns each n
+    ++ lane_if_measured upper (top + lane_height L1 columns + lane_height L2 columns) L5 columns each n

@@ -7,6 +7,7 @@ ghost use Rattle.rtk_chart.specs.Chart.{ShowsTable, ShowsChosen, ShowsTableInSvg
 use crate::choice::Choice;
 use crate::passes::{fill_grid, survey_records};
 use crate::scale::{MOST_BINS, Scale};
+use crate::strengths::bands_of;
 use crate::svg_picture::{svg_of_none, svg_picture};
 use crate::text_picture::{text_of_none, text_picture};
 use rtk_rinex::TextTable;
@@ -49,7 +50,15 @@ pub fn chosen_text(
     };
     let interval = survey.steps.interval();
     let scale = Scale::new(heading.first, last, interval, u64::from(width - FRAME));
-    let grid = fill_grid(alloc, table, &scale, codes, heading.first, choice)?;
+    let bands = bands_of(alloc, codes)?;
+    let grid = fill_grid(
+        alloc,
+        table,
+        &scale,
+        bands.as_slice(),
+        heading.first,
+        choice,
+    )?;
     let text = text_picture(alloc, marker, codes, &scale, width, &survey, &grid)?;
     Ok(text)
 }
@@ -83,7 +92,15 @@ pub fn chosen_svg(
     };
     let interval = survey.steps.interval();
     let scale = Scale::new(heading.first, last, interval, MOST_BINS);
-    let grid = fill_grid(alloc, table, &scale, codes, heading.first, choice)?;
+    let bands = bands_of(alloc, codes)?;
+    let grid = fill_grid(
+        alloc,
+        table,
+        &scale,
+        bands.as_slice(),
+        heading.first,
+        choice,
+    )?;
     let svg = svg_picture(alloc, marker, codes, &scale, &survey, &grid)?;
     Ok(svg)
 }

@@ -1,21 +1,20 @@
 //! What is drawn in characters of the satellites of a file of any systems, system by system.
 
 ghost use Rattle.std.specs.Prelude.{◌≡◌, ◌≤◌, ◌++◌, length, IfOk, OnOk};
+ghost use Rattle.rtk_rinex.specs.MixedHead.{IsMixedList};
 ghost use Rattle.rtk_chart.specs.Groups.{listed_in, HoldsOfMixed};
 ghost use Rattle.rtk_chart.specs.MixedChart.{no_drawn_numbers, both_numbers, nothing_drawn, with_group, with_group_if_any, system_title, titled_rows, drawn_of_system, then_system, with_drawn_system, drawn_systems};
 ghost use Rattle.rtk_chart.specs.Scale.{IsScale};
 ghost use Rattle.rtk_chart.specs.Steps.Pictures.{numbers_of_grid, view_of, with_grid};
 
-use crate::choice::Choice;
+use crate::drawing::Drawing;
 use crate::grid::Grid;
 use crate::group_rows::fill_group;
-use crate::groups::{Group, Names, first_group, letter_of, second_group};
+use crate::groups::{Group, Names, SYSTEMS, first_group, letter_of, second_group};
 use crate::never::{never_in_line, put_never_of_system};
-use crate::scale::Scale;
 use crate::text_picture::{drawn_before, put_rows};
 use rtk_message::System;
-use rtk_obs::AnyCode;
-use rtk_rinex::MixedTextTable;
+use rtk_obs::{AnyCode, any_code_laws};
 use std::alloc::{AllocError, Global};
 
 /// How many satellites are drawn, and how many slips, returns and rises their codes have.
@@ -38,8 +37,8 @@ pub(crate) struct Drawn {
 }
 
 impl DrawnNumbers {
-    // Of no satellite.
-    fn none() -> DrawnNumbers
+    /// Of no satellite.
+    pub(crate) fn none() -> DrawnNumbers
         ensures { result ≡ no_drawn_numbers }
     {
         DrawnNumbers {
@@ -50,8 +49,8 @@ impl DrawnNumbers {
         }
     }
 
-    // Those of a grid.
-    fn of_grid(grid: &Grid) -> DrawnNumbers
+    /// Those of a grid.
+    pub(crate) fn of_grid(grid: &Grid) -> DrawnNumbers
         ensures { result ≡ numbers_of_grid grid.now }
     {
         DrawnNumbers {
@@ -62,8 +61,8 @@ impl DrawnNumbers {
         }
     }
 
-    // These and those of other satellites. Numbers that no file reaches stay at the greatest one of their type.
-    fn and(self, more: DrawnNumbers) -> DrawnNumbers
+    /// These and those of other satellites. Numbers that no file reaches stay at the greatest one of their type.
+    pub(crate) fn and(self, more: DrawnNumbers) -> DrawnNumbers
         ensures { result ≡ both_numbers self more }
     {
         DrawnNumbers {
@@ -151,10 +150,18 @@ impl Drawn {
     }
 }
 
-// The codes of a system, in their order.
-fn listed_in(alloc: Global, system: System, listed: &[AnyCode]) -> Result<Vec<AnyCode>, AllocError>
-    ensures { IfOk result (λ codes. codes.items ≡ listed_in system listed.now) }
+/// The codes of a system, in their order.
+pub(crate) fn listed_in(
+    alloc: Global,
+    system: System,
+    listed: &[AnyCode],
+) -> Result<Vec<AnyCode>, AllocError>
+    requires { IsMixedList listed.now }
+    ensures value { IfOk result (λ codes. codes.items ≡ listed_in system listed.now) }
+    ensures few { IfOk result (λ codes. length codes.items ≤ 16) }
 {
+    // A law: a place belongs to one code of a system, and is below 16.
+    any_code_laws();
     let mut codes = Vec::new(alloc);
     for code in listed {
         if letter_of(code.system()) == letter_of(system) {
@@ -168,20 +175,20 @@ fn listed_in(alloc: Global, system: System, listed: &[AnyCode]) -> Result<Vec<An
 fn put_group(
     alloc: Global,
     drawn: &mut Drawn,
-    table: &MixedTextTable<'_>,
-    scale: &Scale,
+    drawing: &Drawing<'_, '_>,
     width: u16,
-    choice: &Choice,
     codes: &[AnyCode],
     group: Group,
 ) -> Result<(), AllocError>
-    requires good { IsScale scale.now }
+    requires good { IsScale drawing.now.scale }
     requires width { 40 ≤ width }
     requires few { group.count ≤ 32 }
     requires names { group.names.before ≤ 67 }
-    ensures { OnOk result (HoldsOfMixed table.now.text (λ es. view_of drawn.new ≡ with_group scale.now width choice.now es codes.now group (view_of drawn.old))) }
+    ensures { OnOk result (HoldsOfMixed drawing.now.table.now.text (λ es. view_of drawn.new
+        ≡ with_group drawing.now.scale width drawing.now.choice.now es codes.now group (view_of drawn.old))) }
 {
-    let grid = fill_group(alloc, table, scale, choice, group)?;
+    let mut none = Vec::new(alloc);
+    let grid = fill_group(alloc, drawing, group, &[], &[], &mut none)?;
     drawn.add_grid(width, codes, group.names, &grid)?;
     Ok(())
 }
@@ -190,47 +197,43 @@ fn put_group(
 fn put_group_if_any(
     alloc: Global,
     drawn: &mut Drawn,
-    table: &MixedTextTable<'_>,
-    scale: &Scale,
+    drawing: &Drawing<'_, '_>,
     width: u16,
-    choice: &Choice,
     codes: &[AnyCode],
     group: Group,
 ) -> Result<(), AllocError>
-    requires good { IsScale scale.now }
+    requires good { IsScale drawing.now.scale }
     requires width { 40 ≤ width }
     requires few { group.count ≤ 32 }
     requires names { group.names.before ≤ 67 }
-    ensures { OnOk result (HoldsOfMixed table.now.text (λ es. view_of drawn.new ≡ with_group_if_any scale.now width choice.now es codes.now group (view_of drawn.old))) }
+    ensures { OnOk result (HoldsOfMixed drawing.now.table.now.text (λ es. view_of drawn.new
+        ≡ with_group_if_any drawing.now.scale width drawing.now.choice.now es codes.now group (view_of drawn.old))) }
 {
     if group.count == 0 {
         return Ok(());
     }
-    put_group(alloc, drawn, table, scale, width, choice, codes, group)?;
+    put_group(alloc, drawn, drawing, width, codes, group)?;
     Ok(())
 }
 
 // What is drawn of a system with these codes.
 fn drawn_of_system(
     alloc: Global,
-    table: &MixedTextTable<'_>,
-    scale: &Scale,
+    drawing: &Drawing<'_, '_>,
     width: u16,
-    choice: &Choice,
     system: System,
     codes: &[AnyCode],
 ) -> Result<Drawn, AllocError>
-    requires good { IsScale scale.now }
+    requires good { IsScale drawing.now.scale }
     requires width { 40 ≤ width }
-    ensures { IfOk result (λ drawn. HoldsOfMixed table.now.text (λ es. view_of drawn ≡ drawn_of_system scale.now width choice.now es system codes.now)) }
+    ensures { IfOk result (λ drawn. HoldsOfMixed drawing.now.table.now.text (λ es. view_of drawn
+        ≡ drawn_of_system drawing.now.scale width drawing.now.choice.now es system codes.now)) }
 {
     let first = first_group(system);
     let second = second_group(system);
     let mut drawn = Drawn::new(alloc);
-    put_group(alloc, &mut drawn, table, scale, width, choice, codes, first)?;
-    put_group_if_any(
-        alloc, &mut drawn, table, scale, width, choice, codes, second,
-    )?;
+    put_group(alloc, &mut drawn, drawing, width, codes, first)?;
+    put_group_if_any(alloc, &mut drawn, drawing, width, codes, second)?;
     Ok(drawn)
 }
 
@@ -238,110 +241,43 @@ fn drawn_of_system(
 fn put_system(
     alloc: Global,
     drawn: &mut Drawn,
-    table: &MixedTextTable<'_>,
-    scale: &Scale,
+    drawing: &Drawing<'_, '_>,
     width: u16,
-    choice: &Choice,
     listed: &[AnyCode],
     system: System,
 ) -> Result<(), AllocError>
-    requires good { IsScale scale.now }
+    requires good { IsScale drawing.now.scale }
+    requires listed { IsMixedList listed.now }
     requires width { 40 ≤ width }
-    ensures { OnOk result (HoldsOfMixed table.now.text (λ es. view_of drawn.new ≡ with_drawn_system scale.now width choice.now es listed.now system (view_of drawn.old))) }
+    ensures { OnOk result (HoldsOfMixed drawing.now.table.now.text (λ es. view_of drawn.new
+        ≡ with_drawn_system drawing.now.scale width drawing.now.choice.now es listed.now (view_of drawn.old) system)) }
 {
     let own = listed_in(alloc, system, listed)?;
     let codes = own.as_slice();
     if codes.len() == 0 {
         return Ok(());
     }
-    let more = drawn_of_system(alloc, table, scale, width, choice, system, codes)?;
+    let more = drawn_of_system(alloc, drawing, width, system, codes)?;
     drawn.add_system(system, &more)?;
     Ok(())
 }
 
-/// What is drawn of a file of these codes.
+/// What is drawn of a file of these codes, system by system, so that one frame of the stack serves all of them.
 pub(crate) fn drawn_systems(
     alloc: Global,
-    table: &MixedTextTable<'_>,
-    scale: &Scale,
+    drawing: &Drawing<'_, '_>,
     width: u16,
-    choice: &Choice,
     listed: &[AnyCode],
 ) -> Result<Drawn, AllocError>
-    requires good { IsScale scale.now }
+    requires good { IsScale drawing.now.scale }
+    requires listed { IsMixedList listed.now }
     requires width { 40 ≤ width }
-    ensures { IfOk result (λ drawn. HoldsOfMixed table.now.text (λ es. view_of drawn ≡ drawn_systems scale.now width choice.now es listed.now)) }
+    ensures { IfOk result (λ drawn. HoldsOfMixed drawing.now.table.now.text (λ es. view_of drawn
+        ≡ drawn_systems drawing.now.scale width drawing.now.choice.now es listed.now)) }
 {
     let mut all = Drawn::new(alloc);
-    put_system(
-        alloc,
-        &mut all,
-        table,
-        scale,
-        width,
-        choice,
-        listed,
-        System::Gps,
-    )?;
-    put_system(
-        alloc,
-        &mut all,
-        table,
-        scale,
-        width,
-        choice,
-        listed,
-        System::Glonass,
-    )?;
-    put_system(
-        alloc,
-        &mut all,
-        table,
-        scale,
-        width,
-        choice,
-        listed,
-        System::Galileo,
-    )?;
-    put_system(
-        alloc,
-        &mut all,
-        table,
-        scale,
-        width,
-        choice,
-        listed,
-        System::Beidou,
-    )?;
-    put_system(
-        alloc,
-        &mut all,
-        table,
-        scale,
-        width,
-        choice,
-        listed,
-        System::Qzss,
-    )?;
-    put_system(
-        alloc,
-        &mut all,
-        table,
-        scale,
-        width,
-        choice,
-        listed,
-        System::Sbas,
-    )?;
-    put_system(
-        alloc,
-        &mut all,
-        table,
-        scale,
-        width,
-        choice,
-        listed,
-        System::Navic,
-    )?;
+    for system in &SYSTEMS {
+        put_system(alloc, &mut all, drawing, width, listed, *system)?;
+    }
     Ok(all)
 }

@@ -1,7 +1,7 @@
 //! The bins of a picture with what their epochs call for.
 
-ghost use Rattle.std.specs.Prelude.{◌≡◌, ◌<◌, ◌*◌, ◌&&◌, nat_le, ℕ, Some, List, [], ◌∷◌, length, get_or, IfOk};
-ghost use Rattle.rtk_obs.specs.declared.code.Code.{Code};
+ghost use Rattle.std.specs.Prelude.{◌≡◌, ◌<◌, ◌*◌, ◌&&◌, nat_le, ℕ, Option, Some, List, [], ◌∷◌, length, get_or, IfOk};
+ghost use Rattle.rtk_obs.specs.declared.code.Band.{Band};
 ghost use Rattle.rtk_obs.specs.Reading.{IsMoment};
 ghost use Rattle.rtk_rinex.specs.Record.{EpochTableView};
 ghost use Rattle.rtk_tracking.specs.Interval.{missing_before};
@@ -18,7 +18,7 @@ use crate::outages::note_outages;
 use crate::scale::Scale;
 use crate::strengths::{MOST_COLUMNS, Strengths, note_strengths};
 use crate::time_bin::TimeBin;
-use rtk_obs::{Code, GpsMs};
+use rtk_obs::{Band, GpsMs};
 use rtk_rinex::{EpochTable, Observed};
 use rtk_tracking::{Pass, missing_between, observed_in};
 use std::alloc::{AllocError, Global};
@@ -159,7 +159,7 @@ impl Grid {
         ensures bins { IfOk result (λ grid. length grid.bins.items ≡ scale.now.bins) }
         ensures outages { IfOk result (λ grid. length grid.outages.items ≡ 32 * scale.now.bins) }
         ensures gaps { IfOk result (λ grid. length grid.gaps.items ≡ scale.now.bins) }
-        ensures grid { IfOk result (λ grid. (listed : List Code) → StandsForGrid grid scale.now listed []) }
+        ensures grid { IfOk result (λ grid. (listed : List (Option Band)) → StandsForGrid grid scale.now listed []) }
     {
         Ok(Grid {
             bins: vec![in alloc; TimeBin::new(); scale.bins as usize]?,
@@ -202,14 +202,14 @@ impl Grid {
 
     /// Notes one more record: its marks in its bin, its slips, returns and rises, the passes of its satellites,
     /// the outages that end with it, the epochs that are missing before it, and its strengths.
-    pub(crate) fn place_record(&mut self, scale: &Scale, codes: &[Code], epoch: &EpochTable)
+    pub(crate) fn place_record(&mut self, scale: &Scale, bands: &[Option<Band>], epoch: &EpochTable)
         requires good { IsScale scale.now }
         requires outages { length self.old.outages.items ≡ 32 * scale.now.bins }
         ensures bins { length self.new.bins.items ≡ length self.old.bins.items }
         ensures outages { length self.new.outages.items ≡ length self.old.outages.items }
         ensures gaps { length self.new.gaps.items ≡ length self.old.gaps.items }
-        ensures grid { (es : List EpochTableView) → StandsForGrid self.old scale.now codes.now es
-            → StandsForGrid self.new scale.now codes.now (epoch.now ∷ es) }
+        ensures grid { (es : List EpochTableView) → StandsForGrid self.old scale.now bands.now es
+            → StandsForGrid self.new scale.now bands.now (epoch.now ∷ es) }
     {
         let interval = scale.interval;
         let record_ms = ms_of(self.last);
@@ -222,7 +222,7 @@ impl Grid {
         self.rises = self.rises.saturating_add(counts.rises);
         note_in_bin(&mut self.bins, scale, epoch.time().ms(), &self.called);
         note_record(&mut self.recorded, scale, epoch.time().ms());
-        note_strengths(&mut self.strengths, scale, codes, epoch);
+        note_strengths(&mut self.strengths, scale, bands, epoch);
         note_outages(&mut self.outages, scale, &self.passes, record_ms, epoch);
         note_passes(&mut self.passes, interval, record_ms, epoch);
         self.last = Some(epoch.time());

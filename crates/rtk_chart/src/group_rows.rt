@@ -1,21 +1,25 @@
 //! The records of a file of any systems, read for one group of satellites.
 
-ghost use Rattle.std.specs.Prelude.{◌≡◌, ◌<◌, ◌≤◌, ◌-◌, true, [], length, AllPairs, IfOk, IfSome};
+ghost use Rattle.std.specs.Prelude.{◌≡◌, ◌<◌, ◌≤◌, ◌-◌, true, [], length, AllPairs, IfOk, IfSome, OnOk};
 ghost use Rattle.std.specs.Int.{IsInRange};
 ghost use Rattle.std.specs.List.{list_any};
 ghost use Rattle.rtk_rinex.specs.MixedRecords.{IsRecordOf};
 ghost use Rattle.rtk_rinex.specs.Record.{EpochTableView};
 ghost use Rattle.rtk_chart.specs.Choice.{has_row, is_there};
 ghost use Rattle.rtk_chart.specs.Groups.{is_in_group, is_chosen_by, group_place, group_epoch, group_epochs, HoldsOfMixed};
+ghost use Rattle.rtk_chart.specs.Means.{columns_of};
 ghost use Rattle.rtk_chart.specs.Scale.{IsScale};
 ghost use Rattle.rtk_chart.specs.Steps.Standing.{StandsForSurvey, StandsForGrid, bare_epochs};
 
 use crate::choice::{Choice, Chosen, is_chosen};
+use crate::drawing::Drawing;
 use crate::grid::Grid;
 use crate::groups::Group;
 use crate::scale::Scale;
+use crate::strengths::{Strengths, note_strengths};
 use crate::survey::Survey;
 use arrayvec::ArrayVec;
+use rtk_obs::Band;
 use rtk_rinex::{EpochTable, MixedRows, MixedTextTable};
 use std::alloc::{AllocError, Global};
 
@@ -93,7 +97,8 @@ pub(crate) fn fill_moments(
     scale: &Scale,
 ) -> Result<Grid, AllocError>
     requires { IsScale scale.now }
-    ensures { IfOk result (λ grid. HoldsOfMixed table.now.text (λ es. StandsForGrid grid scale.now [] (bare_epochs es))) }
+    ensures gaps { IfOk result (λ grid. length grid.gaps.items ≡ scale.now.bins) }
+    ensures grid { IfOk result (λ grid. HoldsOfMixed table.now.text (λ es. StandsForGrid grid scale.now [] (bare_epochs es))) }
 {
     let mut grid = Grid::new(alloc, scale)?;
     let mut bare = EpochTable::new(scale.first);
@@ -105,25 +110,31 @@ pub(crate) fn fill_moments(
     Ok(grid)
 }
 
-/// The grid of all records with the chosen satellites of a group.
+/// The grid of all records with the chosen satellites of a group, whose codes have these bands. Their strengths of other bands
+/// are added to columns of their own.
 pub(crate) fn fill_group(
     alloc: Global,
-    table: &MixedTextTable<'_>,
-    scale: &Scale,
-    choice: &Choice,
+    drawing: &Drawing<'_, '_>,
     group: Group,
+    lower: &[Option<Band>],
+    upper: &[Option<Band>],
+    columns: &mut Vec<Strengths>,
 ) -> Result<Grid, AllocError>
-    requires good { IsScale scale.now }
+    requires good { IsScale drawing.now.scale }
     requires few { group.count ≤ 32 }
-    ensures bins { IfOk result (λ grid. length grid.bins.items ≡ scale.now.bins) }
-    ensures grid { IfOk result (λ grid. HoldsOfMixed table.now.text (λ es. StandsForGrid grid scale.now [] (group_epochs choice.now group es))) }
+    ensures bins { IfOk result (λ grid. length grid.bins.items ≡ drawing.now.scale.bins) }
+    ensures grid { IfOk result (λ grid. HoldsOfMixed drawing.now.table.now.text (λ es. StandsForGrid grid drawing.now.scale lower.now
+        (group_epochs drawing.now.choice.now group es))) }
+    ensures columns { OnOk result (columns.old.items ≡ columns_of drawing.now.scale upper.now []
+        → HoldsOfMixed drawing.now.table.now.text (λ es. columns.new.items ≡ columns_of drawing.now.scale upper.now (group_epochs drawing.now.choice.now group es))) }
 {
-    let mut grid = Grid::new(alloc, scale)?;
-    let mut own = EpochTable::new(scale.first);
-    let mut records = table.records();
+    let mut grid = Grid::new(alloc, &drawing.scale)?;
+    let mut own = EpochTable::new(drawing.scale.first);
+    let mut records = drawing.table.records();
     while let Some(record) = records.next() {
-        read_group(&record, choice, group, &mut own);
-        grid.place_record(scale, &[], &own);
+        read_group(&record, drawing.choice, group, &mut own);
+        grid.place_record(&drawing.scale, lower, &own);
+        note_strengths(columns, &drawing.scale, upper, &own);
     }
     Ok(grid)
 }

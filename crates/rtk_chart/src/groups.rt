@@ -2,10 +2,21 @@
 
 ghost use Rattle.std.specs.Prelude.{◌≡◌, ◌≤◌};
 ghost use Rattle.rtk_obs.specs.SatelliteIndex.{letter_of};
-ghost use Rattle.rtk_chart.specs.Groups.{first_group, second_group};
+ghost use Rattle.rtk_chart.specs.Groups.{whole_group, first_group, second_group};
 ghost use Rattle.rtk_chart.specs.TextPicture.{gps_names};
 
 use rtk_message::System;
+
+/// The systems, in the order of a file.
+pub(crate) const SYSTEMS: [System; 7] = [
+    System::Gps,
+    System::Glonass,
+    System::Galileo,
+    System::Beidou,
+    System::Qzss,
+    System::Sbas,
+    System::Navic,
+];
 
 /// How the satellites at the places of a grid are named: by the letter of their system, and a number that is so much
 /// greater than the number of the place, from 1.
@@ -34,21 +45,6 @@ pub(crate) fn gps_names() -> Names
     }
 }
 
-/// The letter of a system in names of RINEX.
-pub(crate) fn letter_of(system: System) -> u8
-    ensures { result ≡ letter_of system }
-{
-    match system {
-        System::Gps => b'G',
-        System::Glonass => b'R',
-        System::Galileo => b'E',
-        System::Beidou => b'C',
-        System::Qzss => b'J',
-        System::Sbas => b'S',
-        System::Navic => b'I',
-    }
-}
-
 // A group, whose numbers in names begin behind this one.
 fn make_group(before: u8, count: u8, letter: u8, number: u8) -> Group
     ensures { result ≡ record { before = before; count = count; names = record { letter = letter; before = number } } }
@@ -63,20 +59,42 @@ fn make_group(before: u8, count: u8, letter: u8, number: u8) -> Group
     }
 }
 
+// The satellites of a system, which may be more than a grid has places for.
+fn whole_group(system: System) -> Group
+    ensures value { result ≡ whole_group system }
+    ensures behind { result.before ≤ 207 }
+    ensures count { result.count ≤ 63 }
+    ensures names { result.names.before ≤ 19 }
+{
+    match system {
+        System::Gps => make_group(0, 32, b'G', 0),
+        System::Glonass => make_group(32, 27, b'R', 0),
+        System::Galileo => make_group(59, 36, b'E', 0),
+        System::Beidou => make_group(95, 63, b'C', 0),
+        System::Qzss => make_group(158, 10, b'J', 0),
+        System::Sbas => make_group(168, 39, b'S', 19),
+        System::Navic => make_group(207, 14, b'I', 0),
+    }
+}
+
+/// The letter of a system in names of RINEX.
+pub(crate) fn letter_of(system: System) -> u8
+    ensures { result ≡ letter_of system }
+{
+    whole_group(system).names.letter
+}
+
 /// The satellites of a system, or the first 32 of them.
 pub(crate) fn first_group(system: System) -> Group
     ensures value { result ≡ first_group system }
     ensures few { result.count ≤ 32 }
     ensures names { result.names.before ≤ 67 }
 {
-    match system {
-        System::Gps => make_group(0, 32, b'G', 0),
-        System::Glonass => make_group(32, 27, b'R', 0),
-        System::Galileo => make_group(59, 32, b'E', 0),
-        System::Beidou => make_group(95, 32, b'C', 0),
-        System::Qzss => make_group(158, 10, b'J', 0),
-        System::Sbas => make_group(168, 32, b'S', 19),
-        System::Navic => make_group(207, 14, b'I', 0),
+    let all = whole_group(system);
+    Group {
+        before: all.before,
+        count: 32u8.min(all.count),
+        names: all.names,
     }
 }
 
@@ -86,13 +104,13 @@ pub(crate) fn second_group(system: System) -> Group
     ensures few { result.count ≤ 32 }
     ensures names { result.names.before ≤ 67 }
 {
-    match system {
-        System::Gps => make_group(32, 0, b'G', 32),
-        System::Glonass => make_group(64, 0, b'R', 32),
-        System::Galileo => make_group(91, 4, b'E', 32),
-        System::Beidou => make_group(127, 31, b'C', 32),
-        System::Qzss => make_group(190, 0, b'J', 32),
-        System::Sbas => make_group(200, 7, b'S', 51),
-        System::Navic => make_group(239, 0, b'I', 32),
+    let all = whole_group(system);
+    Group {
+        before: all.before + 32,
+        count: all.count.saturating_sub(32),
+        names: Names {
+            letter: all.names.letter,
+            before: all.names.before + 32,
+        },
     }
 }

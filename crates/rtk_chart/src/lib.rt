@@ -52,6 +52,7 @@
 mod chart;
 mod choice;
 mod code_marks;
+mod drawing;
 mod drawn;
 mod grid;
 mod group_rows;
@@ -71,12 +72,14 @@ mod survey;
 mod svg_axis;
 mod svg_bands;
 mod svg_codes;
+mod svg_drawn;
 mod svg_layers;
 mod svg_never;
 mod svg_path;
 mod svg_picture;
 mod svg_steps;
 mod svg_strip;
+mod svg_sums;
 mod svg_text;
 mod text_picture;
 mod text_time;
@@ -94,5 +97,5 @@ pub use laws::{
     svg_headings_tell_numbers, svg_heights_are_of_what_is_drawn, svg_pictures_are_small,
     text_headings_tell_numbers,
 };
-pub use mixed_chart::mixed_chart_text;
+pub use mixed_chart::{mixed_chart_svg, mixed_chart_text};
 pub use passes::is_there;

@@ -15,7 +15,7 @@ use crate::choice::{Choice, Chosen, has_row, narrow_to};
 use crate::grid::Grid;
 use crate::scale::Scale;
 use crate::survey::Survey;
-use rtk_obs::{Code, GpsMs};
+use rtk_obs::{Band, GpsMs};
 use rtk_rinex::{EpochTable, TextTable};
 use std::alloc::{AllocError, Global};
 
@@ -65,7 +65,7 @@ pub fn is_there(table: &TextTable<'_>, choice: &Choice) -> bool
 fn place_narrowed(
     grid: &mut Grid,
     scale: &Scale,
-    codes: &[Code],
+    bands: &[Option<Band>],
     choice: &Choice,
     epoch: &EpochTable,
     narrow: &mut EpochTable,
@@ -75,14 +75,14 @@ fn place_narrowed(
     ensures bins { length grid.new.bins.items ≡ length grid.old.bins.items }
     ensures outages { length grid.new.outages.items ≡ length grid.old.outages.items }
     ensures gaps { length grid.new.gaps.items ≡ length grid.old.gaps.items }
-    ensures grid { (es : List EpochTableView) → StandsForGrid grid.old scale.now codes.now es
-        → StandsForGrid grid.new scale.now codes.now (narrowed choice.now epoch.now ∷ es) }
+    ensures grid { (es : List EpochTableView) → StandsForGrid grid.old scale.now bands.now es
+        → StandsForGrid grid.new scale.now bands.now (narrowed choice.now epoch.now ∷ es) }
 {
     match choice {
-        Choice::All => grid.place_record(scale, codes, epoch),
+        Choice::All => grid.place_record(scale, bands, epoch),
         Choice::These(chosen) => {
             narrow_to(narrow, chosen, epoch);
-            grid.place_record(scale, codes, narrow);
+            grid.place_record(scale, bands, narrow);
         }
     }
 }
@@ -92,7 +92,7 @@ pub(crate) fn fill_grid(
     alloc: Global,
     table: &TextTable<'_>,
     scale: &Scale,
-    codes: &[Code],
+    bands: &[Option<Band>],
     first: GpsMs,
     choice: &Choice,
 ) -> Result<Grid, AllocError>
@@ -100,14 +100,14 @@ pub(crate) fn fill_grid(
     ensures bins { IfOk result (λ grid. length grid.bins.items ≡ scale.now.bins) }
     ensures outages { IfOk result (λ grid. length grid.outages.items ≡ 32 * scale.now.bins) }
     ensures gaps { IfOk result (λ grid. length grid.gaps.items ≡ scale.now.bins) }
-    ensures grid { IfOk result (λ grid. HoldsOfEpochs table.now.text (λ es. StandsForGrid grid scale.now codes.now (map (narrowed choice.now) es))) }
+    ensures grid { IfOk result (λ grid. HoldsOfEpochs table.now.text (λ es. StandsForGrid grid scale.now bands.now (map (narrowed choice.now) es))) }
 {
     let mut grid = Grid::new(alloc, scale)?;
     let mut epoch = EpochTable::new(first);
     let mut narrow = EpochTable::new(first);
     let mut records = table.records();
     while let Some(_record) = records.next(&mut epoch) {
-        place_narrowed(&mut grid, scale, codes, choice, &epoch, &mut narrow);
+        place_narrowed(&mut grid, scale, bands, choice, &epoch, &mut narrow);
     }
     Ok(grid)
 }

@@ -1,14 +1,15 @@
 //! The strengths of bands along the time of a picture.
 
-ghost use Rattle.std.specs.Prelude.{◌≡◌, List, ◌∷◌, length};
+ghost use Rattle.std.specs.Prelude.{◌≡◌, List, ◌∷◌, length, IfOk};
 ghost use Rattle.rtk_rinex.specs.Record.{EpochTableView};
 ghost use Rattle.rtk_chart.specs.Scale.{IsScale};
-ghost use Rattle.rtk_chart.specs.Means.{number_of, of_band, no_strengths, all_without, mean_of, mean_at, columns_of};
-ghost use Rattle.rtk_chart.specs.Steps.Added.{with_one, with_strength, with_row, with_rows};
+ghost use Rattle.rtk_chart.specs.Means.{number_of, bands_of, of_band, no_strengths, all_without, mean_of, mean_at, columns_of};
+ghost use Rattle.rtk_chart.specs.Steps.Added.{with_one, with_strength, with_strength_if, with_row, with_rows};
 
 use crate::scale::Scale;
 use rtk_obs::{Band, Code};
 use rtk_rinex::{EpochTable, Observed, SatelliteRow};
+use std::alloc::{AllocError, Global};
 
 /// The most columns of strengths in a picture. Columns as short as its bins would show the noise of single
 /// strengths; those of a day are ten minutes long.
@@ -117,40 +118,59 @@ impl Strengths {
         }
     }
 
-    // Adds the strengths of a satellite, whose codes these are.
-    fn add_row(&mut self, codes: &[Code], observed: &[Observed])
-        ensures { self.new ≡ with_row codes.now observed.now self.old }
+    // The same, if the code has a band.
+    fn add_if(&mut self, band: Option<Band>, strength: Option<u32>)
+        ensures { self.new ≡ with_strength_if band strength self.old }
     {
-        for place in 0..codes.len().min(observed.len()) {
-            let band = codes[place].band();
-            self.add(band, observed[place].strength_millidbhz);
+        if let Some(band) = band {
+            self.add(band, strength);
+        }
+    }
+
+    // Adds the strengths of a satellite, whose codes have these bands.
+    fn add_row(&mut self, bands: &[Option<Band>], observed: &[Observed])
+        ensures { self.new ≡ with_row bands.now observed.now self.old }
+    {
+        for place in 0..bands.len().min(observed.len()) {
+            self.add_if(bands[place], observed[place].strength_millidbhz);
         }
     }
 
     // Adds the strengths of the rows of a record.
-    fn add_rows(&mut self, codes: &[Code], rows: &[SatelliteRow])
-        ensures { self.new ≡ with_rows codes.now rows.now self.old }
+    fn add_rows(&mut self, bands: &[Option<Band>], rows: &[SatelliteRow])
+        ensures { self.new ≡ with_rows bands.now rows.now self.old }
     {
         for row in rows {
-            self.add_row(codes, row.observed.as_slice());
+            self.add_row(bands, row.observed.as_slice());
         }
     }
+}
+
+/// The bands of codes of GPS.
+pub(crate) fn bands_of(alloc: Global, codes: &[Code]) -> Result<Vec<Option<Band>>, AllocError>
+    ensures { IfOk result (λ bands. bands.items ≡ bands_of codes.now) }
+{
+    let mut bands = Vec::new(alloc);
+    for code in codes {
+        bands.push(Some(code.band()))?;
+    }
+    Ok(bands)
 }
 
 /// Adds the strengths of a record to those of its column.
 pub(crate) fn note_strengths(
     columns: &mut Vec<Strengths>,
     scale: &Scale,
-    codes: &[Code],
+    bands: &[Option<Band>],
     epoch: &EpochTable,
 )
     requires { IsScale scale.now }
-    ensures { (es : List EpochTableView) → columns.old.items ≡ columns_of scale.now codes.now es
-        → columns.new.items ≡ columns_of scale.now codes.now (epoch.now ∷ es) }
+    ensures { (es : List EpochTableView) → columns.old.items ≡ columns_of scale.now bands.now es
+        → columns.new.items ≡ columns_of scale.now bands.now (epoch.now ∷ es) }
 {
     let bin = scale.bin_at(epoch.time().ms());
     let place = (bin / scale.bins_per_column()) as usize;
     if place < columns.len() {
-        columns[place].add_rows(codes, epoch.rows());
+        columns[place].add_rows(bands, epoch.rows());
     }
 }

@@ -10,7 +10,6 @@ use crate::svg_path::edge;
 use crate::svg_steps::{most_tracked, put_steps};
 use crate::svg_text::put_between;
 use crate::ticks::{put_tick_label, tick_at, tick_step};
-use crate::time_bin::TimeBin;
 use rtk_obs::GpsMs;
 use std::alloc::AllocError;
 
@@ -34,16 +33,12 @@ pub(crate) fn put_gaps(text: &mut Vec<u8>, top: u64, gaps: &[bool]) -> Result<()
     Ok(())
 }
 
-/// Appends the row of the numbers of satellites.
-pub(crate) fn put_satellites(
-    text: &mut Vec<u8>,
-    top: u64,
-    bins: &[TimeBin],
-) -> Result<(), AllocError>
-    requires { length bins.now ≤ 1440 }
-    ensures { OnOk result (text.new.items ≡ text.old.items ++ satellites_band top bins.now) }
+/// Appends the row of the numbers of satellites in each bin.
+pub(crate) fn put_satellites(text: &mut Vec<u8>, top: u64, counts: &[u8]) -> Result<(), AllocError>
+    requires { length counts.now ≤ 1440 }
+    ensures { OnOk result (text.new.items ≡ text.old.items ++ satellites_band top counts.now) }
 {
-    let most = most_tracked(bins);
+    let most = most_tracked(counts);
     put_between(text, b"<g transform='translate(110 ", top, SATELLITES_START)?;
     put_between(
         text,
@@ -51,7 +46,7 @@ pub(crate) fn put_satellites(
         most,
         b"</text>\n<path class='n' d='M0 40",
     )?;
-    put_steps(text, most, bins)?;
+    put_steps(text, most, counts)?;
     text.extend_from_slice(b"H1440V40z'/>\n</g>\n")?;
     Ok(())
 }
@@ -76,7 +71,7 @@ fn put_tick(
     x: u64,
     tick: Option<GpsMs>,
 ) -> Result<(), AllocError>
-    requires top { top ≤ 12_446 }
+    requires top { top ≤ 2_000_000 }
     requires step { 0 < step }
     ensures { OnOk result (text.new.items ≡ text.old.items ++ tick_text top step x tick) }
 {
@@ -107,7 +102,7 @@ fn least_step(bins: u64, bin_ms: u64) -> u64
 /// Appends the ticks of the bins.
 pub(crate) fn put_ticks(text: &mut Vec<u8>, scale: &Scale, top: u64) -> Result<(), AllocError>
     requires good { IsScale scale.now }
-    requires top { top ≤ 12_446 }
+    requires top { top ≤ 2_000_000 }
     ensures { OnOk result (text.new.items ≡ text.old.items ++ ticks_text scale.now (svg_tick_step scale.now) top) }
 {
     let step = tick_step(least_step(scale.bins, scale.bin_ms));

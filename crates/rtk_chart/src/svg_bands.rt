@@ -3,6 +3,7 @@
 ghost use Rattle.std.specs.Prelude.{◌≡◌, ◌≤◌, ◌<◌, ◌+◌, ◌/◌, ◌++◌, length, OnOk};
 ghost use Rattle.rtk_chart.specs.SvgPicture.{height_of, height_if_drawn, band_top, band_start, outage_boxes, band_text, band_if_drawn, bands_text};
 
+use crate::groups::Names;
 use crate::never::put_label;
 use crate::outages::outage_flags;
 use crate::signs::is_drawn;
@@ -12,7 +13,6 @@ use crate::svg_layers::put_runs_layer;
 use crate::svg_text::put_between;
 use crate::text_picture::drawn_before;
 use crate::time_bin::TimeBin;
-use rtk_obs::Code;
 use std::alloc::{AllocError, Global};
 
 // Where the first band begins, from the top, in units of SVG.
@@ -62,21 +62,22 @@ fn put_band_start(
     text: &mut Vec<u8>,
     spacing: Spacing,
     top: u64,
-    satellite: u8,
+    letter: u8,
+    number: u8,
     stripe: u64,
     height: u64,
 ) -> Result<(), AllocError>
-    requires satellite { satellite ≤ 32 }
+    requires number { number ≤ 99 }
     requires height { height ≤ 366 }
-    ensures { OnOk result (text.new.items ≡ text.old.items ++ band_start spacing top satellite stripe height) }
+    ensures { OnOk result (text.new.items ≡ text.old.items ++ band_start spacing top letter number stripe height) }
 {
     put_between(text, b"<g transform='translate(110 ", top, b")'>\n<title>")?;
-    put_label(text, b'G', satellite)?;
+    put_label(text, letter, number)?;
     put_between(text, STRIPE_START, stripe, b"' x='-110' width='1620'")?;
     put_between(text, b" height='", height, b"'/>\n")?;
     let name_y = height / 2 + spacing.name_drop();
     put_between(text, spacing.name_start(), name_y, b"'>")?;
-    put_label(text, b'G', satellite)?;
+    put_label(text, letter, number)?;
     text.extend_from_slice(b"</text>\n")?;
     Ok(())
 }
@@ -113,23 +114,26 @@ fn put_outages(
 fn put_band(
     alloc: Global,
     text: &mut Vec<u8>,
+    names: Names,
     spacing: Spacing,
-    codes: &[Code],
+    codes: &[[u8; 2]],
     bins: &[TimeBin],
     outages: &[bool],
     place: usize,
     before: u64,
 ) -> Result<(), AllocError>
+    requires names { names.before ≤ 67 }
     requires place { place < 32 }
     requires few { length bins.now ≤ 1440 }
     requires listed { length codes.now ≤ 16 }
-    ensures { OnOk result (text.new.items ≡ text.old.items ++ band_text spacing codes.now bins.now outages.now place before) }
+    ensures { OnOk result (text.new.items ≡ text.old.items ++ band_text names spacing codes.now bins.now outages.now place before) }
 {
     let height = height_of(spacing, bins, codes.len(), place);
     let top = band_top(spacing, bins, codes.len(), place);
-    put_band_start(text, spacing, top, place as u8 + 1, before % 2, height)?;
+    let number = names.before + place as u8 + 1;
+    put_band_start(text, spacing, top, names.letter, number, before % 2, height)?;
     put_outages(alloc, text, outages, bins.len(), place, height - 8)?;
-    put_code_lines(alloc, text, spacing, bins, place, codes)?;
+    put_code_lines(alloc, text, names, spacing, bins, place, codes)?;
     text.extend_from_slice(b"</g>\n")?;
     Ok(())
 }
@@ -137,39 +141,45 @@ fn put_band(
 fn put_band_if_drawn(
     alloc: Global,
     text: &mut Vec<u8>,
+    names: Names,
     spacing: Spacing,
-    codes: &[Code],
+    codes: &[[u8; 2]],
     bins: &[TimeBin],
     outages: &[bool],
     place: usize,
 ) -> Result<(), AllocError>
+    requires names { names.before ≤ 67 }
     requires place { place < 32 }
     requires few { length bins.now ≤ 1440 }
     requires listed { length codes.now ≤ 16 }
-    ensures { OnOk result (text.new.items ≡ text.old.items ++ band_if_drawn spacing codes.now bins.now outages.now place) }
+    ensures { OnOk result (text.new.items ≡ text.old.items ++ band_if_drawn names spacing codes.now bins.now outages.now place) }
 {
     if is_drawn(bins, place) {
         let before = drawn_before(bins, place);
-        put_band(alloc, text, spacing, codes, bins, outages, place, before)?;
+        put_band(
+            alloc, text, names, spacing, codes, bins, outages, place, before,
+        )?;
     }
     Ok(())
 }
 
-/// Appends the bands of the satellites that have a row in the file.
+/// Appends the bands of the satellites that have a row in the file, whose codes have these names.
 pub(crate) fn put_bands(
     alloc: Global,
     text: &mut Vec<u8>,
+    names: Names,
     spacing: Spacing,
-    codes: &[Code],
+    codes: &[[u8; 2]],
     bins: &[TimeBin],
     outages: &[bool],
 ) -> Result<(), AllocError>
+    requires names { names.before ≤ 67 }
     requires few { length bins.now ≤ 1440 }
     requires listed { length codes.now ≤ 16 }
-    ensures { OnOk result (text.new.items ≡ text.old.items ++ bands_text spacing codes.now bins.now outages.now) }
+    ensures { OnOk result (text.new.items ≡ text.old.items ++ bands_text names spacing codes.now bins.now outages.now) }
 {
     for place in 0..32 {
-        put_band_if_drawn(alloc, text, spacing, codes, bins, outages, place)?;
+        put_band_if_drawn(alloc, text, names, spacing, codes, bins, outages, place)?;
     }
     Ok(())
 }

@@ -3,6 +3,7 @@
 ghost use Rattle.std.specs.Prelude.{◌≡◌, ◌≤◌, ◌<◌, ◌++◌, length, OnOk};
 ghost use Rattle.rtk_chart.specs.SvgPicture.{column_numbers, code_numbers, drawn_bar, codes_before, code_line, line_if_had, code_lines};
 
+use crate::groups::Names;
 use crate::layer::Layer;
 use crate::never::put_label;
 use crate::signs::has_code;
@@ -10,7 +11,6 @@ use crate::spacing::Spacing;
 use crate::svg_layers::{columns_of, put_levels, put_locks, put_missing};
 use crate::svg_text::put_between;
 use crate::time_bin::TimeBin;
-use rtk_obs::Code;
 use std::alloc::{AllocError, Global};
 
 // How many columns have what of a code.
@@ -94,16 +94,18 @@ pub(crate) fn codes_before(bins: &[TimeBin], place: usize, at: usize) -> u64
 fn put_code_line(
     alloc: Global,
     text: &mut Vec<u8>,
+    names: Names,
     spacing: Spacing,
     bins: &[TimeBin],
     place: usize,
     at: usize,
-    code: Code,
+    code: [u8; 2],
 ) -> Result<(), AllocError>
+    requires names { names.before ≤ 67 }
     requires place { place < 32 }
     requires few { length bins.now ≤ 1440 }
     requires listed { at < 16 }
-    ensures { OnOk result (text.new.items ≡ text.old.items ++ code_line spacing bins.now place at code) }
+    ensures { OnOk result (text.new.items ≡ text.old.items ++ code_line names spacing bins.now place at code) }
 {
     let top = spacing.line_top(codes_before(bins, place, at));
     put_between(
@@ -112,12 +114,12 @@ fn put_code_line(
         top,
         spacing.line_start(),
     )?;
-    put_label(text, b'G', place as u8 + 1)?;
+    put_label(text, names.letter, names.before + place as u8 + 1)?;
     text.extend_from_slice(b" ")?;
-    text.extend_from_slice(&code.name())?;
+    text.extend_from_slice(&code)?;
     put_drawn_bar(alloc, text, bins, place, at)?;
     text.extend_from_slice(spacing.code_start())?;
-    text.extend_from_slice(&code.name())?;
+    text.extend_from_slice(&code)?;
     text.extend_from_slice(b"</text>\n</g>\n")?;
     Ok(())
 }
@@ -127,39 +129,43 @@ fn put_code_line(
 fn put_line_if_had(
     alloc: Global,
     text: &mut Vec<u8>,
+    names: Names,
     spacing: Spacing,
     bins: &[TimeBin],
     place: usize,
     at: usize,
-    code: Code,
+    code: [u8; 2],
 ) -> Result<(), AllocError>
+    requires names { names.before ≤ 67 }
     requires place { place < 32 }
     requires few { length bins.now ≤ 1440 }
     requires listed { at < 16 }
-    ensures { OnOk result (text.new.items ≡ text.old.items ++ line_if_had spacing bins.now place at code) }
+    ensures { OnOk result (text.new.items ≡ text.old.items ++ line_if_had names spacing bins.now place at code) }
 {
     if has_code(bins, place, at) {
-        put_code_line(alloc, text, spacing, bins, place, at, code)?;
+        put_code_line(alloc, text, names, spacing, bins, place, at, code)?;
     }
     Ok(())
 }
 
-/// Appends the lines of the codes of a satellite.
+/// Appends the lines of the codes of a satellite, which have these names.
 pub(crate) fn put_code_lines(
     alloc: Global,
     text: &mut Vec<u8>,
+    names: Names,
     spacing: Spacing,
     bins: &[TimeBin],
     place: usize,
-    codes: &[Code],
+    codes: &[[u8; 2]],
 ) -> Result<(), AllocError>
+    requires names { names.before ≤ 67 }
     requires place { place < 32 }
     requires few { length bins.now ≤ 1440 }
     requires listed { length codes.now ≤ 16 }
-    ensures { OnOk result (text.new.items ≡ text.old.items ++ code_lines spacing bins.now place 0 codes.now) }
+    ensures { OnOk result (text.new.items ≡ text.old.items ++ code_lines names spacing bins.now place 0 codes.now) }
 {
     for (at, code) in codes.iter().enumerate() {
-        put_line_if_had(alloc, text, spacing, bins, place, at, *code)?;
+        put_line_if_had(alloc, text, names, spacing, bins, place, at, *code)?;
     }
     Ok(())
 }

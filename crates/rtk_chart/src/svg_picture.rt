@@ -1,17 +1,20 @@
 //! A picture in SVG.
 
-ghost use Rattle.std.specs.Prelude.{◌≡◌, ◌≤◌, ◌<◌, ◌++◌, length, IfOk, OnOk};
+ghost use Rattle.std.specs.Prelude.{◌≡◌, ◌≤◌, ◌<◌, ◌++◌, length, map, IfOk, OnOk};
+ghost use Rattle.rtk_obs.specs.Code.{name_of};
 ghost use Rattle.rtk_chart.specs.Scale.{IsScale};
 ghost use Rattle.rtk_chart.specs.SvgPicture.{interval_text, svg_span, svg_numbers, svg_start, svg_legend, never_end, svg_body, svg_of_none};
 ghost use Rattle.rtk_chart.specs.Steps.Pictures.{svg_of_grid};
 
 use crate::grid::Grid;
+use crate::groups::gps_names;
 use crate::scale::Scale;
 use crate::spacing::Spacing;
 use crate::survey::Survey;
 use crate::svg_axis::{put_gaps, put_satellites, put_ticks};
 use crate::svg_bands::{band_top, put_bands};
 use crate::svg_never::{lacked_before, put_never_texts};
+use crate::svg_steps::tracked_counts;
 use crate::svg_strip::{put_strip, strip_height};
 use crate::svg_text::{put_between, put_xml};
 use crate::text_picture::drawn_before;
@@ -107,7 +110,8 @@ fn put_interval_words(
     text.extend_from_slice(b" s")
 }
 
-fn put_span(text: &mut Vec<u8>, scale: &Scale) -> Result<(), AllocError>
+/// Appends the span of a file with records.
+pub(crate) fn put_span(text: &mut Vec<u8>, scale: &Scale) -> Result<(), AllocError>
     requires { IsScale scale.now }
     ensures { OnOk result (text.new.items ≡ text.old.items ++ svg_span scale.now) }
 {
@@ -120,7 +124,8 @@ fn put_span(text: &mut Vec<u8>, scale: &Scale) -> Result<(), AllocError>
     Ok(())
 }
 
-fn put_counts(
+/// Appends the numbers in the heading.
+pub(crate) fn put_counts(
     text: &mut Vec<u8>,
     records: u64,
     satellites: u64,
@@ -145,7 +150,8 @@ fn put_counts(
     Ok(())
 }
 
-fn put_start(text: &mut Vec<u8>, marker: &[u8], height: u64) -> Result<(), AllocError>
+/// Appends the beginning of a picture so high.
+pub(crate) fn put_start(text: &mut Vec<u8>, marker: &[u8], height: u64) -> Result<(), AllocError>
     ensures { OnOk result (text.new.items ≡ text.old.items ++ svg_start marker.now height) }
 {
     put_between(
@@ -168,7 +174,8 @@ fn put_start(text: &mut Vec<u8>, marker: &[u8], height: u64) -> Result<(), Alloc
     Ok(())
 }
 
-fn put_legend(text: &mut Vec<u8>, top: u64) -> Result<(), AllocError>
+/// Appends the legend, so far from the top.
+pub(crate) fn put_legend(text: &mut Vec<u8>, top: u64) -> Result<(), AllocError>
     ensures { OnOk result (text.new.items ≡ text.old.items ++ svg_legend top) }
 {
     put_between(text, b"<g transform='translate(110 ", top, b")'>\n")?;
@@ -182,7 +189,7 @@ fn put_body(
     alloc: Global,
     text: &mut Vec<u8>,
     spacing: Spacing,
-    codes: &[Code],
+    codes: &[[u8; 2]],
     scale: &Scale,
     grid: &Grid,
     end: u64,
@@ -195,17 +202,20 @@ fn put_body(
     ensures { OnOk result (text.new.items
         ≡ text.old.items ++ svg_body spacing codes.now scale.now grid.now.bins.items grid.now.outages.items grid.now.gaps.items grid.now.strengths.items end) }
 {
+    let names = gps_names();
     let (bins, outages) = (grid.bins.as_slice(), grid.outages.as_slice());
     text.extend_from_slice(SYSTEM)?;
-    put_bands(alloc, text, spacing, codes, bins, outages)?;
+    put_bands(alloc, text, names, spacing, codes, bins, outages)?;
     let bands_end = band_top(spacing, bins, codes.len(), 32);
-    put_never_texts(text, bins, bands_end + 18, codes)?;
+    put_never_texts(text, names, bins, bands_end + 18, codes)?;
     put_gaps(text, end, grid.gaps.as_slice())?;
-    put_satellites(text, end + 26, bins)?;
+    let counts = tracked_counts(alloc, bins)?;
+    put_satellites(text, end + 26, counts.as_slice())?;
     let strengths = grid.strengths.as_slice();
     put_strip(
         alloc,
         text,
+        false,
         end + 72,
         strengths,
         scale.bins_per_column(),
@@ -227,6 +237,18 @@ fn never_end(spacing: Spacing, bins: &[TimeBin], listed: usize) -> u64
     band_top(spacing, bins, listed, 32) + 24 * lacked_before(bins, listed)
 }
 
+// The names of codes of GPS.
+fn code_names(alloc: Global, codes: &[Code]) -> Result<Vec<[u8; 2]>, AllocError>
+    ensures value { IfOk result (λ names. names.items ≡ map name_of codes.now) }
+    ensures size { IfOk result (λ names. length names.items ≡ length codes.now) }
+{
+    let mut names = Vec::new(alloc);
+    for code in codes {
+        names.push(code.name())?;
+    }
+    Ok(names)
+}
+
 /// The picture of a file with records.
 pub(crate) fn svg_picture(
     alloc: Global,
@@ -242,9 +264,11 @@ pub(crate) fn svg_picture(
     requires gaps { length grid.now.gaps.items ≡ scale.now.bins }
     ensures { IfOk result (λ text. text.items ≡ svg_of_grid marker.now codes.now scale.now survey.now grid.now) }
 {
+    let listed = code_names(alloc, codes)?;
+    let names = listed.as_slice();
     let satellites = drawn_before(grid.bins.as_slice(), 32);
-    let spacing = Spacing::of(grid.bins.as_slice(), codes.len());
-    let end = never_end(spacing, grid.bins.as_slice(), codes.len());
+    let spacing = Spacing::of(grid.bins.as_slice(), names.len());
+    let end = never_end(spacing, grid.bins.as_slice(), names.len());
     let mut text = Vec::new(alloc);
     let height = end + strip_height(grid.strengths.as_slice()) + 230;
     put_start(&mut text, marker, height)?;
@@ -258,7 +282,7 @@ pub(crate) fn svg_picture(
         grid.rises,
         grid.missing,
     )?;
-    put_body(alloc, &mut text, spacing, codes, scale, grid, end)?;
+    put_body(alloc, &mut text, spacing, names, scale, grid, end)?;
     Ok(text)
 }
 

@@ -2,7 +2,7 @@
 
 ghost use Rattle.std.specs.Prelude.{◌≡◌, ◌≤◌, ◌<◌, ◌++◌, length, IfOk, OnOk};
 ghost use Rattle.rtk_chart.specs.Means.{least_mean, greatest_mean};
-ghost use Rattle.rtk_chart.specs.SvgStrip.{reach_between, reach_of, depth_of, depth_at, depths_of, depth_part, depths_text, lane_start, lane_text, lane_height, lane_if_measured, strip_height, strip_text};
+ghost use Rattle.rtk_chart.specs.SvgStrip.{reach_between, reach_of, depth_of, depth_at, depths_of, depth_part, depths_text, lane_start, strip_number, lane_text, lane_height, lane_if_measured, strip_height, strip_text};
 
 use crate::strengths::{Strengths, number_of};
 use crate::svg_path::edge;
@@ -179,10 +179,25 @@ const UNTIL_START: &[u8] = b"</text>\n<text class='side' x='1446' y='16'>";
 
 const FROM_START: &[u8] = b"</text>\n<text class='side' x='1446' y='40'>";
 
+// The number of a band of a strip, which may be one of the upper bands.
+fn strip_number(upper: bool, band: Band) -> u64
+    ensures { result ≡ strip_number upper band }
+{
+    if !upper {
+        return number_of(band);
+    }
+    match band {
+        Band::L1 => 6,
+        Band::L2 => 7,
+        Band::L5 => 8,
+    }
+}
+
 // The lane of a band over so many bins.
 fn put_lane(
     alloc: Global,
     text: &mut Vec<u8>,
+    upper: bool,
     top: u64,
     band: Band,
     columns: &[Strengths],
@@ -191,11 +206,11 @@ fn put_lane(
 ) -> Result<(), AllocError>
     requires some { 0 < each }
     requires few { bins ≤ 1440 }
-    ensures { OnOk result (text.new.items ≡ text.old.items ++ lane_text top band columns.now each bins) }
+    ensures { OnOk result (text.new.items ≡ text.old.items ++ lane_text upper top band columns.now each bins) }
 {
     let reach = reach_of(columns, band);
     let depths = depths_of(alloc, columns, band, reach, each, bins)?;
-    put_lane_start(text, top, number_of(band), reach)?;
+    put_lane_start(text, top, strip_number(upper, band), reach)?;
     put_depths(text, depths.as_slice())?;
     text.extend_from_slice(b"'/>\n</g>\n")?;
     Ok(())
@@ -214,6 +229,7 @@ fn lane_height(columns: &[Strengths], band: Band) -> u64
 fn put_lane_if_measured(
     alloc: Global,
     text: &mut Vec<u8>,
+    upper: bool,
     top: u64,
     band: Band,
     columns: &[Strengths],
@@ -222,10 +238,10 @@ fn put_lane_if_measured(
 ) -> Result<(), AllocError>
     requires some { 0 < each }
     requires few { bins ≤ 1440 }
-    ensures { OnOk result (text.new.items ≡ text.old.items ++ lane_if_measured top band columns.now each bins) }
+    ensures { OnOk result (text.new.items ≡ text.old.items ++ lane_if_measured upper top band columns.now each bins) }
 {
     if least_mean(columns, band).is_some() {
-        put_lane(alloc, text, top, band, columns, each, bins)?;
+        put_lane(alloc, text, upper, top, band, columns, each, bins)?;
     }
     Ok(())
 }
@@ -239,24 +255,25 @@ pub(crate) fn strip_height(columns: &[Strengths]) -> u64
     lane_height(columns, Band::L1) + lane_height(columns, Band::L2) + lane_height(columns, Band::L5)
 }
 
-/// Appends the lanes of the bands, if columns have so many bins.
+/// Appends the lanes of the bands, or of the upper ones, if columns have so many bins.
 pub(crate) fn put_strip(
     alloc: Global,
     text: &mut Vec<u8>,
+    upper: bool,
     top: u64,
     columns: &[Strengths],
     each: u64,
     bins: usize,
 ) -> Result<(), AllocError>
-    requires top { top ≤ 12_308 }
+    requires top { top ≤ 1_000_000 }
     requires some { 0 < each }
     requires few { bins ≤ 1440 }
-    ensures { OnOk result (text.new.items ≡ text.old.items ++ strip_text top columns.now each bins) }
+    ensures { OnOk result (text.new.items ≡ text.old.items ++ strip_text upper top columns.now each bins) }
 {
     let second = top + lane_height(columns, Band::L1);
     let third = second + lane_height(columns, Band::L2);
-    put_lane_if_measured(alloc, text, top, Band::L1, columns, each, bins)?;
-    put_lane_if_measured(alloc, text, second, Band::L2, columns, each, bins)?;
-    put_lane_if_measured(alloc, text, third, Band::L5, columns, each, bins)?;
+    put_lane_if_measured(alloc, text, upper, top, Band::L1, columns, each, bins)?;
+    put_lane_if_measured(alloc, text, upper, second, Band::L2, columns, each, bins)?;
+    put_lane_if_measured(alloc, text, upper, third, Band::L5, columns, each, bins)?;
     Ok(())
 }

@@ -6,9 +6,9 @@ use Rattle.std.specs.Io.Buffered.{writer_contents}
 use Rattle.std.specs.Io.KnownBytes.{Keeps}
 use Rattle.std.specs.declared.io.buffered.BufWriter.{BufWriter}
 use Rattle.rtk_frame.specs.Stream.{with_more}
-use Rattle.rtk_streams.specs.Steps.ReadLimits.{most_reads}
-use Rattle.rtk_streams.specs.Passed.{given_of, IsLeft, taken_of}
-use Rattle.rtk_streams.specs.declared.resuming.Resumed.{Resumed}
+use Rattle.rtk_commands.specs.Steps.ReadLimits.{most_reads}
+use Rattle.rtk_commands.specs.Passed.{given_of, IsLeft, taken_of}
+use Rattle.rtk_commands.specs.declared.resuming.Resumed.{Resumed}
 use Rattle.rtk_setup.specs.declared.counts.Counts.{Counts}
 use Rattle.rtk_convert.specs.declared.fault.ConvertFault.{ConvertFault}
 use Rattle.rtk_convert.specs.declared.fault.ConvertFault.TheVariants.{Read as ReadFailed, Endless}

@@ -1,7 +1,7 @@
 -- A conversion by bytes: those that its readers had, and those that its writers hold.
 use Rattle.std.specs.Prelude.{◌≡◌, ◌<◌, ℕ, true, List, ◌++◌, length, Option, None, Some, Result, Err, IsErrOf, slice_index_or}
 use Rattle.rtk_frame.specs.Stream.{with_more}
-use Rattle.rtk_streams.specs.Steps.ReadLimits.{most_reads}
+use Rattle.rtk_commands.specs.Steps.ReadLimits.{most_reads}
 use Rattle.rtk_setup.specs.declared.counts.Counts.{Counts}
 use Rattle.rtk_convert.specs.declared.fault.ConvertFault.{ConvertFault}
 use Rattle.rtk_convert.specs.declared.fault.ConvertFault.TheVariants.{Read as ReadFailed, Endless}

@@ -3,14 +3,14 @@
 ghost use Rattle.std.specs.Prelude.{◌≡◌, map, IfOk, IfErr, OnOk, IsTrue};
 ghost use Rattle.rtk_convert.specs.Failure.{IsRunFault};
 ghost use Rattle.rtk_convert.specs.Writing.{written};
-ghost use Rattle.rtk_streams.specs.Joined.{joined_bytes};
-ghost use Rattle.rtk_streams.specs.Passed.{taken_of};
+ghost use Rattle.rtk_commands.specs.Joined.{joined_bytes};
+ghost use Rattle.rtk_commands.specs.Passed.{taken_of};
 ghost use Rattle.rtk_cli.specs.ConvertsBytes.{ConvertsBytes};
 ghost use Rattle.rtk_cli.specs.JoinedLinks.{links_bytes};
 
 use crate::converting::{Converted, convert_through};
+use rtk_commands::{GATHERED, Joined, Resumed, ToolFault};
 use rtk_convert::Setup;
-use rtk_streams::{GATHERED, Joined, Resumed, ToolFault};
 use std::alloc::Global;
 use std::io::{BufReader, Read, Write};
 

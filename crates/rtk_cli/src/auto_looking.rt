@@ -1,15 +1,15 @@
 //! What `auto` looks at before it opens a capture: the files that its words name, and the present.
 
 ghost use Rattle.std.specs.Prelude.{◌≤◌, IfErr};
-ghost use Rattle.rtk_streams.specs.declared.exit_status.TheConstants.{NOT_VALID};
+ghost use Rattle.rtk_commands.specs.declared.exit_status.TheConstants.{NOT_VALID};
 
 use crate::auto_refusing::{fail_output, fail_to_find, refuse_other, refuse_twice};
-use rtk_obs::GpsMs;
-use rtk_rinex::CreationTime;
-use rtk_streams::{
+use rtk_commands::{
     FAILED, FileIdentity, NOT_VALID, Named, PresentFault, PresentTime, REFUSED, STDIN, ToolFault,
     can_get_name, fail, present, standard_output_file, what_is_named,
 };
+use rtk_obs::GpsMs;
+use rtk_rinex::CreationTime;
 use std::env::Env;
 use std::fs::Files;
 use std::time::Clock;

@@ -1,12 +1,11 @@
 //! Where `auto` says that a capture is to be parted: the capture is read again, to find the byte.
 
 ghost use Rattle.std.specs.Prelude.{◌≤◌, IfErr};
-ghost use Rattle.rtk_streams.specs.declared.exit_status.TheConstants.{NOT_VALID};
+ghost use Rattle.rtk_commands.specs.declared.exit_status.TheConstants.{NOT_VALID};
 
 use crate::auto_refusing::fail_differing;
 use rtk_captures::put_parting;
-use rtk_commands::summary_status;
-use rtk_streams::{MOST_READS, Reads, ToolFault, fail, fail_to_open, open_input};
+use rtk_commands::{MOST_READS, Reads, ToolFault, fail, fail_to_open, open_input, summary_status};
 use rtk_survey::{SurveyFault, place_of_frame};
 use std::alloc::Global;
 use std::fs::Files;

@@ -3,11 +3,11 @@
 ghost use Rattle.std.specs.Prelude.{◌≡◌, ◌≤◌, ℕ, List, Some, length, IfOk, IfErr, IfSome};
 ghost use Rattle.std.specs.Io.KnownBytes.{Keeps};
 ghost use Rattle.rtk_cli.specs.SurveysText.{SurveysText, IsSurvey, AreSurveys};
-ghost use Rattle.rtk_streams.specs.declared.exit_status.TheConstants.{NOT_VALID};
+ghost use Rattle.rtk_commands.specs.declared.exit_status.TheConstants.{NOT_VALID};
 
-use rtk_commands::summary_status;
-use rtk_streams::{
+use rtk_commands::{
     Before, Digest, Digested, MOST_READS, Reads, ToolFault, fail, fail_to_open, open_input,
+    summary_status,
 };
 use rtk_survey::{CaptureSurvey, SurveyFault, Target, survey_capture};
 use std::alloc::Global;

@@ -3,11 +3,11 @@
 
 ghost use Rattle.std.specs.Prelude.{◌≡◌, ◌≤◌, IfOk, IsUtf8, string_bytes};
 ghost use Rattle.rtk_message.specs.ShellText.{sh_quoted};
-ghost use Rattle.rtk_streams.specs.declared.exit_status.TheConstants.{FAILED, REFUSED, NOT_VALID};
+ghost use Rattle.rtk_commands.specs.declared.exit_status.TheConstants.{FAILED, REFUSED, NOT_VALID};
 
+use rtk_commands::{FAILED, NOT_VALID, OutputFault, REFUSED, ToolFault, fail, fail_to_open};
 use rtk_message::{System, put_sh_quoted};
 use rtk_plan::WrittenFile;
-use rtk_streams::{FAILED, NOT_VALID, OutputFault, REFUSED, ToolFault, fail, fail_to_open};
 use std::alloc::{AllocError, Global};
 
 /// The systems in the order of a file, with their letters.

@@ -5,8 +5,8 @@ ghost use Rattle.std.specs.Prelude.{◌≡◌, map, IfOk};
 ghost use Rattle.rtk_captures.specs.CaptureNames.{capture_name};
 ghost use Rattle.rtk_cli.specs.Said.{read_names, ReadsPlanned};
 
+use rtk_commands::{Again, Digest, Later, is_longer};
 use rtk_message::{put_named, put_sh_quoted};
-use rtk_streams::{Again, Digest, Later, is_longer};
 use std::alloc::{AllocError, Global};
 use std::cell::Cell;
 use std::fs::Files;

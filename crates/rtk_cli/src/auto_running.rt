@@ -3,7 +3,7 @@
 
 ghost use Rattle.std.specs.Prelude.{◌≡◌, ◌≤◌, IfOk, IfErr, IsOk, IsTrue};
 ghost use Rattle.rtk_convert.specs.Failure.{IsRunFault};
-ghost use Rattle.rtk_streams.specs.declared.exit_status.TheConstants.{NOT_VALID};
+ghost use Rattle.rtk_commands.specs.declared.exit_status.TheConstants.{NOT_VALID};
 ghost use Rattle.rtk_cli.specs.Said.{ReadsPlanned, IsSaid};
 
 use crate::auto_converting::convert_joined;
@@ -23,6 +23,10 @@ use crate::converting::{Converted, conversion_status};
 use crate::watching::Watched;
 use crate::words::AutoWords;
 use rtk_captures::{Captures, PlanFault, Refusal, equipment_in_captures};
+use rtk_commands::{
+    Beside, Digest, FAILED, NOT_VALID, Quiet, ToolFault, Unbroken, fail, is_there, let_go,
+    make_beside, name_whole,
+};
 use rtk_convert::{Setup, Station};
 use rtk_label::Label;
 use rtk_plan::{
@@ -30,10 +34,6 @@ use rtk_plan::{
     put_label_command, what_is_known,
 };
 use rtk_rinex::CreationTime;
-use rtk_streams::{
-    Beside, Digest, FAILED, NOT_VALID, Quiet, ToolFault, Unbroken, fail, is_there, let_go,
-    make_beside, name_whole,
-};
 use rtk_survey::Target;
 use std::alloc::{AllocError, Global};
 use std::cell::Cell;

@@ -4,14 +4,14 @@
 //! If memory is refused, a first part of what is put may stand there.
 
 ghost use Rattle.std.specs.Prelude.{◌≡◌, ◌≤◌, ◌++◌, true, false, IfOk, OnOk};
-ghost use Rattle.rtk_streams.specs.declared.exit_status.TheConstants.{FAILED, NOT_VALID};
+ghost use Rattle.rtk_commands.specs.declared.exit_status.TheConstants.{FAILED, NOT_VALID};
 ghost use Rattle.rtk_cli.specs.Said.{names_of, names_of_links, names_in, same_by_hand};
 
 use crate::auto_refusing::say_written;
 use crate::auto_rereading::{CaptureRead, put_grown};
+use rtk_commands::{DONE, FAILED, NOT_VALID, Unbroken};
 use rtk_convert::{Counts, Setup};
 use rtk_plan::{Known, Reported, WrittenFile, put_command, put_counts, put_file, put_known};
-use rtk_streams::{DONE, FAILED, NOT_VALID, Unbroken};
 use std::alloc::{AllocError, Global};
 use std::fs::Files;
 use std::io::Write;

@@ -9,15 +9,15 @@ ghost use Rattle.rtk_commands.specs.ChartInput.{IsWidth};
 ghost use Rattle.rtk_cli.specs.FaultLines.{IsRefusal};
 ghost use Rattle.rtk_cli.specs.Steps.ChartWords.{is_system, are_systems, ListsSatellites, is_of_system, is_named, SaysSystems, SaysSatellites, HasNoSystems, HasNoSatellites, SaysChoice, RefusesChoice};
 
+use crate::limits::{LEAST_WIDTH, MOST_WIDTH};
 use crate::words::{BadWords, WordsFault};
 use clap::ArgMatches;
 use rtk_chart::{Choice, Chosen};
 use rtk_obs::{SatelliteIndex, satellite_name, satellite_named};
-use rtk_usage::{LEAST_WIDTH, MOST_WIDTH};
 use std::alloc::{AllocError, Global};
 
 /// How many characters wide a picture is if no number is given. It is not a default value of clap's,
-/// as rtk_usage has one for the window: without `--text` a picture has no such width.
+/// as the window has one: without `--text` a picture has no such width.
 const COLUMNS: u32 = 80;
 
 /// The options of `chart`.

@@ -5,9 +5,8 @@ ghost use Rattle.rtk_cli.specs.Words.{is_stdin, AreComparedNames};
 ghost use Rattle.rtk_cli.specs.declared.words.BadWords.TheVariants.{Files};
 
 use crate::words::BadWords;
-use rtk_commands::Compare;
+use rtk_commands::{Compare, STDIN};
 use rtk_compare::Form;
-use rtk_streams::STDIN;
 
 /// The files of a comparison.
 #[derive(Clone, Copy)]

@@ -13,12 +13,12 @@ use crate::option_numbers::{kinds_said, leap_seconds_of, station_of, value_if_an
 use crate::option_texts::{made_said, marker_said, moment_said, reference_said};
 use crate::words::{BadWords, Job, WordsFault};
 use clap::ArgMatches;
+use rtk_commands::STDIN;
 use rtk_convert::LinkCount;
 use rtk_message::System;
 use rtk_obs::{AnyCode, Channels, GpsMs, leap_seconds_at};
 use rtk_rinex::{CreationTime, Glonass, Marker, MixedHead, is_mixed_list};
 use rtk_setup::{LeapSeconds, Setup, Station, SystemKinds, Window, without_rates};
-use rtk_streams::STDIN;
 use std::alloc::Global;
 
 /// The options of `convert`.

@@ -7,19 +7,19 @@ ghost use Rattle.std.specs.Io.KnownBytes.{Keeps};
 ghost use Rattle.rtk_convert.specs.Converter.{IsLinkCount};
 ghost use Rattle.rtk_convert.specs.Failure.{IsRunFault};
 ghost use Rattle.rtk_convert.specs.Writing.{written};
-ghost use Rattle.rtk_streams.specs.Passed.{taken_of};
-ghost use Rattle.rtk_streams.specs.declared.exit_status.TheConstants.{REFUSED};
+ghost use Rattle.rtk_commands.specs.Passed.{taken_of};
+ghost use Rattle.rtk_commands.specs.declared.exit_status.TheConstants.{REFUSED};
 ghost use Rattle.rtk_cli.specs.Converting.{status_of};
 ghost use Rattle.rtk_cli.specs.ConvertsBytes.{ConvertsBytes, KeepsBytes, EndsAtRead, ConvertsFirstBytes};
 ghost use Rattle.rtk_cli.specs.Steps.Links.{bytes_had, bytes_held, AreLinksOf};
 
 use crate::refusing::refuse;
 use crate::words::BadWords;
-use rtk_convert::{ConvertFault, Counts, MOST_LINKS, Setup, run};
-use rtk_streams::{
+use rtk_commands::{
     Before, DONE, GATHERED, MOST_READS, Reads, Resumed, ToolFault, Writes, fail, fail_to_end,
     fail_to_open_links, has_standard_input, open_links, sink,
 };
+use rtk_convert::{ConvertFault, Counts, MOST_LINKS, Setup, run};
 use std::alloc::Global;
 use std::fs::Files;
 use std::io;

@@ -4,11 +4,11 @@ ghost use Rattle.std.specs.Prelude.{◌↔◌, IfOk, IfErr, IfSome, IsTrue};
 ghost use Rattle.rtk_cut.specs.Cut.{IsStepOrNone};
 ghost use Rattle.rtk_cli.specs.Steps.CutWords.{IsAfter, SaysPart, RefusesPart};
 
+use crate::limits::MOST_STEP;
 use crate::option_texts::moment_if_any;
 use crate::words::BadWords;
 use clap::ArgMatches;
 use rtk_cut::Part;
-use rtk_usage::MOST_STEP;
 
 /// The options of `cut`.
 #[derive(Drop)]

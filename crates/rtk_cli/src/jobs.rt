@@ -8,6 +8,7 @@ ghost use Rattle.rtk_cli.specs.Words.{IsWithinLimits, IsWordsFault};
 use crate::auto_words::{auto_options, auto_words};
 use crate::chart_words::{chart_options, choice_of};
 use crate::clap_words::{matches_of, missing_word};
+use crate::command_line::program_command;
 use crate::compare_words::{compared_files, comparison};
 use crate::convert_words::{convert_job, convert_options};
 use crate::cut_words::{cut_options, part_of};
@@ -19,7 +20,6 @@ use crate::show_words::shown_kinds;
 use crate::words::{Job, WordsFault};
 use clap::{ArgMatches, Command};
 use rtk_commands::{Chart, KeptPart, Labelling};
-use rtk_usage::program_command;
 use std::alloc::{AllocError, Global};
 
 // The names that stand for one argument.

@@ -16,6 +16,8 @@
 //! Its tests: tests/values/src/cli.rt.in and cli/, and tests/program
 #![tactic(auto)]
 
+mod arguments;
+mod auto_command;
 mod auto_converting;
 mod auto_labelling;
 mod auto_looking;
@@ -32,15 +34,19 @@ mod chart_words;
 mod clap_words;
 mod code_lines;
 mod code_words;
+mod command_line;
 mod compare_words;
 mod convert_words;
 mod converting;
 mod cut_words;
+mod help_texts;
 mod jobs;
 mod kept_words;
 mod kind_list;
+mod label_command;
 mod label_words;
 mod laws;
+mod limits;
 mod moment_text;
 mod option_numbers;
 mod option_texts;
@@ -58,7 +64,6 @@ pub use auto_reading::survey_through;
 pub use converting::{Converted, conversion_status, convert_through};
 pub use jobs::job;
 pub use laws::{files_pass_labelled, order_makes_no_difference};
-pub use rtk_commands::{CHECK_LIMIT, SHOW_LIMIT, check_file, show, show_line};
-pub use rtk_streams::ToolFault;
+pub use rtk_commands::{CHECK_LIMIT, SHOW_LIMIT, ToolFault, check_file, show, show_line};
 pub use running::run_program;
 pub use words::{AutoWords, Job, WordsFault};

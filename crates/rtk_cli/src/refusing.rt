@@ -1,11 +1,11 @@
 //! What the program says if words give no job, and the exit status then.
 
 ghost use Rattle.std.specs.Prelude.{◌≡◌, ◌≤◌};
-ghost use Rattle.rtk_streams.specs.declared.exit_status.TheConstants.{REFUSED};
+ghost use Rattle.rtk_commands.specs.declared.exit_status.TheConstants.{REFUSED};
 
 use crate::words::WordsFault;
+use rtk_commands::{DONE, REFUSED, Resumed, ToolFault, Writes, fail, standard_output};
 use rtk_frame::write_all;
-use rtk_streams::{DONE, REFUSED, Resumed, ToolFault, Writes, fail, standard_output};
 use std::io::Printer;
 
 /// Says why words that clap takes are refused.

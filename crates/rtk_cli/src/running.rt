@@ -2,7 +2,7 @@
 //! done.
 
 ghost use Rattle.std.specs.Prelude.{◌≤◌};
-ghost use Rattle.rtk_streams.specs.declared.exit_status.TheConstants.{NOT_VALID};
+ghost use Rattle.rtk_commands.specs.declared.exit_status.TheConstants.{NOT_VALID};
 ghost use Rattle.rtk_cli.specs.Words.{IsWithinLimits};
 
 use crate::auto_running::auto_captures;
@@ -11,9 +11,8 @@ use crate::jobs::job;
 use crate::refusing::refuse_words;
 use crate::show_words::messages_of;
 use crate::words::Job;
-use rtk_commands::{Check, compare_named, run_file, show_named, summarize_named};
+use rtk_commands::{Check, ToolFault, compare_named, fail, run_file, show_named, summarize_named};
 use rtk_message::Accepted;
-use rtk_streams::{ToolFault, fail};
 use std::env::Env;
 use std::fs::Files;
 use std::io::{ErrorKind, Write};

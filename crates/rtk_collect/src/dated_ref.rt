@@ -53,12 +53,7 @@ fn put_four(message: &Message, sbas: bool, found: &mut ArrayVec<SignalEntry, 64>
 }
 
 // Puts the cells of an MSM into a list, in place of what it has: with their Doppler shifts, or without them.
-fn put_msm(
-    message: &Msm,
-    channels: &Channels,
-    doppler: bool,
-    found: &mut ArrayVec<SignalEntry, 64>,
-)
+fn put_msm(message: &Msm, channels: &Channels, doppler: bool, found: &mut ArrayVec<SignalEntry, 64>)
     requires { msm_form.IsValid message.now }
     ensures { (sbas : Bool) → found.new.items ≡ entries_by sbas doppler channels.now (AnyMessage.Msm message.now) }
 {

@@ -6,6 +6,7 @@
 //! the caller says.
 
 ghost use Rattle.std.specs.Prelude.{◌≡◌, ◌≢◌, ◌≤◌, ◌<◌, ◌+◌, ◌-◌, ◌*◌, [], ◌∷◌, ◌++◌, not, length, take, drop, slice_index_or, vec_len, vec_capacity, IsTrue, IfOk, OnErr, All, if◌then◌else◌};
+ghost use Rattle.rtk_collect.specs.Equal.{equal_cells};
 ghost use Rattle.rtk_collect.specs.Key.{key, KeysRise};
 ghost use Rattle.rtk_collect.specs.EpochSet.{with_cell, with_cells, cell_under, fresh, equal_values, conflict, conflicts, AreOfOneSource};
 ghost use Rattle.rtk_collect.specs.Steps.OrderedPlaces.{lower};
@@ -225,11 +226,21 @@ fn put_first<E: Entry>(list: &mut [E], cells: &[E])
     }
 }
 
+// Returns whether two cells have the same values, whatever their Doppler shifts.
+fn are_alike<E: Entry>(first: &E, entry: &E) -> bool
+    ensures { result ≡ equal_cells ((E.entries).cell first.now) ((E.entries).cell entry.now) }
+{
+    first.cell() == entry.cell()
+}
+
 // Returns whether two cells have other values, or other Doppler shifts.
 fn differ<E: Entry>(first: &E, entry: &E) -> bool
     ensures { result ≡ not (equal_values E.entries first.now entry.now) }
 {
-    !(first.cell() == entry.cell() && first.doppler() == entry.doppler())
+    if are_alike(first, entry) {
+        return first.doppler() != entry.doppler();
+    }
+    true
 }
 
 // Adds a cell at its place if its key is new, and says whether it conflicts.

@@ -4,12 +4,13 @@ use Rattle.std.specs.Io.Buffered.{writer_contents}
 use Rattle.std.specs.declared.io.buffered.BufWriter.{BufWriter}
 use Rattle.std.specs.Io.KnownBytes.{Keeps, append_known}
 use Rattle.rtk_frame.specs.Stream.{with_more}
-use Rattle.rtk_streams.specs.declared.fault.ToolFault.{ToolFault}
-use Rattle.rtk_streams.specs.declared.fault.ToolFault.TheVariants.{Input, TooLong, NotHex, OutOfMemory, Output}
-use Rattle.rtk_streams.specs.Input.{GivesText}
-use Rattle.rtk_streams.specs.Passed.{given_of, IsLeft, taken_of}
-use Rattle.rtk_streams.specs.declared.resuming.Resumed.{Resumed}
-use Rattle.rtk_streams.proofs.PublicLaws.{all_text, lands}
+use Rattle.rtk_commands.specs.declared.fault.ToolFault.{ToolFault}
+use Rattle.rtk_commands.specs.declared.fault.ToolFault.TheVariants.{Input, TooLong, NotHex, OutOfMemory, Output}
+use Rattle.rtk_commands.specs.Input.{GivesText}
+use Rattle.rtk_commands.specs.Passed.{given_of, IsLeft, taken_of}
+use Rattle.rtk_commands.specs.declared.resuming.Resumed.{Resumed}
+use Rattle.rtk_commands.proofs.PassedLemmas.{all_text}
+use Rattle.rtk_commands.proofs.ThroughLemmas.{lands}
 use Rattle.rtk_commands.specs.declared.file_answer.FileAnswer.{FileAnswer}
 use Rattle.rtk_commands.specs.FileText.{WritesAll, WritesFirst, AnswersText, AnswersPartOf, LeavesPartOf}
 use Rattle.rtk_commands.specs.Show.{IsBeforeOutput}

@@ -9,8 +9,8 @@ use Rattle.rtk_message.specs.declared.msm_kind.MsmKind.TheVariants.{Msm4}
 use Rattle.rtk_message.specs.Accepted.{only}
 use Rattle.rtk_message.specs.AnyDecoded.{any_of}
 use Rattle.rtk_message.proofs.PublicLaws.{by_four, each_by_four}
-use Rattle.rtk_streams.specs.Input.{GivesText}
-use Rattle.rtk_streams.specs.declared.fault.ToolFault.{ToolFault}
+use Rattle.rtk_commands.specs.Input.{GivesText}
+use Rattle.rtk_commands.specs.declared.fault.ToolFault.{ToolFault}
 use Rattle.rtk_commands.specs.Hex.{capture_of}
 use Rattle.rtk_commands.specs.Show.{ShowsTextBy, ShowsPartOfBy, ShowsText, ShowsPartOf}
 use Rattle.rtk_commands.specs.Shown.{line_of, IsLineOf, AreLinesBy, AreLinesOf, Shows}

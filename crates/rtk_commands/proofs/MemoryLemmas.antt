@@ -4,8 +4,9 @@ use Rattle.std.proofs.Common.{◌≡◌, ℕ, Bool, true, false, List, [], ◌++
 use Rattle.std.specs.Io.KnownBytes.{Keeps}
 use Rattle.rtk_frame.specs.Frames.{frames}
 use Rattle.rtk_frame.specs.Stream.{TakesPart}
-use Rattle.rtk_streams.specs.Passed.{given_of, IsLeft, taken_of}
-use Rattle.rtk_streams.proofs.PublicLaws.{all_text, given_first, lands}
+use Rattle.rtk_commands.specs.Passed.{given_of, IsLeft, taken_of}
+use Rattle.rtk_commands.proofs.PassedLemmas.{all_text, given_first}
+use Rattle.rtk_commands.proofs.ThroughLemmas.{lands}
 use Rattle.rtk_survey.specs.Summary.{Summarizes, SummarizesInPart, summary_text}
 use Rattle.rtk_commands.specs.Show.{ShowsTextBy}
 use Rattle.rtk_commands.specs.Shown.{AreLinesBy}

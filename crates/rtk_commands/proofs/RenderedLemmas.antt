@@ -1,8 +1,8 @@
 -- What a command writes whose bytes are all made before.
 use Rattle.std.proofs.Common.{◌≡◌, ℕ, List, Option, Result, Ok, Err, IfOk, IsOkAnd, IsErrOf, sym, subst}
 use Rattle.rtk_frame.specs.Stream.{with_more, TakesPart}
-use Rattle.rtk_streams.specs.declared.fault.ToolFault.{ToolFault}
-use Rattle.rtk_streams.specs.declared.fault.ToolFault.TheVariants.{Output}
+use Rattle.rtk_commands.specs.declared.fault.ToolFault.{ToolFault}
+use Rattle.rtk_commands.specs.declared.fault.ToolFault.TheVariants.{Output}
 use Rattle.rtk_commands.specs.declared.file_answer.FileAnswer.{FileAnswer}
 use Rattle.rtk_commands.specs.declared.rendered.Rendered.{Rendered}
 use Rattle.rtk_commands.specs.FileText.{WritesAll, WritesFirst}

@@ -1,11 +1,12 @@
 -- What `show` leaves of the lines of all that a reader had, if it is not done.
 use Rattle.std.proofs.Common.{◌≡◌, ◌≢◌, ◌⊎◌, inl, inr, ℕ, Bool, true, List, Option, None, Some, Result, Ok, Err, IfErr, IfSome, IsErrOf, refl, sym, subst}
 use Rattle.std.specs.Io.KnownBytes.{Keeps}
-use Rattle.rtk_streams.specs.Input.{GivesText}
-use Rattle.rtk_streams.specs.Passed.{given_of, IsLeft, taken_of}
-use Rattle.rtk_streams.specs.declared.fault.ToolFault.{ToolFault}
-use Rattle.rtk_streams.specs.declared.fault.ToolFault.TheVariants.{Input, TooLong, NotHex, OutOfMemory, Output}
-use Rattle.rtk_streams.proofs.PublicLaws.{all_text, lands}
+use Rattle.rtk_commands.specs.Input.{GivesText}
+use Rattle.rtk_commands.specs.Passed.{given_of, IsLeft, taken_of}
+use Rattle.rtk_commands.specs.declared.fault.ToolFault.{ToolFault}
+use Rattle.rtk_commands.specs.declared.fault.ToolFault.TheVariants.{Input, TooLong, NotHex, OutOfMemory, Output}
+use Rattle.rtk_commands.proofs.PassedLemmas.{all_text}
+use Rattle.rtk_commands.proofs.ThroughLemmas.{lands}
 use Rattle.rtk_commands.specs.Hex.{capture_of}
 use Rattle.rtk_commands.specs.Show.{ShowsPartOfBy, IsBeforeOutput}
 use Rattle.rtk_commands.proofs.ShownLemmas.{shows-none}

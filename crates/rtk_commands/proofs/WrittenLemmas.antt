@@ -1,16 +1,14 @@
 -- What is written stands right after what was held.
-use Rattle.std.proofs.Common.{◌≡◌, ◌≢◌, inl, inr, ℕ, List, [], ◌++◌, Option, None, Some, ◌∙◌, ap}
-use Rattle.rtk_rinex.specs.MixedTable.{mixed_table_text}
+use Rattle.std.proofs.Common.{◌≡◌, ◌≢◌, inl, inr, ℕ, List, [], ◌++◌, Some, ◌∙◌, ap}
 use Rattle.rtk_rinex.specs.declared.check_fault.CheckFault.{CheckFault}
 use Rattle.rtk_cut.specs.declared.counts.CutCounts.{CutCounts}
 use Rattle.rtk_label.specs.Labelled.{LabelView, IsLabel, IsFor, blank_label}
 use Rattle.rtk_label.specs.LabelLaws.{BlankIsFile, FrontIsChanged, MixedLabelLaws}
 use Rattle.rtk_label.specs.declared.time_lines.TimeLines.{TimeLines}
 use Rattle.rtk_quality.specs.declared.form.Form.{Form}
-use Rattle.rtk_chart.specs.declared.choice.Choice.{Choice}
 use Rattle.rtk_commands.specs.declared.charting.Chart.{Chart}
-use Rattle.rtk_commands.specs.declared.file_answer.FileAnswer.TheVariants.{Written, Cut, Refused, Height, NoneChosen, OtherSystems}
-use Rattle.rtk_commands.specs.ChartInput.{IsMixedPicture, IsPictureOf, DrawsMixedFile, DrawsTable}
+use Rattle.rtk_commands.specs.declared.file_answer.FileAnswer.TheVariants.{Written, Cut, Refused, Height, NoneChosen}
+use Rattle.rtk_commands.specs.ChartInput.{IsPictureOf, DrawsTable}
 use Rattle.rtk_commands.specs.QualityInput.{TellsNumbersOf, TellsTable}
 use Rattle.rtk_commands.specs.FileTable.{FileTable, OfGps, OfSystems, IsFileTable, file_text, file_site, labelled_file}
 use Rattle.rtk_commands.specs.WithLabel.{IsWithLabel}
@@ -32,22 +30,13 @@ not-height e = cc
 not-none : Written ≢ NoneChosen
 not-none e = cc
 
-not-other : Written ≢ OtherSystems
-not-other e = cc
-
 own-counts : (counts other : CutCounts) → Cut counts ≡ Cut other → counts ≡ other
 own-counts counts other e = cc
 
 pub line-follows : LineFollows
 line-follows text first last valid told = (told.0, told.1, same-bytes first told.0 last told.2)
 
-mixed-drawn : (width : Option ℕ) (choice : Choice) (file bytes : List ℕ) → DrawsMixedFile width choice file Written bytes → IsMixedPicture width choice file bytes
-mixed-drawn None choice file bytes none = absurd (not-other none.0)
-mixed-drawn (Some width) choice file bytes drawn = elim drawn [
-  | inl some ↦ some.2
-  | inr none ↦ absurd (not-none none.0)
-]
-
+-- the file is of GPS or of any systems
 picture-of : (chart : Chart) (text first last bytes : List ℕ) (f : FileTable) (w : TimeLines) (l : LabelView) → IsFileTable f → IsLabel l → IsFor l (file_site f) → text ≡ labelled_file w l f
     → DrawsTable chart f w l Written bytes → last ≡ first ++ bytes
     → (f : FileTable) × IsFileTable f × IsWithLabel text f × ((picture : List ℕ) × IsPictureOf chart f picture × (last ≡ first ++ picture))
@@ -55,8 +44,10 @@ picture-of chart text first last bytes (OfGps t) w l good is for e drawn same = 
   | inl some ↦ (OfGps t, good, (w, l, is, for, e), (bytes, some.2, same))
   | inr none ↦ absurd (not-none none.0)
 ]
-picture-of chart text first last bytes (OfSystems t) w l good is for e drawn same =
-    (OfSystems t, good, (w, l, is, for, e), (bytes, mixed-drawn chart.width chart.choice (mixed_table_text t) bytes drawn, same))
+picture-of chart text first last bytes (OfSystems t) w l good is for e drawn same = elim drawn [
+  | inl some ↦ (OfSystems t, good, (w, l, is, for, e), (bytes, some.2, same))
+  | inr none ↦ absurd (not-none none.0)
+]
 
 numbers-of : (form : Form) (text first last bytes : List ℕ) (f : FileTable) (w : TimeLines) (l : LabelView) → IsFileTable f → IsLabel l → IsFor l (file_site f) → text ≡ labelled_file w l f
     → TellsTable form f w l Written bytes → last ≡ first ++ bytes

@@ -10,10 +10,11 @@ use Rattle.rtk_chart.specs.Choice.{is_there}
 use Rattle.rtk_chart.specs.Chart.{ShowsChosen, ShowsChosenInSvg}
 use Rattle.rtk_chart.specs.Groups.{HoldsOfMixed}
 use Rattle.rtk_chart.specs.MixedChart.{ShowsSystems}
+use Rattle.rtk_chart.specs.SvgSystems.{ShowsSystemsInSvg}
 use Rattle.rtk_chart.specs.declared.choice.Choice.{Choice}
 use Rattle.rtk_commands.specs.declared.charting.Chart.{Chart}
 use Rattle.rtk_commands.specs.declared.file_answer.FileAnswer.{FileAnswer}
-use Rattle.rtk_commands.specs.declared.file_answer.FileAnswer.TheVariants.{Written, NoneChosen, OtherSystems}
+use Rattle.rtk_commands.specs.declared.file_answer.FileAnswer.TheVariants.{Written, NoneChosen}
 use Rattle.rtk_commands.specs.FileTable.{FileTable, OfGps, OfSystems}
 
 -- constant
@@ -40,20 +41,14 @@ DrawsFile chart file answer bytes =
 abbrev pub HasOfSystems : Choice → List ℕ → Bool → Type 0
 HasOfSystems choice file some = HoldsOfMixed file (λ es. some ≡ is_there choice es)
 
-abbrev pub DrawsSystems : ℕ → Choice → List ℕ → FileAnswer → List ℕ → Type 0
-DrawsSystems width choice file answer bytes =
-    ((answer ≡ Written) × HasOfSystems choice file true × ShowsSystems choice file width bytes)
-    ⊎ ((answer ≡ NoneChosen) × HasOfSystems choice file false × (bytes ≡ []))
-
--- in SVG there is no picture of a file with other systems
-abbrev pub DrawsMixedFile : Option ℕ → Choice → List ℕ → FileAnswer → List ℕ → Type 0
-DrawsMixedFile None choice file answer bytes = (answer ≡ OtherSystems) × (bytes ≡ [])
-DrawsMixedFile (Some width) choice file answer bytes = DrawsSystems width choice file answer bytes
-
--- a picture of the choice of a file with other systems
 abbrev pub IsMixedPicture : Option ℕ → Choice → List ℕ → List ℕ → Type 0
-IsMixedPicture None choice file picture = ⊥
+IsMixedPicture None choice file picture = ShowsSystemsInSvg choice file picture
 IsMixedPicture (Some width) choice file picture = ShowsSystems choice file width picture
+
+abbrev pub DrawsMixedFile : Chart → List ℕ → FileAnswer → List ℕ → Type 0
+DrawsMixedFile chart file answer bytes =
+    ((answer ≡ Written) × HasOfSystems chart.choice file true × IsMixedPicture chart.width chart.choice file bytes)
+    ⊎ ((answer ≡ NoneChosen) × HasOfSystems chart.choice file false × (bytes ≡ []))
 
 -- a picture of what is chosen of a file
 abbrev pub IsPictureOf : Chart → FileTable → List ℕ → Type 0
@@ -63,4 +58,4 @@ IsPictureOf chart (OfSystems t) picture = IsMixedPicture chart.width chart.choic
 -- the same of a file, whatever its label and its time lines
 abbrev pub DrawsTable : Chart → FileTable → TimeLines → LabelView → FileAnswer → List ℕ → Type 0
 DrawsTable chart (OfGps t) w l answer bytes = DrawsFile chart (table_text t) answer bytes
-DrawsTable chart (OfSystems t) w l answer bytes = DrawsMixedFile chart.width chart.choice (mixed_table_text t) answer bytes
+DrawsTable chart (OfSystems t) w l answer bytes = DrawsMixedFile chart (mixed_table_text t) answer bytes

@@ -2,9 +2,9 @@
 -- this project's rule.
 use Rattle.std.specs.Prelude.{◌≡◌, ℕ, ◌≤◌, ◌<◌, ◌⊎◌, Bool, IsTrue, List, length, Option, Result, IfOk, IfErr, IfSome, IsErrOf}
 use Rattle.rtk_frame.specs.Stream.{with_more, TakesPart}
-use Rattle.rtk_streams.specs.Passed.{taken_of}
-use Rattle.rtk_streams.specs.declared.fault.ToolFault.{ToolFault}
-use Rattle.rtk_streams.specs.declared.fault.ToolFault.TheVariants.{TooLong, OutOfMemory, Output}
+use Rattle.rtk_commands.specs.Passed.{taken_of}
+use Rattle.rtk_commands.specs.declared.fault.ToolFault.{ToolFault}
+use Rattle.rtk_commands.specs.declared.fault.ToolFault.TheVariants.{TooLong, OutOfMemory, Output}
 use Rattle.rtk_commands.specs.declared.file_command.TheConstants.{CHECK_LIMIT}
 use Rattle.rtk_commands.specs.declared.file_answer.FileAnswer.{FileAnswer}
 use Rattle.rtk_commands.specs.Show.{IsBeforeOutput}

@@ -1,8 +1,8 @@
 -- The commands `show` and `show --msm`.
 use Rattle.std.specs.Prelude.{◌≡◌, ℕ, ◌≤◌, Bool, List, length, Option, Some, None, IsSomeAnd}
 use Rattle.rtk_frame.specs.Frames.{frames}
-use Rattle.rtk_streams.specs.declared.fault.ToolFault.{ToolFault}
-use Rattle.rtk_streams.specs.declared.fault.ToolFault.TheVariants.{Input, TooLong, NotHex, OutOfMemory, Output}
+use Rattle.rtk_commands.specs.declared.fault.ToolFault.{ToolFault}
+use Rattle.rtk_commands.specs.declared.fault.ToolFault.TheVariants.{Input, TooLong, NotHex, OutOfMemory, Output}
 use Rattle.rtk_commands.specs.declared.showing.TheConstants.{SHOW_LIMIT}
 use Rattle.rtk_commands.specs.Hex.{capture_of}
 use Rattle.rtk_commands.specs.Shown.{IsLineOf, Shows, ShowsPart}

@@ -3,16 +3,17 @@
 ghost use Rattle.std.specs.Prelude.{◌≡◌, ◌≢◌, ◌⊎◌, IfOk, OnOk, OnErr, IfErr, Err, [], IsErrOf};
 ghost use Rattle.rtk_frame.specs.Stream.{CountRises};
 ghost use Rattle.rtk_cut.specs.Cut.{IsStepOrNone};
-ghost use Rattle.rtk_streams.specs.declared.fault.ToolFault.TheVariants.{OutOfMemory, Output};
+ghost use Rattle.rtk_commands.specs.declared.fault.ToolFault.TheVariants.{OutOfMemory, Output};
 ghost use Rattle.rtk_commands.specs.CutInput.{WritesPartOfFile, WritesFirstOfPartOfFile, CountsPartOfFile, WritesRestOfPart, WritesFirstOfRest};
 ghost use Rattle.rtk_commands.specs.FileTable.{text_of, HasItsLetter};
 
 use crate::any_table::AnyTable;
+use crate::before::Before;
+use crate::fault::ToolFault;
 use arrayvec::ArrayVec;
 use rtk_cut::{CutCounts, CutFault, Part};
 use rtk_frame::{Sink, StreamFault};
 use rtk_label::PLAIN_FRONT;
-use rtk_streams::{Before, ToolFault};
 use std::alloc::Global;
 use std::marker::{Brand, Model, PhantomData};
 

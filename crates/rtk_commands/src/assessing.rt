@@ -6,13 +6,13 @@ ghost use Rattle.rtk_commands.specs.FileTable.{text_of, HasItsLetter};
 ghost use Rattle.rtk_commands.specs.WithLabel.{MakesOfFile, WritesOfTable};
 
 use crate::any_table::AnyTable;
+use crate::fault::ToolFault;
 use crate::file_answer::FileAnswer;
 use crate::file_command::FileCommand;
 use crate::rendered::{Rendered, write_rendered};
 use crate::with_label::table_with_label;
 use rtk_frame::Sink;
 use rtk_quality::{Form, mixed_quality, quality};
-use rtk_streams::ToolFault;
 use std::alloc::{AllocError, Global};
 
 // The numbers of a file.

@@ -2,19 +2,21 @@
 
 ghost use Rattle.std.specs.Prelude.{◌≡◌, IfOk};
 ghost use Rattle.std.specs.Option.{ForSome};
-ghost use Rattle.rtk_commands.specs.ChartInput.{IsWidth, IsPicture, DrawsFile, DrawsSystems, DrawsMixedFile, DrawsTable};
+ghost use Rattle.rtk_commands.specs.ChartInput.{IsWidth, IsPicture, IsMixedPicture, DrawsFile, DrawsMixedFile, DrawsTable};
 ghost use Rattle.rtk_commands.specs.FileTable.{text_of, HasItsLetter};
 ghost use Rattle.rtk_commands.specs.WithLabel.{MakesOfFile, WritesOfTable};
 
 use crate::any_table::AnyTable;
+use crate::fault::ToolFault;
 use crate::file_answer::FileAnswer;
 use crate::file_command::FileCommand;
 use crate::rendered::{Rendered, write_rendered};
 use crate::with_label::table_with_label;
-use rtk_chart::{Choice, chosen_svg, chosen_text, is_there, is_there_of_any, mixed_chart_text};
+use rtk_chart::{
+    Choice, chosen_svg, chosen_text, is_there, is_there_of_any, mixed_chart_svg, mixed_chart_text,
+};
 use rtk_frame::Sink;
 use rtk_rinex::{MixedTextTable, TextTable};
-use rtk_streams::ToolFault;
 use std::alloc::{AllocError, Global};
 
 /// The command `chart`.
@@ -58,17 +60,31 @@ fn picture_if_any(
     })
 }
 
-// The picture in characters of a table of any systems, if it has something of what is chosen.
-fn systems_if_any(
+// The picture of a table of any systems.
+fn mixed_picture_of(
     alloc: Global,
     table: &MixedTextTable<'_>,
-    choice: &Choice,
-    width: u16,
-) -> Result<Rendered, AllocError>
-    requires { IsWidth width }
-    ensures { IfOk result (λ picture. DrawsSystems width choice.now table.now.text picture.answer picture.bytes.items) }
+    chart: &Chart,
+) -> Result<Vec<u8>, AllocError>
+    requires { ForSome chart.now.width IsWidth }
+    ensures { IfOk result (λ picture. IsMixedPicture chart.now.width chart.now.choice table.now.text picture.items) }
 {
-    if !is_there_of_any(table, choice) {
+    match chart.width {
+        Some(width) => mixed_chart_text(alloc, table, &chart.choice, width),
+        None => mixed_chart_svg(alloc, table, &chart.choice),
+    }
+}
+
+// The same, if the table has something of what is chosen.
+fn mixed_picture_if_any(
+    alloc: Global,
+    table: &MixedTextTable<'_>,
+    chart: &Chart,
+) -> Result<Rendered, AllocError>
+    requires { ForSome chart.now.width IsWidth }
+    ensures { IfOk result (λ picture. DrawsMixedFile chart.now table.now.text picture.answer picture.bytes.items) }
+{
+    if !is_there_of_any(table, &chart.choice) {
         return Ok(Rendered {
             answer: FileAnswer::NoneChosen,
             bytes: Vec::new(alloc),
@@ -76,23 +92,8 @@ fn systems_if_any(
     }
     Ok(Rendered {
         answer: FileAnswer::Written,
-        bytes: mixed_chart_text(alloc, table, choice, width)?,
+        bytes: mixed_picture_of(alloc, table, chart)?,
     })
-}
-
-// The picture of a table of any systems. There is none in SVG.
-fn picture_of_systems(
-    alloc: Global,
-    table: &MixedTextTable<'_>,
-    chart: &Chart,
-) -> Result<Rendered, AllocError>
-    requires { ForSome chart.now.width IsWidth }
-    ensures { IfOk result (λ picture. DrawsMixedFile chart.now.width chart.now.choice table.now.text picture.answer picture.bytes.items) }
-{
-    match chart.width {
-        Some(width) => systems_if_any(alloc, table, &chart.choice, width),
-        None => Ok(Rendered::other_systems(alloc)),
-    }
 }
 
 // The picture of a file.
@@ -107,7 +108,7 @@ fn picture_of_file(
 {
     match table {
         AnyTable::Gps(table) => picture_if_any(alloc, table, chart),
-        AnyTable::Mixed(table) => picture_of_systems(alloc, table, chart),
+        AnyTable::Mixed(table) => mixed_picture_if_any(alloc, table, chart),
     }
 }
 

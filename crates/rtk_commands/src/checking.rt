@@ -3,21 +3,22 @@
 
 ghost use Rattle.std.specs.Prelude.{◌≡◌, ◌≢◌, ◌++◌, Err, IfOk, OnOk, IfErr, IsErrOf, Decides};
 ghost use Rattle.rtk_frame.specs.Stream.{CountRises};
-ghost use Rattle.rtk_streams.specs.Input.{GivesText, ReadsWhole};
+ghost use Rattle.rtk_commands.specs.Input.{GivesText, ReadsWhole};
 ghost use Rattle.rtk_rinex.specs.CauseText.{cause_text};
 ghost use Rattle.rtk_commands.specs.FileTable.{records_of, lines_of};
 ghost use Rattle.rtk_commands.specs.CheckInput.{valid_text, check_fault_text, WritesVerdict, ChecksText, ChecksPartOf};
-ghost use Rattle.rtk_streams.specs.declared.fault.ToolFault.TheVariants.{Output};
+ghost use Rattle.rtk_commands.specs.declared.fault.ToolFault.TheVariants.{Output};
 ghost use Rattle.rtk_commands.specs.declared.file_answer.FileAnswer.TheVariants.{Written};
 
 use crate::any_table::{AnyTable, check_any};
+use crate::fault::ToolFault;
 use crate::file_answer::FileAnswer;
 use crate::file_command::{CHECK_LIMIT, FileCommand};
+use crate::input::read_whole;
 use crate::rendered::{Rendered, write_rendered};
 use rtk_frame::{Sink, Source, write_all};
 use rtk_message::put_named;
 use rtk_rinex::{Cause, CheckFault};
-use rtk_streams::{ToolFault, read_whole};
 use std::alloc::{AllocError, Global};
 
 fn valid_line(alloc: Global, table: &AnyTable<'_>) -> Result<Vec<u8>, AllocError>

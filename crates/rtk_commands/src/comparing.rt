@@ -1,18 +1,19 @@
 //! The command `compare`: what a new file of a station lacks of an old one.
 
 ghost use Rattle.std.specs.Prelude.{◌≡◌, ◌≤◌, if◌then◌else◌, ℕ, List, IfOk};
-ghost use Rattle.rtk_streams.specs.declared.exit_status.TheConstants.{DONE, NOT_VALID};
+ghost use Rattle.rtk_commands.specs.declared.exit_status.TheConstants.{DONE, NOT_VALID};
 ghost use Rattle.rtk_compare.specs.Differences.{HasFindings};
 ghost use Rattle.rtk_commands.specs.CompareInput.{IsPartedMixed, lines_of_labels, ComparesTexts};
 
+use crate::exit_status::{DONE, NOT_VALID, fail, fail_to_open};
+use crate::fault::ToolFault;
 use crate::file_command::CHECK_LIMIT;
+use crate::files::{open_input, standard_output};
+use crate::input::read_through;
 use crate::with_label::{LabelledMixed, mixed_with_label};
 use rtk_compare::{Findings, Form, answer_text, compare, compare_labels};
 use rtk_label::Label;
 use rtk_rinex::CheckFault;
-use rtk_streams::{
-    DONE, NOT_VALID, ToolFault, fail, fail_to_open, open_input, read_through, standard_output,
-};
 use std::alloc::{AllocError, Global};
 use std::fs::Files;
 use std::io::Write;

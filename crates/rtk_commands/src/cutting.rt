@@ -5,16 +5,16 @@ ghost use Rattle.rtk_frame.specs.Stream.{CountRises};
 ghost use Rattle.rtk_cut.specs.Cut.{IsStepOrNone};
 ghost use Rattle.rtk_commands.specs.CutInput.{CountsPartOfFile, WritesLabelledPart, WritesFirstOfLabelledPart};
 ghost use Rattle.rtk_commands.specs.FileTable.{text_of, HasItsLetter};
-ghost use Rattle.rtk_streams.specs.declared.fault.ToolFault.TheVariants.{OutOfMemory, Output};
+ghost use Rattle.rtk_commands.specs.declared.fault.ToolFault.TheVariants.{OutOfMemory, Output};
 
 use crate::after_front::cut_rest;
 use crate::due_lines::lines_of_part;
+use crate::fault::ToolFault;
 use crate::file_answer::FileAnswer;
 use crate::file_command::FileCommand;
 use crate::with_label::{LabelledTable, table_with_label};
 use rtk_cut::{CutCounts, Part};
 use rtk_frame::Sink;
-use rtk_streams::ToolFault;
 use std::alloc::Global;
 
 /// Writes the part of a table with a label, and with its own time lines if the file has such lines.

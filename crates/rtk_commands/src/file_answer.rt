@@ -1,9 +1,9 @@
 //! What a command of a file answers, and what it says of it.
 
+use crate::exit_status::{DONE, NOT_VALID, REFUSED};
 use rtk_cut::CutCounts;
 use rtk_message::System;
 use rtk_rinex::CheckFault;
-use rtk_streams::{DONE, NOT_VALID, REFUSED};
 
 /// What came of a text that was read whole.
 #[derive(Clone, Copy, Debug, PartialEq, Eq)]
@@ -23,8 +23,6 @@ pub enum FileAnswer {
     NoneChosen,
     /// Nothing is written: the file has no code of this system, which is to be kept.
     Absent(System),
-    /// Nothing is written: the file has other systems than GPS, which `chart` draws in characters alone.
-    OtherSystems,
 }
 
 // The letter of a system in a file of RINEX.
@@ -77,10 +75,6 @@ impl FileAnswer {
             FileAnswer::Absent(system) => {
                 let letter = letter_of(system);
                 let _printed = eprintln!(rt; "rtcm2rinex: the file has no codes of {letter}");
-                NOT_VALID
-            }
-            FileAnswer::OtherSystems => {
-                let _printed = eprintln!(rt; "rtcm2rinex: other systems than GPS: add --text");
                 NOT_VALID
             }
         }

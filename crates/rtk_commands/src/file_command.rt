@@ -4,20 +4,22 @@
 ghost use Rattle.std.specs.Prelude.{◌≡◌, ◌≢◌, ◌⊎◌, ◌≤◌, ◌<◌, ℕ, List, Bool, Ok, Err, length, IsTrue, IfOk, IfErr, IfSome, IsOk, IsErrOf};
 ghost use Rattle.std.specs.Io.KnownBytes.{Keeps, append_known};
 ghost use Rattle.rtk_frame.specs.Stream.{CountRises};
-ghost use Rattle.rtk_streams.specs.Input.{GivesText, ReadsWhole};
-ghost use Rattle.rtk_streams.specs.Passed.{taken_of};
-ghost use Rattle.rtk_streams.specs.declared.exit_status.TheConstants.{NOT_VALID};
-ghost use Rattle.rtk_streams.specs.declared.fault.ToolFault.TheVariants.{TooLong, OutOfMemory, Output};
+ghost use Rattle.rtk_commands.specs.Input.{GivesText, ReadsWhole};
+ghost use Rattle.rtk_commands.specs.Passed.{taken_of};
+ghost use Rattle.rtk_commands.specs.declared.exit_status.TheConstants.{NOT_VALID};
+ghost use Rattle.rtk_commands.specs.declared.fault.ToolFault.TheVariants.{TooLong, OutOfMemory, Output};
 ghost use Rattle.rtk_commands.specs.declared.file_answer.FileAnswer.{FileAnswer};
 ghost use Rattle.rtk_commands.specs.FileText.{WritesAll, WritesFirst, AnswersText, AnswersPartOf, LeavesPartOf, IsFileOutcome};
 ghost use Rattle.rtk_commands.specs.Show.{IsBeforeOutput};
 
+use crate::before::Before;
+use crate::exit_status::{fail, fail_to_open};
+use crate::fault::ToolFault;
 use crate::file_answer::FileAnswer;
+use crate::files::{GATHERED, Reads, Writes, open_input, sink, standard_output};
+use crate::input::read_whole;
+use crate::resuming::Resumed;
 use rtk_frame::{Sink, Source, StreamFault};
-use rtk_streams::{
-    Before, GATHERED, Reads, Resumed, ToolFault, Writes, fail, fail_to_open, open_input,
-    read_whole, sink, standard_output,
-};
 use std::alloc::Global;
 use std::fs::Files;
 use std::io;

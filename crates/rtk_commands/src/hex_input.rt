@@ -2,10 +2,10 @@
 
 ghost use Rattle.std.specs.Prelude.{◌≡◌, ◌≢◌, Some, IfOk, IfErr, IsErrOf, IsNone};
 ghost use Rattle.rtk_commands.specs.Hex.{is_white_space, bytes_of_hex};
-ghost use Rattle.rtk_streams.specs.declared.fault.ToolFault.TheVariants.{NotHex, OutOfMemory};
+ghost use Rattle.rtk_commands.specs.declared.fault.ToolFault.TheVariants.{NotHex, OutOfMemory};
 
+use crate::fault::ToolFault;
 use hex::FromHexError;
-use rtk_streams::ToolFault;
 use std::alloc::Global;
 
 // A byte that may stand between hex digits and is left out.

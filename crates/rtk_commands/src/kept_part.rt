@@ -6,10 +6,11 @@ ghost use Rattle.rtk_cut.specs.Cut.{IsStepOrNone};
 ghost use Rattle.rtk_commands.specs.FileTable.{IsTextOfSomeFile};
 ghost use Rattle.rtk_commands.specs.FileText.{WritesAll, WritesFirst};
 ghost use Rattle.rtk_commands.specs.KeptPartInput.{IsTextOfSystems, HasNoneAbsent, CutsPlain, CutsKeptOfPlain};
-ghost use Rattle.rtk_streams.specs.declared.fault.ToolFault.TheVariants.{OutOfMemory, Output};
+ghost use Rattle.rtk_commands.specs.declared.fault.ToolFault.TheVariants.{OutOfMemory, Output};
 
 use crate::any_table::check_any;
 use crate::cutting::cut_labelled;
+use crate::fault::ToolFault;
 use crate::file_answer::FileAnswer;
 use crate::file_command::FileCommand;
 use crate::with_label::{LabelledMixed, LabelledTable, mixed_with_label};
@@ -17,7 +18,6 @@ use rtk_cut::{KeptSystems, Part, first_absent, keep_systems, kept_files_are_tabl
 use rtk_frame::Sink;
 use rtk_label::{Label, TimeLines};
 use rtk_rinex::{MixedTextTable, gps_files_stay, types_tell_shifts};
-use rtk_streams::ToolFault;
 use std::alloc::Global;
 
 /// The command `cut` of some systems of a file.

@@ -1,12 +1,12 @@
 //! The command `label`: a file with more fields in its header.
 
 use crate::due_lines::lines_of_file;
+use crate::fault::ToolFault;
 use crate::file_answer::FileAnswer;
 use crate::file_command::FileCommand;
 use crate::with_label::table_with_label;
 use rtk_frame::Sink;
 use rtk_label::{Label, TimeLines};
-use rtk_streams::ToolFault;
 use std::alloc::Global;
 
 /// What `label` writes into the header of a file.

@@ -1,23 +1,60 @@
-//! Laws of lines: a payload has one line, and equal lines of `check` tell equal numbers and causes;
-//! and laws of what is written.
+//! Laws of what readers give and writers hold; of lines, since a payload has one line, and equal lines of `check` tell
+//! equal numbers and causes; and of what is written.
 //!
-//! Each function here does nothing. Its contract is the law.
+//! Each function here does nothing. Its contract is the law. Proofs of other crates cite the facts of readers and
+//! writers from `proofs/PublicLaws.antt`.
 
-ghost use Rattle.std.specs.Prelude.{◌≡◌, ◌↔◌, ℕ, List};
+ghost use Rattle.std.specs.Prelude.{◌≡◌, ◌↔◌, ℕ, List, Option, true, IfSome};
+ghost use Rattle.std.specs.Io.KnownBytes.{Keeps};
 ghost use Rattle.rtk_frame.specs.Frames.{Frame};
+ghost use Rattle.rtk_frame.specs.Stream.{with_more};
 ghost use Rattle.rtk_message.specs.declared.accepted.Accepted.{Accepted};
 ghost use Rattle.rtk_message.specs.declared.msm_kind.MsmKind.TheVariants.{Msm4};
 ghost use Rattle.rtk_message.specs.Accepted.{only};
 ghost use Rattle.rtk_commands.specs.CheckLaws.{ValidTellsNumbers, FaultTextTellsFault, YesTellsNumbers, NoTellsFault, NoLineSaysBoth};
 ghost use Rattle.rtk_commands.specs.FileTable.{GpsTablesAreFiles};
+ghost use Rattle.rtk_commands.specs.Passed.{given_of, IsLeft, taken_of};
 ghost use Rattle.rtk_commands.specs.Shown.{IsLineOf, AreLinesBy, AreLinesOf};
 ghost use Rattle.rtk_commands.specs.ShownBySet.{IsLineBy};
 ghost use Rattle.rtk_commands.specs.WrittenLaws.{LineFollows, PictureFollows, NumbersFollow, PartFollows, LabelFollows, NothingGivesFile};
+ghost use Rattle.rtk_commands.specs.declared.files.Capture.TheVariants.{File, Stdin};
 
+use crate::files::Capture;
+use crate::resuming::Resumed;
 use rtk_label::{blank_is_file, front_is_changed, mixed_label_laws};
 use rtk_rinex::{
     one_fault, one_mixed_fault, text_of_a_mixed_table, text_of_a_table, types_tell_shifts,
 };
+use std::io::Read;
+
+/// A reader whose bytes were known gave all of them, in order, once it met its end. `had` tells by
+/// their numbers what readers had.
+pub fn known_bytes_are_given()
+    ensures { (had : ℕ → Option (List ℕ)) (number at : ℕ) (first last : Option (List ℕ)) (text : List ℕ)
+        → Keeps (had number) first → IsLeft (had at) last true
+        → given_of at (had at) last ≡ with_more (given_of number (had number) first) text
+        → IfSome (had number) (λ all. all ≡ text) }
+{}
+
+/// A writer whose bytes were known holds them, and after them what it took. `held` tells by their
+/// numbers what writers held.
+pub fn known_bytes_are_held()
+    ensures first { (held first : Option (List ℕ)) → Keeps held first → taken_of held first ≡ held }
+    ensures last { (held : ℕ → Option (List ℕ)) (number at : ℕ) (first last : Option (List ℕ)) (more : List ℕ)
+        → Keeps (held number) first
+        → taken_of (held at) last ≡ with_more (taken_of (held number) first) more
+        → taken_of (held number) last ≡ with_more (held number) more }
+{}
+
+/// A capture of the program has the bytes of its file or of standard input, also where interrupted
+/// reads are made again. So what is proved of known bytes holds of those of the program, if they are
+/// known.
+pub fn captures_have_their_bytes<F: Read + Drop, I: Read + Drop>()
+    ensures file { (file : F)
+        → ⟦<Resumed<Capture<F, I>> as Read>⟧.remaining (record { inner = File file }) ≡ F.remaining file }
+    ensures stdin { (stdin : I)
+        → ⟦<Resumed<Capture<F, I>> as Read>⟧.remaining (record { inner = Stdin stdin }) ≡ I.remaining stdin }
+{}
 
 /// A payload has one line, in `show` and by each set of messages.
 pub fn one_line_of_a_payload()

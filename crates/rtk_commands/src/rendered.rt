@@ -2,12 +2,12 @@
 
 ghost use Rattle.std.specs.Prelude.{◌≡◌, ◌≢◌, ◌⊎◌, [], Err, IfOk, IfErr, IsErrOf, IsOkAnd};
 ghost use Rattle.rtk_frame.specs.Stream.{CountRises, with_more, TakesPart};
-ghost use Rattle.rtk_streams.specs.declared.fault.ToolFault.TheVariants.{OutOfMemory, Output};
+ghost use Rattle.rtk_commands.specs.declared.fault.ToolFault.TheVariants.{OutOfMemory, Output};
 
+use crate::fault::ToolFault;
 use crate::file_answer::FileAnswer;
 use rtk_frame::{Sink, write_all};
 use rtk_rinex::CheckFault;
-use rtk_streams::ToolFault;
 use std::alloc::{AllocError, Global};
 
 /// An answer, and all bytes that are written with it.
@@ -25,17 +25,6 @@ impl Rendered {
     {
         Rendered {
             answer: FileAnswer::Refused(fault),
-            bytes: Vec::new(alloc),
-        }
-    }
-
-    /// The file has other systems than GPS, and nothing is written.
-    pub(crate) fn other_systems(alloc: Global) -> Rendered
-        ensures answer { result.answer ≡ FileAnswer.OtherSystems }
-        ensures bytes { result.bytes.items ≡ [] }
-    {
-        Rendered {
-            answer: FileAnswer::OtherSystems,
             bytes: Vec::new(alloc),
         }
     }

@@ -4,23 +4,24 @@ ghost use Rattle.std.specs.Prelude.{◌≡◌, ◌≢◌, ◌⊎◌, ℕ, ◌≤
 ghost use Rattle.std.specs.Io.KnownBytes.{Keeps};
 ghost use Rattle.rtk_frame.specs.Frames.{frames};
 ghost use Rattle.rtk_frame.specs.Stream.{CountRises, with_more, TakesPart};
-ghost use Rattle.rtk_streams.specs.Input.{GivesText, ReadsWhole};
-ghost use Rattle.rtk_streams.specs.Outcome.{IsOutcome};
+ghost use Rattle.rtk_commands.specs.Input.{GivesText, ReadsWhole};
+ghost use Rattle.rtk_commands.specs.Outcome.{IsOutcome};
 ghost use Rattle.rtk_commands.specs.Hex.{capture_of};
 ghost use Rattle.rtk_commands.specs.Show.{ShowsTextBy, ShowsPartOfBy, ShowsText, ShowsPartOf, IsBeforeOutput};
 ghost use Rattle.rtk_commands.specs.Shown.{AreLinesOf, Shows, ShowsPart};
 ghost use Rattle.rtk_commands.specs.ShownBySet.{IsLineBy};
-ghost use Rattle.rtk_streams.specs.declared.fault.ToolFault.TheVariants.{NotHex, OutOfMemory, Output};
+ghost use Rattle.rtk_commands.specs.declared.fault.ToolFault.TheVariants.{NotHex, OutOfMemory, Output};
 
+use crate::before::Before;
+use crate::exit_status::{DONE, FAILED, fail, fail_to_open};
+use crate::fault::ToolFault;
+use crate::files::{Reads, Writes, open_input, standard_output};
 use crate::hex_input::decode_hex;
+use crate::input::read_whole;
 use crate::payload_line::put_payload_line;
 use rtk_frame::laws::frames_of_a_text;
 use rtk_frame::{Frames, Sink, Source, write_all};
 use rtk_message::{Accepted, AnyDecoder, MsmKind};
-use rtk_streams::{
-    Before, DONE, FAILED, Reads, ToolFault, Writes, fail, fail_to_open, open_input, read_whole,
-    standard_output,
-};
 use std::alloc::Global;
 use std::fs::Files;
 use std::io::{Read, Write};

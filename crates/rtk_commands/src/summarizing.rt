@@ -3,15 +3,15 @@
 ghost use Rattle.std.specs.Prelude.{◌≡◌, ◌≢◌, ℕ, ◌≤◌, ◌+◌, OnOk, OnErr, IfErr, IfSome, IsErrOf};
 ghost use Rattle.std.specs.Io.KnownBytes.{Keeps};
 ghost use Rattle.rtk_survey.specs.Summary.{Summarizes, SummarizesInPart, HasRisenBy};
-ghost use Rattle.rtk_streams.specs.Passed.{taken_of};
+ghost use Rattle.rtk_commands.specs.Passed.{taken_of};
 ghost use Rattle.rtk_commands.specs.Summarized.{SummarizesText, SummarizesPartOf};
-ghost use Rattle.rtk_streams.specs.Steps.ReadLimits.{most_reads};
+ghost use Rattle.rtk_commands.specs.Steps.ReadLimits.{most_reads};
 
+use crate::before::Before;
+use crate::exit_status::{DONE, FAILED, fail, fail_to_end, fail_to_open};
+use crate::fault::ToolFault;
+use crate::files::{MOST_READS, Reads, Writes, open_input, standard_output};
 use rtk_frame::{Sink, Source};
-use rtk_streams::{
-    Before, DONE, FAILED, MOST_READS, Reads, ToolFault, Writes, fail, fail_to_end, fail_to_open,
-    open_input, standard_output,
-};
 use rtk_survey::SurveyFault;
 use std::alloc::Global;
 use std::fs::Files;

@@ -1,5 +1,5 @@
 -- What a window of GPS answers, with its cells as signals of any system.
-use Rattle.std.proofs.Common.{◌≡◌, ◌≢◌, ◌∙◌, ◌↔◌, filter, ℕ, ◌+◌, ◌-◌, ◌*◌, ◌<◌, ℤ, Bool, true, false, cond, List, [], ◌∷◌, ◌++◌, map, take, Option, None, Some, inl, inr, refl, ap, sym, subst, arith, nat_eq, not}
+use Rattle.std.proofs.Common.{◌≡◌, ◌≢◌, ◌∙◌, ◌↔◌, filter, ℕ, ◌+◌, ◌-◌, ◌*◌, ◌<◌, ℤ, Bool, true, false, cond, List, [], ◌∷◌, ◌++◌, map, take, Option, None, Some, inl, inr, refl, ap, sym, subst, arith, nat_eq}
 use Rattle.std.specs.Prelude.{All, IsTrue, option_map, option_to_list, nat_lt, nat_le, ◌==◌, ◌||◌, ◌&&◌, not}
 use Rattle.std.specs.List.{list_all, list_any}
 use Rattle.std.proofs.lemmas.Bool.{cases_order, cases_lt, cases_Bool, and_parts, both_ways, eqb-true}

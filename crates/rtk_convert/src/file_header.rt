@@ -30,7 +30,7 @@ fn told_at(setup: &Setup, first: GpsMs) -> Option<Glonass>
     Glonass::new(told.channels(), leap_seconds)
 }
 
-// Returns a head that tells this of GLONASS, and else the same.
+// Returns a head that tells this of GLONASS, and is the same else.
 fn head_with(head: &MixedHead, told: Glonass) -> MixedHead
     requires { has_glonass head.now.listed ≡ true }
     ensures { result ≡ record head.now { glonass = Some told } }
@@ -41,7 +41,7 @@ fn head_with(head: &MixedHead, told: Glonass) -> MixedHead
     let Ok(other) = MixedHead::new(marker, head.codes(), Some(told), made) else {
         unreachable!()
     };
-    other
+    other.with_doppler_if(head.has_doppler())
 }
 
 /// Returns the header of the file of a setup, whose first record is at `first`.

@@ -138,7 +138,6 @@ impl RowLines for RecordLines {
 }
 
 impl RowLines for MixedRecordLines {
-    ghost use Rattle.std.specs.Prelude.{Unit};
     ghost use Rattle.rtk_rinex.specs.MixedRecord.{HasOpenMixedLine};
     ghost use Rattle.rtk_convert.specs.Steps.RowLines.{HasMixedRows};
 

@@ -51,10 +51,7 @@ pub(crate) fn kept_head(kept: KeptSystems, head: &MixedHead) -> Option<MixedHead
     let Ok(narrow) = MixedHead::new(marker, codes.as_slice(), glonass, made) else {
         unreachable!()
     };
-    if head.has_doppler() {
-        return Some(narrow.with_doppler());
-    }
-    Some(narrow)
+    Some(narrow.with_doppler_if(head.has_doppler()))
 }
 
 // Is some of the codes of a system?

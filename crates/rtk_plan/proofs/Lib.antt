@@ -1,3 +1,4 @@
+mod ClockReachLemmas
 mod CodeLemmas
 mod EndsLemmas
 mod OnePlanLemmas

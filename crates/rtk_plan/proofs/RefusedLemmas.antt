@@ -1,5 +1,5 @@
 -- Why captures have no plan.
-use Rattle.std.proofs.Common.{◌≡◌, ◌∙◌, ℕ, Bool, List, inr, [], None, Result, Err, IsErrAnd, IfErr, Option, sym, ap, subst}
+use Rattle.std.proofs.Common.{◌≡◌, ◌∙◌, ℕ, Bool, List, inr, [], None, Result, Ok, Err, IsErrAnd, IfErr, Option, sym, ap, subst}
 use Rattle.std.proofs.lemmas.Result.{err_from_is_err_and}
 use Rattle.rtk_obs.specs.declared.any_code.AnyCode.{AnyCode}
 use Rattle.rtk_setup.specs.declared.system_kinds.SystemKinds.{SystemKinds}
@@ -22,6 +22,11 @@ use Rattle.rtk_plan.specs.declared.wanted.Wanted.{Wanted}
 refused-also : (IsCause IsOther : Refusal → Type 0) (fault : PlanFault) → ((refusal : Refusal) → IsCause refusal → IsOther refusal) → IfRefused IsCause fault → IfRefused IsOther fault
 refused-also IsCause IsOther (Refused refusal list) also is = also refusal is
 refused-also IsCause IsOther OutOfMemory also is = tt
+
+pub refused-by : {T : Type 0} (IsCause IsOther : Refusal → Type 0) (r : Result T PlanFault) → ((refusal : Refusal) → IsCause refusal → IsOther refusal)
+    → IfErr r (IfRefused IsCause) → IfErr r (IfRefused IsOther)
+refused-by IsCause IsOther (Ok x) also is = tt
+refused-by IsCause IsOther (Err fault) also is = refused-also IsCause IsOther fault also is
 
 -- the exit of a `?` by a cause that is another one too
 pub exit-also : {T : Type 0} (IsCause IsOther : Refusal → Type 0) (told : PlanFault) (r : Result T PlanFault) → IsErrAnd r (λ (fault : PlanFault). fault ≡ told)

@@ -1,7 +1,9 @@
--- Sums over satellites, one term after another.
-use Rattle.std.proofs.Common.{◌≡◌, ◌+◌, ℕ, zero, suc, List, [], ◌∷◌, ◌++◌, refl, sym, ap, ◌∙◌, arith}
+-- Sums over satellites, one term after another, and tests of codes.
+use Rattle.std.proofs.Common.{◌≡◌, ◌<◌, ◌+◌, ◌||◌, ℕ, zero, suc, Bool, true, false, List, [], ◌∷◌, ◌++◌, length, get_or, refl, sym, ap, ◌∙◌, arith}
+use Rattle.std.proofs.lemmas.List.Folds.{list_any-append, list_any_at}
+use Rattle.std.proofs.lemmas.List.FromFn.{length-range_with_len, get_or-range_with_len}
 use Rattle.std.proofs.lemmas.List.Sums.{sum_by-cons, sum_by-append}
-use Rattle.std.specs.List.{sum_by, range_with_len}
+use Rattle.std.specs.List.{list_any, sum_by, range_with_len}
 
 range-suc : (a n : ℕ) → range_with_len a (suc n) ≡ range_with_len a n ++ (a + n) ∷ []
 range-suc a zero =
@@ -20,3 +22,23 @@ sum-more f a n k next at is =
     let nil : sum_by f [] ≡ 0 = refl in
     let here : f (a + n) ≡ f k = ap f (sym at) in
     omega (arith, longer, last, alone, nil, here)
+
+-- ---- a test of numbers from 0
+
+-- a number passes it
+pub any-at : (test : ℕ → Bool) (n k : ℕ) → k < n → test k ≡ true → list_any test (range_with_len 0 n) ≡ true
+any-at test n k within holds =
+    let here : 0 + k ≡ k = omega arith in
+    let at : get_or (range_with_len 0 n) k 0 ≡ k = get_or-range_with_len 0 n k 0 within ∙ here in
+    let inside : k < length (range_with_len 0 n) = omega (arith, within, length-range_with_len 0 n) in
+    list_any_at test (range_with_len 0 n) k 0 inside (ap test at ∙ holds)
+
+-- nor does the next one
+pub any-more : (test : ℕ → Bool) (n : ℕ) → list_any test (range_with_len 0 n) ≡ false → test n ≡ false → list_any test (range_with_len 0 (n + 1)) ≡ false
+any-more test n none fails =
+    let e : n + 1 ≡ suc n = omega arith in
+    let here : 0 + n ≡ n = omega arith in
+    ap (λ (m : ℕ). list_any test (range_with_len 0 m)) e
+    ∙ ap (λ (xs : List ℕ). list_any test xs) (range-suc 0 n)
+    ∙ list_any-append test (range_with_len 0 n) ((0 + n) ∷ [])
+    ∙ ap (λ (b : Bool). b || (test (0 + n) || false)) none ∙ ap (λ (b : Bool). b || false) (ap test here ∙ fails)

@@ -8,6 +8,7 @@ use Rattle.std.proofs.lemmas.List.{length-set, length-append, length-map}
 use Rattle.std.proofs.lemmas.List.Sums.{sum_by-cons, sum_by-append}
 use Rattle.rtk_captures.specs.Joining.{given_at, comes_before, put_in_order, in_order_after, in_order, link_place, ends_with, links_after, links_of}
 use Rattle.rtk_captures.specs.Kept.{is_heard, is_heard_at, places_from, kept_captures, empty_captures}
+use Rattle.rtk_plan.specs.LeftOut.{left_out_lines}
 use Rattle.rtk_plan.specs.KnownLines.{leaves_long, skipped_line, skipped_lines, epochs_lines, not_taken, lines_behind_late, late_count_line, known_lines}
 use Rattle.rtk_survey.specs.Surveys.{places_of}
 use Rattle.rtk_captures.specs.Linking.{kept_in_order, captures_of_link, is_nonempty, joined_links, links_found, one_place, links_as_given, AreLinksOf}
@@ -333,9 +334,12 @@ left-out-told names ss plan known late by_stray place lasts some =
     let line = line-of (skipped_line names plan.captures.items) plan.skipped.items place some in
     let first = before-and-after [] skipped epochs (skipped_line names plan.captures.items place) line in
     let last = before-and-after [] (skipped ++ epochs) rest (skipped_line names plan.captures.items place) first in
-    let whole = before-and-after (known.first.items ++ late_count_line late by_stray known.window) ((skipped ++ epochs) ++ rest) [] (skipped_line names plan.captures.items place) last in (
+    let left : List ℕ = left_out_lines names ss plan in
+    let behind : List ℕ = ((skipped ++ epochs) ++ rest) ++ left in
+    let more = before-and-after [] ((skipped ++ epochs) ++ rest) left (skipped_line names plan.captures.items place) last in
+    let whole = before-and-after (known.first.items ++ late_count_line late by_stray known.window) behind [] (skipped_line names plan.captures.items place) more in (
       whole.0,
       whole.1,
       ap (λ (t : List ℕ). (known.first.items ++ late_count_line late by_stray known.window) ++ t) lasts
-          ∙ sym (append-nil ((known.first.items ++ late_count_line late by_stray known.window) ++ ((skipped ++ epochs) ++ rest))) ∙ whole.2,
+          ∙ sym (append-nil ((known.first.items ++ late_count_line late by_stray known.window) ++ behind)) ∙ whole.2,
     )

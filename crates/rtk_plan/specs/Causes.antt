@@ -6,17 +6,18 @@ use Rattle.rtk_obs.specs.declared.any_code.AnyCode.{AnyCode}
 use Rattle.rtk_obs.specs.Dating.{IsReference}
 use Rattle.rtk_obs.specs.SatelliteIndex.{letter_of}
 use Rattle.rtk_setup.specs.Rates.{without_rates}
+use Rattle.rtk_setup.specs.Setup.{SetupView}
 use Rattle.rtk_setup.specs.declared.system_kinds.SystemKinds.{SystemKinds}
 use Rattle.rtk_survey.specs.declared.survey.CaptureSurvey.{CaptureSurvey}
 use Rattle.rtk_captures.specs.declared.station_capture.StationCapture.{StationCapture}
 use Rattle.rtk_captures.specs.Linking.{AreLinksOf}
-use Rattle.rtk_plan.specs.Plan.{IsChosenStation, kinds_found, AreSystemsTaken, AreCodesChosen, AreLeapSecondsOf, IsNear1012, codes_taken_from}
+use Rattle.rtk_plan.specs.Plan.{IsChosenStation, kinds_found, AreSystemsTaken, AreCodesChosen, AreLeapSecondsOf, IsNear1012, HaveFarClocks, IsSetupFor, codes_taken_from}
 use Rattle.rtk_captures.specs.Dating.{captures_of, IsNearOf}
 use Rattle.rtk_captures.specs.Positions.{some_are_far}
 use Rattle.rtk_systems.specs.Values.{codes_in_captures}
 use Rattle.rtk_systems.specs.declared.system_flags.SystemFlags.{SystemFlags}
 use Rattle.rtk_captures.specs.declared.refusal.Refusal.{Refusal}
-use Rattle.rtk_captures.specs.declared.refusal.Refusal.TheVariants.{NoFrame, NoObservation, NoStation, SeveralStations, Empty, OutsideDates, NoCode, NoRates, TooManyLinks, PositionsDiffer}
+use Rattle.rtk_captures.specs.declared.refusal.Refusal.TheVariants.{NoFrame, NoObservation, NoStation, SeveralStations, Empty, OutsideDates, TooLong, NoCode, NoRates, TooManyLinks, PositionsDiffer}
 use Rattle.rtk_systems.specs.declared.values.TakenMessages.{TakenMessages}
 use Rattle.rtk_plan.specs.declared.wanted.Wanted.{Wanted}
 use Rattle.rtk_captures.specs.CaptureCauses.{IsStationCause, IsEmptyCause, IsDatingCause}
@@ -72,6 +73,11 @@ IsSetupCause ss links w station near other = ⊥
 abbrev pub has_frames : CaptureSurvey → Bool
 has_frames s = not (s.contents.frames == 0)
 
+-- a clock that gives no epoch goes further than the conversion of a station can date it
+abbrev pub AreClocksFar : List CaptureSurvey → Wanted → ℕ → Type 0
+AreClocksFar ss w station =
+    (links : List (List ℕ)) × ((made : ℕ) × ((s : SetupView) × IsSetupFor ss links w made s × HaveFarClocks ss w.near station s true))
+
 -- of captures that tell this of the station that is converted
 abbrev pub IsCaptureCause : List CaptureSurvey → Wanted → Bool → Bool → ℕ → List StationCapture → Refusal → Type 0
 IsCaptureCause ss w skip_empty as_given station cs (Empty n) = IsEmptyCause station cs skip_empty (Empty n)
@@ -79,6 +85,7 @@ IsCaptureCause ss w skip_empty as_given station cs NoCode =
     (links : List (List ℕ)) × AreLinksOf as_given w.near cs links × HasNoCodeNear ss links w station cs
 IsCaptureCause ss w skip_empty as_given station cs (NoRates letter) =
     (links : List (List ℕ)) × AreLinksOf as_given w.near cs links × HasNoRatesNear ss links w station letter cs
+IsCaptureCause ss w skip_empty as_given station cs TooLong = IsDatingCause w.near cs TooLong ⊎ AreClocksFar ss w station
 IsCaptureCause ss w skip_empty as_given station cs TooManyLinks =
     (links : List (List ℕ)) × AreLinksOf as_given w.near cs links × (16 < length links)
 IsCaptureCause ss w skip_empty as_given station cs PositionsDiffer = (as_given ≡ false) × (some_are_far cs ≡ true)

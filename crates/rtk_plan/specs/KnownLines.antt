@@ -4,13 +4,8 @@ use Rattle.std.specs.Borrow.{Bor}
 use Rattle.std.specs.List.{list_any, sum_by}
 use Rattle.std.specs.Option.{is_none}
 use Rattle.rtk_message.specs.declared.accepted.Accepted.{Accepted}
-use Rattle.rtk_message.specs.declared.msm_kind.MsmKind.{MsmKind}
-use Rattle.rtk_message.specs.declared.system.System.{System}
-use Rattle.rtk_message.specs.declared.system.System.TheVariants.{Gps, Glonass, Galileo, Beidou, Qzss, Sbas, Navic}
-use Rattle.rtk_obs.specs.AnyCode.{system_of, place_of}
-use Rattle.rtk_obs.specs.Code.{name_of, all_codes}
+use Rattle.rtk_message.specs.declared.system.System.TheVariants.{Sbas}
 use Rattle.rtk_obs.specs.declared.any_code.AnyCode.{AnyCode}
-use Rattle.rtk_obs.specs.declared.code.Code.{Code}
 use Rattle.rtk_setup.specs.Setup.{SetupView, taken_by, takes_1004, lists_system}
 use Rattle.rtk_survey.specs.CaptureDates.{counting}
 use Rattle.rtk_survey.specs.Counting.{shown_count}
@@ -24,14 +19,19 @@ use Rattle.rtk_survey.specs.declared.tellings.Tellings.{Tellings}
 use Rattle.rtk_survey.specs.declared.tellings.Told.{Told}
 use Rattle.rtk_captures.specs.CaptureNames.{capture_name, lines_by}
 use Rattle.rtk_systems.specs.ClockOffsets.{told_clock_lines}
-use Rattle.rtk_plan.specs.FewPhases.{has_few_phases}
-use Rattle.rtk_plan.specs.LeapLines.{other_leap_lines}
+use Rattle.rtk_plan.specs.ClockNotes.{all_clock_notes}
+use Rattle.rtk_systems.specs.DopplerLines.{doppler_lines_unless}
+use Rattle.rtk_plan.specs.FewPhases.{has_few_phases_of}
+use Rattle.rtk_plan.specs.LeapLines.{leap_lines}
+use Rattle.rtk_plan.specs.LeftOut.{left_out_lines}
 use Rattle.rtk_plan.specs.Plan.{taken_messages}
 use Rattle.rtk_survey.specs.Surveys.{places_of}
+use Rattle.rtk_captures.specs.FarDateLines.{far_date_line_in}
 use Rattle.rtk_captures.specs.Lists.{date_line, to_come_line, undated_line, stray_line, capture_line, name_line}
-use Rattle.rtk_systems.specs.MessageLines.{obs_1004_line, msm_lines, doppler_line_unless, sbas_line, all_unread}
+use Rattle.rtk_systems.specs.MessageLines.{obs_1004_line, msm_lines, sbas_line, all_unread}
 use Rattle.rtk_captures.specs.Positions.{no_position_line}
 use Rattle.rtk_plan.specs.Reported.{late_of}
+use Rattle.rtk_plan.specs.SaidCommand.{said_code}
 use Rattle.rtk_captures.specs.SpanLine.{span_line}
 use Rattle.rtk_captures.specs.StationCaptures.{dates_in, weeks_passed_over, others_passed_over, to_come_told}
 use Rattle.rtk_captures.specs.WaitingDates.{dates_without_epoch}
@@ -39,6 +39,7 @@ use Rattle.rtk_plan.specs.OtherEquipment.{equipment_notes}
 use Rattle.rtk_systems.specs.ToldChannels.{told_channel_lines}
 use Rattle.rtk_systems.specs.UncheckedSystems.{unchecked_system_lines}
 use Rattle.rtk_systems.specs.Values.{is_1012_given}
+use Rattle.rtk_systems.specs.declared.values.TakenMessages.{TakenMessages}
 use Rattle.rtk_plan.specs.WrittenFile.{written_span, gap_lines}
 use Rattle.rtk_plan.specs.declared.known_lines.Known.{Known}
 use Rattle.rtk_plan.specs.declared.planning.Plan.{Plan}
@@ -93,18 +94,19 @@ other_dates_of near name d = other_dates_if_any near name d.told d.span
 
 -- formula
 -- a date that is passed over since it is to come
-unfoldable pub date_to_come : UtcDate → List ℕ → List ℕ
-date_to_come d name = codes " other-date" ++ to_come_line d name
+unfoldable pub date_to_come : Told → List ℕ → List ℕ
+date_to_come t name = codes " other-date" ++ to_come_line t name
 
-abbrev pub other_to_come : Option UtcDate → List ℕ → List ℕ
+abbrev pub other_to_come : Option Told → List ℕ → List ℕ
 other_to_come None name = []
-other_to_come (Some d) name = date_to_come d name
+other_to_come (Some t) name = date_to_come t name
 
--- those of a capture: of its epochs; or if it has none, of an epoch at this moment; and one that is to come
+-- those of a capture: of its epochs; or if it has none, of an epoch at this moment; one that is to come; and one far from the
+-- epoch beside it
 abbrev pub other_dates_at : ℕ → ℕ → CaptureSurvey → List ℕ → List ℕ
 other_dates_at station near s name =
     other_dates_of near name (dates_in station s) ++ other_dates_of near name (dates_without_epoch station near s)
-    ++ other_to_come (to_come_told station s) name
+    ++ other_to_come (to_come_told station s) name ++ far_date_line_in station s name
 
 -- those of captures with these names
 abbrev pub all_other_dates : List (Bor (List ℕ)) → ℕ → ℕ → List CaptureSurvey → List ℕ
@@ -130,52 +132,39 @@ undated_lines (OtherEphemerides number) names cs = all_undated names cs
 
 -- formula
 -- a code whose satellites have more than twice as many phases in another one
-abbrev pub few_phases_line_if : Bool → Code → List ℕ
+abbrev pub few_phases_line_if : Bool → AnyCode → List ℕ
 few_phases_line_if has_few code =
-    if has_few then codes " few-phases " ++ name_of code ++ codes ": its satellites have more than twice as many in another code\n" else []
+    if has_few then codes " few-phases " ++ said_code code ++ codes ": its satellites have more than twice as many in another code\n" else []
 
-unfoldable pub few_phases_line : List CaptureSurvey → ℕ → MsmKind → Code → List ℕ
-few_phases_line ss station kind code = few_phases_line_if (has_few_phases ss station kind code) code
+-- the line of a listed code
+unfoldable pub few_phases_line : List CaptureSurvey → ℕ → TakenMessages → AnyCode → List ℕ
+few_phases_line ss station taken c = few_phases_line_if (has_few_phases_of ss station taken c) c
 
--- the code of GPS at a place among the codes of a system, if the system is GPS
-abbrev pub code_of_system : System → ℕ → Option Code
-code_of_system Gps place = slice_get all_codes place
-code_of_system Glonass place = None
-code_of_system Galileo place = None
-code_of_system Beidou place = None
-code_of_system Qzss place = None
-code_of_system Sbas place = None
-code_of_system Navic place = None
-
-abbrev pub few_phases_line_if_any : List CaptureSurvey → ℕ → MsmKind → Option Code → List ℕ
-few_phases_line_if_any ss station kind None = []
-few_phases_line_if_any ss station kind (Some code) = few_phases_line ss station kind code
-
--- the line of a listed code, if it is one of GPS
-unfoldable pub few_phases_line_at : List CaptureSurvey → ℕ → MsmKind → AnyCode → List ℕ
-few_phases_line_at ss station kind c = few_phases_line_if_any ss station kind (code_of_system (system_of c) (place_of c))
-
-abbrev pub few_phases_lines : List CaptureSurvey → ℕ → MsmKind → List AnyCode → List ℕ
-few_phases_lines ss station kind cs = flat_map (few_phases_line_at ss station kind) cs
+abbrev pub few_phases_lines : List CaptureSurvey → ℕ → TakenMessages → List AnyCode → List ℕ
+few_phases_lines ss station taken cs = flat_map (few_phases_line ss station taken) cs
 
 -- the captures at these places, which have the stray epoch
 abbrev pub stray_lines : List (Bor (List ℕ)) → ℕ → List ℕ → List ℕ
 stray_lines names epoch places = flat_map (λ place. stray_line epoch (capture_name names place)) places
 
--- the systems whose clocks differ from those of their chains, those of which no clock is compared, and the captures that
--- tell other leap seconds
+-- the systems whose clocks differ from those of their chains, those of which no clock is compared, the captures that tell
+-- other leap seconds, and leap seconds that were found
 abbrev pub clock_lines_of : List (Bor (List ℕ)) → List CaptureSurvey → Plan → List ℕ
 clock_lines_of names ss plan =
     told_clock_lines plan.asked ss plan.setup.station plan.leap_seconds ++ unchecked_system_lines plan.setup.head.listed ss plan.setup.station
-    ++ other_leap_lines names plan.setup.station ss plan.setup.head.glonass
+    ++ leap_lines names ss plan
+
+-- the captures that are dated near the others, or whose clocks fall
+abbrev pub undated_notes : List (Bor (List ℕ)) → List CaptureSurvey → Plan → List ℕ
+undated_notes names ss plan = undated_lines plan.span.source names plan.captures.items ++ all_clock_notes names plan.span.source plan.setup ss
 
 -- everything before the line of late messages
 unfoldable pub lines_before_late : List (Bor (List ℕ)) → List CaptureSurvey → Plan → Equipment → List ℕ
 lines_before_late names ss plan told =
-    undated_lines plan.span.source names plan.captures.items
+    undated_notes names ss plan
     ++ all_other_dates names plan.setup.station plan.setup.near ss
     ++ clock_lines_of names ss plan
-    ++ few_phases_lines ss plan.setup.station plan.setup.kinds.gps plan.setup.head.listed
+    ++ few_phases_lines ss plan.setup.station (taken_messages plan.setup) plan.setup.head.listed
     ++ told_channel_lines ss plan.setup.station (taken_messages plan.setup) plan.own_channels plan.setup.head.glonass
     ++ equipment_notes names ss plan.setup.station told
     ++ stray_lines names plan.span.until plan.strays.items
@@ -229,7 +218,7 @@ epochs_lines names cs links = flat_map (epochs_lines_of names cs) links
 -- SBAS in them, and Doppler shifts, and whether 1012 are left out since they can't be dated
 unfoldable pub not_taken_by : Accepted → Bool → Bool → Bool → Bool → List CaptureSurvey → ℕ → List ℕ
 not_taken_by taken has_1004 has_sbas has_doppler is_long ss station =
-    obs_1004_line has_1004 ss station ++ msm_lines taken ss station ++ doppler_line_unless has_doppler taken ss station ++ sbas_line has_sbas ss station
+    obs_1004_line has_1004 ss station ++ msm_lines taken ss station ++ doppler_lines_unless has_doppler taken ss station ++ sbas_line has_sbas ss station
     ++ all_unread is_long taken ss
 
 -- GLONASS is asked for and a 1012 of the station has a value, but there is no moment near which 1012 are dated right
@@ -245,6 +234,7 @@ lines_behind_late names ss plan =
     skipped_lines names plan.captures.items plan.skipped.items
     ++ epochs_lines names plan.captures.items (places_of plan.links.items)
     ++ not_taken ss (leaves_long ss plan) plan.setup
+    ++ left_out_lines names ss plan
 
 -- ---- the links with a stray epoch
 

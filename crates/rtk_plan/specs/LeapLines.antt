@@ -1,5 +1,6 @@
--- The lines of captures whose 1013 tell other leap seconds than a conversion has (this project's rule).
-use Rattle.std.specs.Prelude.{ℕ, ◌==◌, List, [], ◌++◌, codes, decimal, Option, None, Some, if◌then◌else◌}
+-- The lines of captures whose 1013 tell other leap seconds than a conversion has, and of leap seconds that were found (this
+-- project's rule).
+use Rattle.std.specs.Prelude.{ℕ, ◌==◌, Bool, List, [], ◌++◌, codes, decimal, Option, None, Some, if◌then◌else◌}
 use Rattle.std.specs.Borrow.{Bor}
 use Rattle.rtk_rinex.specs.MixedHead.{GlonassView}
 use Rattle.rtk_survey.specs.declared.survey.CaptureSurvey.{CaptureSurvey}
@@ -7,6 +8,7 @@ use Rattle.rtk_survey.specs.declared.system_tellings.LeapRange.{LeapRange}
 use Rattle.rtk_captures.specs.CaptureNames.{capture_name, lines_by}
 use Rattle.rtk_systems.specs.FoundSeconds.{is_range_alone, leap_in_capture}
 use Rattle.rtk_captures.specs.Lists.{name_line}
+use Rattle.rtk_plan.specs.declared.planning.Plan.{Plan}
 
 -- formula
 abbrev pub to_text : ℕ → List ℕ
@@ -41,3 +43,21 @@ all_other_leap names station ss seconds = lines_by (other_leap_at names station 
 abbrev pub other_leap_lines : List (Bor (List ℕ)) → ℕ → List CaptureSurvey → Option GlonassView → List ℕ
 other_leap_lines names station ss None = []
 other_leap_lines names station ss (Some g) = all_other_leap names station ss g.leap_seconds
+
+-- ---- leap seconds that were found
+
+-- formula
+-- leap seconds by which the clocks of GLONASS are right, and those of the table not
+abbrev pub found_leap_words : ℕ → List ℕ
+found_leap_words seconds = codes " leap-seconds " ++ decimal seconds ++ codes ": by the clocks of GLONASS\n"
+
+-- those of a conversion of GLONASS, if they were found
+abbrev pub found_leap_line : Bool → Option GlonassView → List ℕ
+found_leap_line are_found None = []
+found_leap_line are_found (Some g) = if are_found then found_leap_words g.leap_seconds else []
+
+-- ---- both
+
+abbrev pub leap_lines : List (Bor (List ℕ)) → List CaptureSurvey → Plan → List ℕ
+leap_lines names ss plan =
+    other_leap_lines names plan.setup.station ss plan.setup.head.glonass ++ found_leap_line plan.are_seconds_found plan.setup.head.glonass

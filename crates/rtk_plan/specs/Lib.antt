@@ -1,9 +1,12 @@
 pub mod Causes
+pub mod ClockNotes
+pub mod ClockReach
 pub mod FewPhases
 pub mod KnownLines
 pub mod LabelCommand
 pub mod Laws
 pub mod LeapLines
+pub mod LeftOut
 pub mod Near1012
 pub mod OtherEquipment
 pub mod Plan

@@ -1,5 +1,5 @@
 -- What a conversion is told, by the surveys of captures and by what words say (this project's rule).
-use Rattle.std.specs.Prelude.{◌≡◌, ℕ, Bool, ◌&&◌, is_some, List, Option, None, Some, unwrap_or, if◌then◌else◌}
+use Rattle.std.specs.Prelude.{◌≡◌, ℕ, Bool, ◌&&◌, is_none, is_some, List, Option, None, Some, unwrap_or, if◌then◌else◌}
 use Rattle.std.specs.declared.vec.Vec.{Vec}
 use Rattle.rtk_message.specs.declared.msm_kind.MsmKind.{MsmKind}
 use Rattle.rtk_obs.specs.declared.any_code.AnyCode.{AnyCode}
@@ -15,12 +15,14 @@ use Rattle.rtk_systems.specs.declared.system_flags.SystemFlags.{SystemFlags}
 use Rattle.rtk_captures.specs.declared.span_line.DatedSpan.{DatedSpan}
 use Rattle.rtk_systems.specs.ClockOffsets.{systems_with_clocks}
 use Rattle.rtk_systems.specs.FoundSeconds.{asks_glonass, AreSecondsOfSetup}
+use Rattle.rtk_plan.specs.ClockReach.{clock_dating, clocks_taken, has_far_clock}
 use Rattle.rtk_plan.specs.Near1012.{ends_after, near_between}
 use Rattle.rtk_systems.specs.SlotChannels.{AreSecondsChosen, IsGlonassFound}
 use Rattle.rtk_systems.specs.SystemFlags.{in_both, flags_listed}
 use Rattle.rtk_systems.specs.SystemMsms.{kinds_listed}
 use Rattle.rtk_systems.specs.Values.{kinds_in_links, codes_in_captures, is_1012_given}
 use Rattle.rtk_systems.specs.declared.values.TakenMessages.{TakenMessages}
+use Rattle.rtk_plan.specs.declared.clock_reach.ClockDating.{ClockDating}
 use Rattle.rtk_plan.specs.declared.wanted.Wanted.{Wanted}
 use Rattle.rtk_captures.specs.Dating.{ArePlaced, IsNearOf, IsSpanOf, captures_of, some_out_of_reach}
 use Rattle.rtk_captures.specs.declared.station_capture.StationCapture.{StationCapture}
@@ -73,6 +75,10 @@ AreLeapSecondsOf ss w station near seconds =
     (span : DatedSpan) × IsSpanOf w.near (captures_of ss station) station span
     × AreSecondsOfSetup w.leap_seconds (asks_glonass w.codes w.systems) ss station near span.from span.until seconds
 
+-- the leap seconds of a setup were found by the clocks of GLONASS: it has some, and none are given
+abbrev pub seconds_are_found : Option ℕ → Option ℕ → Bool
+seconds_are_found given seconds = is_none given && is_some seconds
+
 -- the leap seconds by which clocks are compared: those of the setup, else those of the table, near the first moment
 abbrev pub AreSecondsCompared : Option ℕ → List StationCapture → Option ℕ → ClockSeconds → Type 0
 AreSecondsCompared given cs seconds s = (first : ℕ) × IsNearOf given cs first × (s ≡ clock_seconds seconds first)
@@ -84,11 +90,10 @@ abbrev pub near_in_reach : List StationCapture → List (Option Placed) → Opti
 near_in_reach cs ps None = None
 near_in_reach cs ps (Some near) = if some_out_of_reach near cs ps then None else Some near
 
--- the moment near which 1012 of captures that are dated so are dated right, with so many leap seconds, if there is one; the
--- first and the last epoch are these
-abbrev pub near_with_1012 : List CaptureSurvey → ℕ → ℕ → List StationCapture → List (Option Placed) → ℕ → ℕ → Option ℕ
-near_with_1012 ss station seconds cs ps from until =
-    near_in_reach cs ps (near_between (ends_after station seconds (record { from = from; until = until }) ss ps))
+-- the moment near which 1012 of captures that are dated so are dated right, if there is one; the first and the last epoch are
+-- these
+abbrev pub near_with_1012 : List CaptureSurvey → ClockDating → List StationCapture → List (Option Placed) → ℕ → ℕ → Option ℕ
+near_with_1012 ss way cs ps from until = near_in_reach cs ps (near_between (ends_after way (record { from = from; until = until }) ss ps))
 
 -- the same of captures that are dated near a moment that is given, or by what they tell; with these leap seconds, else with
 -- those of the table at this moment, the first one
@@ -97,7 +102,7 @@ IsNear1012 ss given station seconds first near =
     (placed : List (Option Placed)) × ArePlaced given (captures_of ss station) placed
     × ((span : DatedSpan) × IsSpanOf given (captures_of ss station) station span
     × ((n : ℕ) × AreSecondsChosen seconds first n
-    × (near ≡ near_with_1012 ss station n (captures_of ss station) placed span.from span.until)))
+    × (near ≡ near_with_1012 ss (clock_dating given station n first) (captures_of ss station) placed span.from span.until)))
 
 -- the messages of which a setup takes values
 abbrev pub taken_messages : SetupView → TakenMessages
@@ -120,6 +125,17 @@ abbrev pub HasNear1012 : List CaptureSurvey → Option ℕ → ℕ → Option �
 HasNear1012 ss given station seconds has =
     (first : ℕ) × IsNearOf given (captures_of ss station) first
     × ((near : Option ℕ) × IsNear1012 ss given station seconds first near × (has ≡ is_some near))
+
+-- ---- clocks that give no epoch
+
+-- whether a conversion of captures, which are dated near a moment that is given or by what they tell, dates a clock of a system
+-- that it converts otherwise than it is near the epochs, or near the moment that a capture without an epoch names
+abbrev pub HaveFarClocks : List CaptureSurvey → Option ℕ → ℕ → SetupView → Bool → Type 0
+HaveFarClocks ss given station s has =
+    (first : ℕ) × IsNearOf given (captures_of ss station) first
+    × ((placed : List (Option Placed)) × ArePlaced given (captures_of ss station) placed
+    × ((n : ℕ) × AreSecondsChosen s.leap_seconds first n
+    × (has ≡ has_far_clock (clock_dating given station n first) (clocks_taken s.head.listed) s.near placed ss)))
 
 -- ---- all of it
 

@@ -11,15 +11,13 @@ ghost use Rattle.rtk_captures.specs.StationCaptures.{dates_in};
 use crate::planning::Plan;
 use rtk_captures::{
     Captures, DateSource, StationCapture, dates_without_epoch, is_station, others_passed_over,
-    put_capture_line, put_date_line, put_name_line, put_stray_line, put_to_come_line,
+    put_capture_line, put_date_line, put_far_date, put_name_line, put_stray_line, put_to_come_line,
     put_undated_line, to_come_told, weeks_passed_over,
 };
 use rtk_message::put_named;
 use rtk_obs::GpsMs;
 use rtk_setup::Setup;
-use rtk_survey::{
-    CaptureDates, CaptureEpochs, CaptureSurvey, Span, Tellings, Told, UtcDate, place,
-};
+use rtk_survey::{CaptureDates, CaptureEpochs, CaptureSurvey, Span, Tellings, Told, place};
 use std::alloc::AllocError;
 
 /// How many first epochs that differ a survey keeps of each kind of message.
@@ -143,29 +141,25 @@ fn put_dates_of_epochs(
 }
 
 // Appends a date that is passed over since it is to come.
-fn put_date_to_come(lines: &mut Vec<u8>, date: UtcDate, name: &str) -> Result<(), AllocError>
-    ensures { OnOk result (lines.new.items ≡ lines.old.items ++ spec.date_to_come date name.now) }
+fn put_date_to_come(lines: &mut Vec<u8>, told: &Told, name: &str) -> Result<(), AllocError>
+    ensures { OnOk result (lines.new.items ≡ lines.old.items ++ spec.date_to_come told.now name.now) }
 {
     lines.extend_from_slice(b" other-date")?;
-    put_to_come_line(lines, date, name)?;
+    put_to_come_line(lines, told, name)?;
     Ok(())
 }
 
-fn put_other_to_come(
-    lines: &mut Vec<u8>,
-    date: Option<UtcDate>,
-    name: &str,
-) -> Result<(), AllocError>
-    ensures { OnOk result (lines.new.items ≡ lines.old.items ++ spec.other_to_come date name.now) }
+fn put_other_to_come(lines: &mut Vec<u8>, told: Option<Told>, name: &str) -> Result<(), AllocError>
+    ensures { OnOk result (lines.new.items ≡ lines.old.items ++ spec.other_to_come told name.now) }
 {
-    match date {
-        Some(date) => put_date_to_come(lines, date, name),
+    match told {
+        Some(told) => put_date_to_come(lines, &told, name),
         None => Ok(()),
     }
 }
 
-// Appends such dates of a capture: of its epochs; or if it has none, of an epoch at this moment; and one that is to
-// come.
+// Appends such dates of a capture: of its epochs; or if it has none, of an epoch at this moment; one that is to come; and
+// one far from the epoch beside it.
 fn put_other_dates_near(
     lines: &mut Vec<u8>,
     survey: &CaptureSurvey,
@@ -179,6 +173,7 @@ fn put_other_dates_near(
     let dates = dates_without_epoch(station, near, survey);
     put_other_dates_of(lines, near, name, &dates)?;
     put_other_to_come(lines, to_come_told(station, survey), name)?;
+    put_far_date(lines, survey, station, name)?;
     Ok(())
 }
 

@@ -4,34 +4,72 @@ ghost use Rattle.std.specs.Prelude.{◌≡◌, ◌<◌, ◌^◌};
 ghost use Rattle.rtk_plan.specs.FewPhases as spec;
 
 use rtk_captures::is_station;
-use rtk_message::MsmKind;
-use rtk_obs::{ALL_CODES, Code};
+use rtk_message::{MsmKind, MsmType, System};
+use rtk_obs::AnyCode;
 use rtk_survey::{CaptureSurvey, PhaseCount, TargetSurvey, count_in_table};
+use rtk_systems::{TakenMessages, is_gps_system};
 
-/// The phases of a station in captures, in the 1004 and in one MSM.
+/// The mask bits (DF394) of satellites, from 1, are below it.
+const BITS_END: u8 = 64;
+
+/// The codes of a system have places below it.
+const CODES: u8 = 16;
+
+/// Where a survey has the phases of messages of one kind.
+#[derive(Clone, Copy)]
+pub(crate) enum PhaseSource {
+    /// Those of GPS in 1004.
+    Gps1004,
+    /// Those of an MSM of GPS.
+    GpsMsm(MsmKind),
+    /// Those of other systems in the messages of this number (DF002).
+    Number(u16),
+}
+
+/// The messages from which a conversion takes values of a system.
+#[derive(Clone, Copy)]
+pub(crate) struct CountedPhases {
+    /// Those beside the MSM, if there are such ones.
+    pub(crate) legacy: Option<PhaseSource>,
+    pub(crate) msm: PhaseSource,
+}
+
+/// The phases of a station in captures, in the messages of one system.
 #[derive(Clone, Copy)]
 pub(crate) struct CapturePhases<'s> {
     pub(crate) surveys: &'s [CaptureSurvey],
     pub(crate) station: u16,
-    pub(crate) msm: MsmKind,
+    pub(crate) from: CountedPhases,
 }
 
-// The table of the 1004, or of an MSM.
-fn table_for(kind: Option<MsmKind>, target: &TargetSurvey) -> &[PhaseCount]
-    ensures { result.now ≡ spec.table_for kind target.now }
+// The station of which phases are held.
+fn counted_station(source: PhaseSource, target: &TargetSurvey) -> Option<u16>
+    ensures { result ≡ spec.counted_station source target.now }
 {
-    match kind {
-        Some(kind) => target.phases.of_msm(kind),
-        None => target.phases.of_1004.as_slice(),
+    match source {
+        PhaseSource::Gps1004 | PhaseSource::GpsMsm(_) => target.dates.station,
+        PhaseSource::Number(_) => target.system_phases.station,
     }
 }
 
-// The phases of a station in the 1004 of a capture, or in an MSM of it.
-fn table_in(station: u16, kind: Option<MsmKind>, survey: &CaptureSurvey) -> &[PhaseCount]
-    ensures { result.now ≡ spec.table_in station kind survey.now }
+fn table_for(source: PhaseSource, target: &TargetSurvey) -> &[PhaseCount]
+    ensures { result.now ≡ spec.table_for source target.now }
+{
+    match source {
+        PhaseSource::Gps1004 => target.phases.of_1004.as_slice(),
+        PhaseSource::GpsMsm(kind) => target.phases.of_msm(kind),
+        PhaseSource::Number(number) => target.system_phases.of_number(number),
+    }
+}
+
+// The phases of a station in the messages of one kind of a capture.
+fn table_in(station: u16, source: PhaseSource, survey: &CaptureSurvey) -> &[PhaseCount]
+    ensures { result.now ≡ spec.table_in station source survey.now }
 {
     match &survey.contents.target {
-        Some(target) if is_station(station, target.dates.station) => table_for(kind, target),
+        Some(target) if is_station(station, counted_station(source, target)) => {
+            table_for(source, target)
+        }
         _ => &[],
     }
 }
@@ -61,59 +99,126 @@ fn phases_if(counts: bool, phases: u64) -> u64
     if counts { phases } else { 0 }
 }
 
+// The messages beside the MSM from which a conversion takes values of a system.
+fn legacy_source(taken: TakenMessages, system: System) -> Option<PhaseSource>
+    ensures { result ≡ spec.legacy_source taken system }
+{
+    match system {
+        System::Gps => Some(PhaseSource::Gps1004),
+        System::Glonass => {
+            if taken.obs1012 {
+                Some(PhaseSource::Number(1012))
+            } else {
+                None
+            }
+        }
+        System::Sbas => Some(PhaseSource::Number(1004)),
+        System::Galileo | System::Beidou | System::Qzss | System::Navic => None,
+    }
+}
+
+fn msm_source(taken: TakenMessages, system: System) -> PhaseSource
+    ensures { result ≡ spec.msm_source taken system }
+{
+    if is_gps_system(system) {
+        PhaseSource::GpsMsm(taken.kinds.gps)
+    } else {
+        let kind = taken.kinds.kind(system);
+        PhaseSource::Number(MsmType { system, kind }.number())
+    }
+}
+
+impl CountedPhases {
+    // The messages from which a conversion takes values of a system.
+    fn of(taken: TakenMessages, system: System) -> CountedPhases
+        ensures { result ≡ spec.counted_phases taken system }
+    {
+        CountedPhases {
+            legacy: legacy_source(taken, system),
+            msm: msm_source(taken, system),
+        }
+    }
+}
+
 impl CapturePhases<'_> {
-    // What a satellite has of a code in the 1004, or in an MSM.
-    fn count(&self, kind: Option<MsmKind>, satellite: u8, code: Code) -> PhaseCount
-        ensures { result ≡ spec.count_in_captures self.now.surveys.now self.now.station kind satellite code }
+    // What a satellite, by its mask bit, has of the code of a place in the messages of one kind.
+    fn count(&self, source: PhaseSource, bit: u8, code: u8) -> PhaseCount
+        ensures { result ≡ spec.count_in_captures self.now.surveys.now self.now.station source bit code }
     {
         let mut count = PhaseCount::nothing();
         for survey in self.surveys {
-            let table = table_in(self.station, kind, survey);
-            count = added_count(count, count_in_table(table, satellite, code));
+            let table = table_in(self.station, source, survey);
+            count = added_count(count, count_in_table(table, bit, code));
         }
         count
     }
 
-    // What a satellite has of a code in the 1004 and in the MSM.
-    fn code_count(&self, satellite: u8, code: Code) -> PhaseCount
-        ensures { result ≡ spec.code_count self.now.surveys.now self.now.station self.now.msm satellite code }
+    fn count_if_any(&self, source: Option<PhaseSource>, bit: u8, code: u8) -> PhaseCount
+        ensures { result ≡ spec.count_if_any self.now.surveys.now self.now.station source bit code }
     {
-        let legacy = self.count(None, satellite, code);
-        joined_count(legacy, self.count(Some(self.msm), satellite, code))
+        match source {
+            Some(source) => self.count(source, bit, code),
+            None => PhaseCount::nothing(),
+        }
+    }
+
+    // What a satellite has of a code in the messages of its system.
+    fn code_count(&self, bit: u8, code: u8) -> PhaseCount
+        ensures { result ≡ spec.code_count self.now.surveys.now self.now.station self.now.from bit code }
+    {
+        let legacy = self.count_if_any(self.from.legacy, bit, code);
+        joined_count(legacy, self.count(self.from.msm, bit, code))
     }
 
     // How many phases a satellite has in another code, if it has a value in this one.
-    fn phases_of(&self, satellite: u8, code: Code, other: Code) -> u64
-        ensures { result ≡ spec.phases_of self.now.surveys.now self.now.station self.now.msm code other satellite }
+    fn phases_of(&self, bit: u8, code: u8, other: u8) -> u64
+        ensures { result ≡ spec.phases_of self.now.surveys.now self.now.station self.now.from code other bit }
     {
         phases_if(
-            self.code_count(satellite, code).has_value,
-            self.code_count(satellite, other).phases,
+            self.code_count(bit, code).has_value,
+            self.code_count(bit, other).phases,
         )
     }
 
     // How many phases the satellites that have a value in one code have in another.
-    fn phases_shared(&self, code: Code, other: Code) -> u128
-        ensures value { result ≡ spec.phases_shared self.now.surveys.now self.now.station self.now.msm code other }
+    fn phases_shared(&self, code: u8, other: u8) -> u128
+        ensures value { result ≡ spec.phases_shared self.now.surveys.now self.now.station self.now.from code other }
         ensures bound { result < 2 ^ 70 }
     {
         let mut phases = 0u128;
-        for satellite in 1u8..33 {
-            phases += u128::from(self.phases_of(satellite, code, other));
+        for bit in 1u8..BITS_END {
+            phases += u128::from(self.phases_of(bit, code, other));
         }
         phases
     }
 
-    /// Have the satellites that have this code more than twice as many phases in another one?
-    pub(crate) fn has_few(&self, code: Code) -> bool
-        ensures { result ≡ spec.has_few_phases self.now.surveys.now self.now.station self.now.msm code }
+    // Have the satellites that have this code more than twice as many phases in another one?
+    fn has_few(&self, code: u8) -> bool
+        ensures { result ≡ spec.has_few_phases self.now.surveys.now self.now.station self.now.from code }
     {
         let own = self.phases_shared(code, code);
-        for other in &ALL_CODES {
-            if 2 * own < self.phases_shared(code, *other) {
+        for other in 0u8..CODES {
+            if 2 * own < self.phases_shared(code, other) {
                 return true;
             }
         }
         false
     }
+}
+
+/// Have the satellites that have this code more than twice as many phases in another one of their system?
+pub(crate) fn has_few_phases(
+    surveys: &[CaptureSurvey],
+    station: u16,
+    taken: TakenMessages,
+    code: AnyCode,
+) -> bool
+    ensures { result ≡ spec.has_few_phases_of surveys.now station taken code }
+{
+    let phases = CapturePhases {
+        surveys,
+        station,
+        from: CountedPhases::of(taken, code.system()),
+    };
+    phases.has_few(code.place() as u8)
 }

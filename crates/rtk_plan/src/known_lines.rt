@@ -9,7 +9,9 @@ ghost use Rattle.rtk_survey.specs.Surveys.{places_of};
 ghost use Rattle.rtk_systems.specs.ToldChannels.{told_channel_lines};
 
 use crate::capture_lines::{put_epochs, put_other_dates, put_skipped, put_strays, put_undated};
-use crate::leap_lines::put_other_leap_in;
+use crate::clock_notes::put_all_clock_notes;
+use crate::leap_lines::put_leap_in;
+use crate::left_out::put_left_out;
 use crate::other_equipment::put_equipment_notes;
 use crate::phase_lines::put_few_phases_in;
 use crate::planning::Plan;
@@ -117,8 +119,8 @@ fn late_on_links(reported: &Reported, links: &[usize]) -> u64
     count
 }
 
-// Appends the systems of a plan whose clocks differ from those of their chains, those of which no clock is compared, and
-// the captures that tell other leap seconds.
+// Appends the systems of a plan whose clocks differ from those of their chains, those of which no clock is compared, the
+// captures that tell other leap seconds, and leap seconds that were found.
 fn put_clocks_in(
     alloc: Global,
     lines: &mut Vec<u8>,
@@ -140,7 +142,7 @@ fn put_clocks_in(
         &plan.leap_seconds,
     )?;
     put_unchecked(lines, setup, surveys, station)?;
-    put_other_leap_in(lines, captures, setup)?;
+    put_leap_in(lines, captures, plan)?;
     Ok(())
 }
 
@@ -167,6 +169,20 @@ fn put_channels_in(
     Ok(())
 }
 
+// Appends the captures that are dated near the others, or whose clocks fall.
+fn put_undated_notes(
+    lines: &mut Vec<u8>,
+    captures: &Captures<'_, '_>,
+    plan: &Plan,
+) -> Result<(), AllocError>
+    ensures { OnOk result (lines.new.items ≡ lines.old.items
+        ++ spec.undated_notes captures.now.names.now captures.now.surveys.now plan.now) }
+{
+    put_undated(lines, captures, plan)?;
+    put_all_clock_notes(lines, captures, plan)?;
+    Ok(())
+}
+
 // Appends what a person should know before the line of late messages.
 #[tactic(auto, unfolding(crate::specs::KnownLines::lines_before_late))]
 fn put_first_lines(
@@ -179,7 +195,7 @@ fn put_first_lines(
     ensures { OnOk result (lines.new.items ≡ lines.old.items
         ++ spec.lines_before_late captures.now.names.now captures.now.surveys.now plan.now told.now) }
 {
-    put_undated(lines, captures, plan)?;
+    put_undated_notes(lines, captures, plan)?;
     put_other_dates(lines, captures, &plan.setup)?;
     put_clocks_in(alloc, lines, captures, plan)?;
     put_few_phases_in(lines, captures.surveys, &plan.setup)?;
@@ -273,13 +289,14 @@ fn put_last_lines(
     put_captures_in(lines, captures, plan)?;
     let is_long = leaves_long(captures.surveys, plan);
     put_not_taken_in(lines, captures.surveys, is_long, &plan.setup)?;
+    put_left_out(lines, captures, plan)?;
     Ok(())
 }
 
 /// What a person should know of a conversion, a line each, only where it is so: captures that are dated near
 /// the others; a date that is told and does not count; systems whose clocks differ from those of their chains, or of which no clock is compared; captures that tell other leap seconds; codes with few phases; channels of GLONASS that many slots have, or one has several of, and satellites without one; texts
 /// that messages told and that a label does not have; captures that told another antenna or receiver; captures with a stray epoch, that are left out, that have no epoch or whose time falls;
-/// and observations that are not taken.
+/// observations that are not taken; frames that can't be read; systems with cells without a name; and captures that tell another position.
 pub fn what_is_known(
     alloc: Global,
     captures: &Captures<'_, '_>,

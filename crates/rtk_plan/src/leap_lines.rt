@@ -1,4 +1,4 @@
-//! The lines of captures whose 1013 tell other leap seconds than a conversion has.
+//! The lines of captures whose 1013 tell other leap seconds than a conversion has, and of leap seconds that were found.
 //!
 //! If memory is refused, a first part of what is put may stand there.
 
@@ -6,6 +6,7 @@ ghost use Rattle.std.specs.Prelude.{◌≡◌, ◌++◌, OnOk};
 ghost use Rattle.std.specs.Option.{option_copied};
 ghost use Rattle.rtk_plan.specs.LeapLines as spec;
 
+use crate::planning::Plan;
 use rtk_captures::{Captures, put_name_line};
 use rtk_message::put_named;
 use rtk_rinex::Glonass;
@@ -117,8 +118,8 @@ fn put_other_leap_if(
     }
 }
 
-/// Appends the captures whose 1013 tell other leap seconds than a conversion of GLONASS has.
-pub(crate) fn put_other_leap_in(
+// Appends the captures whose 1013 tell other leap seconds than a conversion of GLONASS has.
+fn put_other_leap_in(
     lines: &mut Vec<u8>,
     captures: &Captures<'_, '_>,
     setup: &Setup,
@@ -127,5 +128,42 @@ pub(crate) fn put_other_leap_in(
         ++ spec.other_leap_lines captures.now.names.now setup.now.station captures.now.surveys.now setup.now.head.glonass) }
 {
     put_other_leap_if(lines, captures, setup.station(), setup.head().glonass())?;
+    Ok(())
+}
+
+fn put_found_words(lines: &mut Vec<u8>, seconds: u8) -> Result<(), AllocError>
+    ensures { OnOk result (lines.new.items ≡ lines.old.items ++ spec.found_leap_words seconds) }
+{
+    put_named(lines, b" leap-seconds ", u64::from(seconds))?;
+    lines.extend_from_slice(b": by the clocks of GLONASS\n")?;
+    Ok(())
+}
+
+// Appends the leap seconds of a conversion of GLONASS, if they were found.
+fn put_found_leap(
+    lines: &mut Vec<u8>,
+    are_found: bool,
+    glonass: Option<Glonass>,
+) -> Result<(), AllocError>
+    ensures { OnOk result (lines.new.items ≡ lines.old.items ++ spec.found_leap_line are_found glonass) }
+{
+    match glonass {
+        Some(glonass) if are_found => put_found_words(lines, glonass.leap_seconds()),
+        _ => Ok(()),
+    }
+}
+
+/// Appends what a conversion of GLONASS has of leap seconds: the captures whose 1013 tell others, and that they were found.
+pub(crate) fn put_leap_in(
+    lines: &mut Vec<u8>,
+    captures: &Captures<'_, '_>,
+    plan: &Plan,
+) -> Result<(), AllocError>
+    ensures { OnOk result (lines.new.items ≡ lines.old.items
+        ++ spec.leap_lines captures.now.names.now captures.now.surveys.now plan.now) }
+{
+    let setup = &plan.setup;
+    put_other_leap_in(lines, captures, setup)?;
+    put_found_leap(lines, plan.are_seconds_found, setup.head().glonass())?;
     Ok(())
 }

@@ -74,6 +74,8 @@
 #![tactic(auto)]
 
 mod capture_lines;
+mod clock_notes;
+mod clock_reach;
 mod count_lines;
 mod dating_systems;
 mod few_phases;
@@ -81,6 +83,7 @@ mod known_lines;
 mod label_command;
 mod laws;
 mod leap_lines;
+mod left_out;
 mod near_1012;
 mod other_equipment;
 mod phase_lines;

@@ -6,14 +6,12 @@ ghost use Rattle.rtk_plan.specs.Near1012 as spec;
 ghost use Rattle.rtk_captures.specs.Dating.{ArePlaced, IsInReach, IsSpanOf, captures_of};
 ghost use Rattle.rtk_plan.specs.Plan.{IsNear1012, near_in_reach, near_with_1012};
 
+use crate::clock_reach::{ClockDating, clock_placed};
 use crate::setup_seconds::seconds_chosen;
-use rtk_captures::{DatedSpan, Dating, StationCapture, StationCaptures, are_out_of_reach, span_in};
+use rtk_captures::{DatedSpan, Dating, StationCapture, StationCaptures, are_out_of_reach};
 use rtk_obs::{GpsMs, LAST_MS};
 use rtk_setup::{LeapSeconds, Reference};
-use rtk_survey::{CaptureSurvey, Epochs, Placed, Span};
-use rtk_systems::epochs_1012_in;
-
-const DAY_MS: u64 = 86_400_000;
+use rtk_survey::{CaptureSurvey, FollowedClock, Placed};
 
 const HALF_DAY_MS: u64 = 43_200_000;
 
@@ -29,34 +27,6 @@ struct Ends {
     until: u64,
 }
 
-// ---- the moment of a 1012
-
-// The time of day of GPS that a 1012 tells, whose time of UTC a survey has.
-fn day_time(seconds: u8, time: u32) -> u64
-    ensures value { result ≡ spec.day_time seconds time }
-    ensures bound { result < 86_400_000 }
-{
-    (u64::from(time) + 1000 * u64::from(seconds)) % DAY_MS
-}
-
-// The moment with a time of day that is not before this one.
-fn day_time_from(from: u64, tod: u64) -> u64
-    requires from { from < 2 ^ 61 }
-    requires tod { tod < 86_400_000 }
-    ensures { result ≡ spec.day_time_from from tod }
-{
-    from + (tod + DAY_MS - from % DAY_MS) % DAY_MS
-}
-
-// The moment with a time of day within half a day of another moment.
-fn moment_in_day(at: u64, tod: u64) -> u64
-    requires at { at < 2 ^ 61 }
-    requires tod { tod < 86_400_000 }
-    ensures { result ≡ spec.moment_in_day at tod }
-{
-    day_time_from(at.saturating_sub(HALF_DAY_MS), tod)
-}
-
 // ---- the first and the last moment of what is converted
 
 fn ends_with_moment(ends: Ends, moment: u64) -> Ends
@@ -68,89 +38,41 @@ fn ends_with_moment(ends: Ends, moment: u64) -> Ends
     }
 }
 
-fn ends_with_time(seconds: u8, at: u64, ends: Ends, time: Option<u32>) -> Ends
-    requires { at < 2 ^ 61 }
-    ensures { result ≡ spec.ends_with_time seconds at ends time }
+fn ends_with_placed(ends: Ends, placed: Option<Placed>) -> Ends
+    ensures { result ≡ spec.ends_with_placed ends placed }
 {
-    match time {
-        Some(time) => ends_with_moment(ends, moment_in_day(at, day_time(seconds, time))),
-        None => ends,
-    }
-}
-
-fn first_moment_at(placed: Placed) -> u64
-    ensures value { result ≡ spec.first_moment_at placed }
-    ensures bound { result ≤ LAST_MS }
-{
-    placed.first.min(LAST_MS)
-}
-
-fn last_moment_at(span: Span, placed: Placed) -> u64
-    ensures value { result ≡ spec.last_moment_at span placed }
-    ensures bound { result < 2 ^ 61 }
-{
-    (first_moment_at(placed) + span.last.ms()).saturating_sub(span.first.ms())
-}
-
-fn ends_with_epochs(seconds: u8, epochs: Epochs, span: Span, placed: Placed, ends: Ends) -> Ends
-    ensures { result ≡ spec.ends_with_epochs seconds epochs span placed ends }
-{
-    let with_first = ends_with_time(seconds, first_moment_at(placed), ends, epochs.first);
-    ends_with_time(
-        seconds,
-        last_moment_at(span, placed),
-        with_first,
-        epochs.last,
-    )
-}
-
-// Those of the 1012 of a capture too, if its epochs are dated.
-fn ends_with_dated(
-    seconds: u8,
-    epochs: Epochs,
-    span: Option<Span>,
-    placed: Option<Placed>,
-    ends: Ends,
-) -> Ends
-    ensures { result ≡ spec.ends_with_dated seconds epochs span placed ends }
-{
-    let Some(span) = span else {
-        return ends;
-    };
     match placed {
-        Some(placed) => ends_with_epochs(seconds, epochs, span, placed, ends),
+        Some(placed) => ends_with_moment(ends_with_moment(ends, placed.from), placed.until),
         None => ends,
     }
 }
 
+// Those of the 1012 of a capture too.
 fn ends_with_capture(
-    station: u16,
-    seconds: u8,
+    way: ClockDating,
     ends: Ends,
     survey: &CaptureSurvey,
     placed: Option<Placed>,
 ) -> Ends
-    ensures { result ≡ spec.ends_with_capture station seconds ends survey.now placed }
+    ensures { result ≡ spec.ends_with_capture way ends survey.now placed }
 {
-    let epochs = epochs_1012_in(station, survey);
-    let span = span_in(station, survey);
-    ends_with_dated(seconds, epochs, span, placed, ends)
+    let times = clock_placed(way, FollowedClock::GlonassDay, survey, &placed);
+    ends_with_placed(ends, times)
 }
 
 // Those of captures that are placed so.
 fn ends_after(
-    station: u16,
-    seconds: u8,
+    way: ClockDating,
     first: Ends,
     surveys: &[CaptureSurvey],
     placed: &[Option<Placed>],
 ) -> Ends
-    ensures { result ≡ spec.ends_after station seconds first surveys.now placed.now }
+    ensures { result ≡ spec.ends_after way first surveys.now placed.now }
 {
     let mut ends = first;
     let count = surveys.len().min(placed.len());
     for at in 0..count {
-        ends = ends_with_capture(station, seconds, ends, &surveys[at], placed[at]);
+        ends = ends_with_capture(way, ends, &surveys[at], placed[at]);
     }
     ends
 }
@@ -252,23 +174,17 @@ fn near_in_reach(
 
 fn near_with(
     captured: &StationCaptures<'_, '_, '_>,
-    seconds: u8,
+    way: ClockDating,
     placed: &[Option<Placed>],
     span: &DatedSpan,
 ) -> Option<Reference>
-    ensures { result ≡ near_with_1012 captured.now.all.surveys.now captured.now.station seconds captured.now.captures.now placed.now span.now.from span.now.until }
+    ensures { result ≡ near_with_1012 captured.now.all.surveys.now way captured.now.captures.now placed.now span.now.from span.now.until }
 {
     let first = Ends {
         from: span.from.ms(),
         until: span.until.ms(),
     };
-    let ends = ends_after(
-        captured.station,
-        seconds,
-        first,
-        captured.all.surveys,
-        placed,
-    );
+    let ends = ends_after(way, first, captured.all.surveys, placed);
     near_in_reach(captured.captures, placed, near_between(ends))
 }
 
@@ -285,6 +201,11 @@ pub(crate) fn near_of_1012(
     ensures near { IsNear1012 captured.now.all.surveys.now given captured.now.station seconds.now dating.now.near result }
     ensures in_reach { IfSome result (IsInReach given captured.now.captures.now) }
 {
-    let seconds = seconds_chosen(seconds, dating.near);
-    near_with(captured, seconds, dating.placed.as_slice(), &dating.span)
+    let way = ClockDating {
+        station: captured.station,
+        seconds: seconds_chosen(seconds, dating.near),
+        is_given: given.is_some(),
+        near: dating.near,
+    };
+    near_with(captured, way, dating.placed.as_slice(), &dating.span)
 }

@@ -8,12 +8,13 @@ ghost use Rattle.rtk_captures.specs.Kept.{empty_captures};
 ghost use Rattle.rtk_survey.specs.Surveys.{places_of};
 ghost use Rattle.rtk_captures.specs.Linking.{AreLinksOf};
 ghost use Rattle.rtk_captures.specs.Positions.{some_are_far};
-ghost use Rattle.rtk_plan.specs.Plan.{IsChosenStation, AreSecondsCompared, HasNear1012, IsSetupFor, systems_asked, taken_messages};
+ghost use Rattle.rtk_plan.specs.Plan.{IsChosenStation, AreSecondsCompared, HasNear1012, HaveFarClocks, IsSetupFor, seconds_are_found, systems_asked, taken_messages};
 ghost use Rattle.rtk_captures.specs.Dating.{captures_of, ArePlaced, AreStrays, IsSpanOf, IsInReach};
 ghost use Rattle.rtk_systems.specs.SlotChannels.{AreOwnChannels};
 
+use crate::clock_reach::demand_near_clocks;
 use crate::near_1012::near_of_1012;
-use crate::setup_seconds::{seconds_compared, seconds_of_setup};
+use crate::setup_seconds::{seconds_are_found, seconds_compared, seconds_of_setup};
 use crate::station_setup::{own_channels_in, setup_near, systems_asked};
 use crate::wanted::Wanted;
 use rtk_captures::{
@@ -46,6 +47,8 @@ pub struct Plan {
     pub asked: SystemFlags,
     /// The leap seconds by which clocks of GLONASS are compared with those of GPS.
     pub leap_seconds: ClockSeconds,
+    /// The leap seconds of the setup were found by the clocks of GLONASS.
+    pub are_seconds_found: bool,
     /// The channels of slots of GLONASS that messages of the station tell.
     pub own_channels: Channels,
     /// Is there a moment near which 1012 are dated right? They tell no day, so the epochs have to lie within a day.
@@ -195,6 +198,7 @@ fn plan_of_station(
     ensures span { IfOk result (λ plan. IsSpanOf wanted.now.near captured.now.captures.now captured.now.station plan.span) }
     ensures leap_seconds { IfOk result (λ plan. AreSecondsCompared wanted.now.near captured.now.captures.now plan.setup.leap_seconds plan.leap_seconds) }
     ensures has_near_1012 { IfOk result (λ plan. HasNear1012 captured.now.all.surveys.now wanted.now.near captured.now.station plan.setup.leap_seconds plan.has_near_1012) }
+    ensures clocks { IfOk result (λ plan. HaveFarClocks captured.now.all.surveys.now wanted.now.near captured.now.station plan.setup false) }
     ensures refused { IfErr result (IfRefused (IsCaptureCause captured.now.all.surveys.now wanted.now skip_empty as_given
         captured.now.station captured.now.captures.now)) }
 {
@@ -222,6 +226,7 @@ fn plan_of_station(
         &seconds,
         &other,
     )?;
+    demand_near_clocks(alloc, captured, wanted.near, &dating, &seconds, &setup)?;
     limit_links(alloc, captured, links.as_slice())?;
     agree_unless(alloc, captured, as_given)?;
     Ok(Planned {
@@ -251,7 +256,9 @@ pub fn plan_of(
     ensures asked { IfOk result (λ plan. plan.asked ≡ systems_asked wanted.now.codes wanted.now.systems plan.setup.head.listed) }
     ensures own_channels { IfOk result (λ plan. AreOwnChannels captures.now.surveys.now plan.setup.station (taken_messages plan.setup) plan.own_channels) }
     ensures leap_seconds { IfOk result (λ plan. AreSecondsCompared wanted.now.near plan.captures.items plan.setup.leap_seconds plan.leap_seconds) }
+    ensures seconds_found { IfOk result (λ plan. plan.are_seconds_found ≡ seconds_are_found wanted.now.leap_seconds plan.setup.leap_seconds) }
     ensures has_near_1012 { IfOk result (λ plan. HasNear1012 captures.now.surveys.now wanted.now.near plan.setup.station plan.setup.leap_seconds plan.has_near_1012) }
+    ensures clocks { IfOk result (λ plan. HaveFarClocks captures.now.surveys.now wanted.now.near plan.setup.station plan.setup false) }
     ensures in_reach { IfOk result (λ plan. IsInReach wanted.now.near plan.captures.items plan.setup.near) }
     ensures links { IfOk result (λ plan. AreLinksOf as_given wanted.now.near plan.captures.items (places_of plan.links.items)) }
     ensures few_links { IfOk result (λ plan. length plan.links.items ≤ 16) }
@@ -276,6 +283,7 @@ pub fn plan_of(
     };
     let plan = plan_of_station(alloc, &captured, wanted, made, skip_empty, as_given)?;
     let asked = systems_asked(wanted, &plan.setup);
+    let are_seconds_found = seconds_are_found(wanted, &plan.setup);
     let own_channels = own_channels_in(captures.surveys, &plan.setup);
     Ok(Plan {
         setup: plan.setup,
@@ -286,6 +294,7 @@ pub fn plan_of(
         captures: of_station,
         asked,
         leap_seconds: plan.leap_seconds,
+        are_seconds_found,
         own_channels,
         has_near_1012: plan.has_near_1012,
     })

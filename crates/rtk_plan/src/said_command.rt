@@ -25,8 +25,8 @@ pub(crate) fn put_word(line: &mut Vec<u8>, word: &[u8]) -> Result<(), AllocError
     put_sh_quoted(line, &word[at..])
 }
 
-// Appends a code as an option lists it.
-fn put_code(line: &mut Vec<u8>, code: AnyCode) -> Result<(), AllocError>
+/// Appends a code as an option lists it.
+pub(crate) fn put_code(line: &mut Vec<u8>, code: AnyCode) -> Result<(), AllocError>
     ensures { OnOk result (line.new.items ≡ line.old.items ++ spec.said_code code) }
 {
     if is_gps_system(code.system()) {

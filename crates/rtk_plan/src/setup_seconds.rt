@@ -4,13 +4,13 @@ ghost use Rattle.std.specs.Prelude.{◌≡◌, ◌≤◌, IfOk};
 ghost use Rattle.rtk_rinex.specs.MixedHead.{has_glonass};
 ghost use Rattle.rtk_systems.specs.FoundSeconds.{asks_glonass, AreSecondsOfSetup};
 ghost use Rattle.rtk_captures.specs.Dating.{captures_of, IsSpanOf};
-ghost use Rattle.rtk_plan.specs.Plan.{AreLeapSecondsOf, clock_seconds};
+ghost use Rattle.rtk_plan.specs.Plan.{AreLeapSecondsOf, clock_seconds, seconds_are_found};
 ghost use Rattle.rtk_systems.specs.SlotChannels.{AreSecondsChosen};
 
 use crate::wanted::Wanted;
 use rtk_captures::DatedSpan;
 use rtk_obs::{AnyCode, GpsMs, leap_seconds_at};
-use rtk_setup::LeapSeconds;
+use rtk_setup::{LeapSeconds, Setup};
 use rtk_survey::CaptureSurvey;
 use rtk_systems::{ClockSeconds, seconds_in_captures};
 use std::alloc::{AllocError, Global};
@@ -101,4 +101,14 @@ pub(crate) fn seconds_of_setup(
 {
     let seconds = seconds_said_or_found(alloc, surveys, station, wanted, near, span)?;
     Ok(seconds)
+}
+
+/// Were the leap seconds of a setup found by the clocks of GLONASS: has it some, and are none given?
+pub(crate) fn seconds_are_found(wanted: &Wanted, setup: &Setup) -> bool
+    ensures { result ≡ seconds_are_found wanted.now.leap_seconds setup.now.leap_seconds }
+{
+    match wanted.leap_seconds {
+        Some(_) => false,
+        None => setup.leap_seconds().is_some(),
+    }
 }

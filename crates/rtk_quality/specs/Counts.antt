@@ -50,7 +50,8 @@ strength_total (n ∷ before) = plus (strength_total before) (unwrap_or n.observ
 
 -- formula
 -- the counts of what came of a code: its phases; its ranges without a phase; bit 0 of its digits, at the
--- first phase in a pass (rises), at the first one after an outage (returns) and elsewhere (slips); bit 1 (half cycles); its Doppler shifts; its strengths
+-- first phase in a pass (rises), at the first one after an outage (returns) and elsewhere (slips); bit 1 (half
+-- cycles); its Doppler shifts; its strengths
 abbrev pub counts_of : List Noted → CodeCounts
 counts_of ns =
     record {

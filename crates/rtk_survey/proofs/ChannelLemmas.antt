@@ -5,7 +5,7 @@ use Rattle.std.proofs.lemmas.List.{get_or-replicate}
 use Rattle.rtk_message.specs.declared.any_message.AnyMessage.{AnyMessage}
 use Rattle.rtk_message.specs.declared.any_message.AnyMessage.TheVariants.{Message, Msm, Obs1012}
 use Rattle.rtk_message.specs.declared.msm.Msm as msm
-use Rattle.rtk_survey.specs.Channels.{slot_field, is_field, is_glonass, is_of_glonass, tells_field, place_of_field, IsChannelTold, CountsFields, CountsTold, CountsChannels, tells_slot_channel, slot_channel_in, tells_slot_if, tells_slot_of_1020, CountsSlots}
+use Rattle.rtk_survey.specs.Channels.{slot_field, if_channel, is_field, is_glonass, is_of_glonass, tells_field, place_of_field, IsChannelTold, CountsFields, CountsTold, CountsChannels, tells_slot_channel, slot_channel_in, tells_slot_if, tells_slot_of_1020, CountsSlots}
 use Rattle.rtk_survey.specs.Steps.Fields.{TakesFields, IsTableMade}
 use Rattle.rtk_survey.specs.Counting.{count_of}
 use Rattle.rtk_survey.specs.declared.system_message.SlotChannel.{SlotChannel}
@@ -15,18 +15,18 @@ use Rattle.rtk_survey.proofs.TallyLemmas.{one-more, none-more}
 
 -- ---- places
 
-pub field-within : (slot field : ℕ) → slot < 28 → field < 14 → place_of_field slot field < 392
+pub field-within : (slot field : ℕ) → slot < 28 → field < 21 → place_of_field slot field < 588
 field-within slot field low few = omega (arith, low, few)
 
 -- ---- tables
 
 -- a table of this length counts fields
-sized : {X : Type 0} (tells : ℕ → ℕ → X → Bool) (table : List ℕ) (xs : List X) → length table ≡ 392 → CountsTold tells table xs → CountsFields tells table xs
+sized : {X : Type 0} (tells : ℕ → ℕ → X → Bool) (table : List ℕ) (xs : List X) → length table ≡ 588 → CountsTold tells table xs → CountsFields tells table xs
 sized {X} tells [] xs size counts = absurd (omega (arith, size))
 sized {X} tells (y ∷ ys) xs size counts = counts
 
 -- and one of another length has no place
-unsized : {X : Type 0} (tells : ℕ → ℕ → X → Bool) (table : List ℕ) (xs : List X) → length table ≢ 392 → CountsTold tells table xs → (slot field : ℕ) → IsChannelTold slot field → count_of (tells slot field) xs ≡ 0
+unsized : {X : Type 0} (tells : ℕ → ℕ → X → Bool) (table : List ℕ) (xs : List X) → length table ≢ 588 → CountsTold tells table xs → (slot field : ℕ) → IsChannelTold slot field → count_of (tells slot field) xs ≡ 0
 unsized {X} tells [] xs other counts = counts
 unsized {X} tells (y ∷ ys) xs other counts = absurd (other counts.size)
 
@@ -38,10 +38,10 @@ pub fields-made : {X : Type 0} (tells : ℕ → ℕ → X → Bool) (old new : L
 fields-made {X} tells old new xs made counts = elim made [
   | inl there ↦ subst (λ (t : List ℕ). CountsFields tells t xs) (sym there.1) (sized tells old xs there.0 counts)
   | inr fresh ↦ record {
-    size = as-many new 392 0 fresh.1;
+    size = as-many new 588 0 fresh.1;
     counts = λ slot field is.
         ap (λ (t : List ℕ). get_or t (place_of_field slot field) 0) fresh.1
-        ∙ get_or-replicate 392 (place_of_field slot field) 0 0 (field-within slot field is.last is.few)
+        ∙ get_or-replicate 588 (place_of_field slot field) 0 0 (field-within slot field is.last is.few)
         ∙ sym (unsized tells old xs fresh.0 counts slot field is);
   }
 ]
@@ -75,7 +75,7 @@ none-told {X} tells (y ∷ ys) x xs none counts = record {
 
 -- ---- a message more
 
-none-told-if : (m : msm.Msm) (slot field : ℕ) (b : Bool) → b ≡ false → is_field (cond b (slot_field m slot) None) field ≡ false
+none-told-if : (m : msm.Msm) (slot field : ℕ) (b : Bool) → b ≡ false → is_field (cond b (if_channel (slot_field m slot)) None) field ≡ false
 none-told-if m slot field true other = cc
 none-told-if m slot field false other = refl
 

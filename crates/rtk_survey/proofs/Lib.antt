@@ -2,9 +2,11 @@ pub mod AlikeLemmas
 pub mod BitLemmas
 pub mod ChannelLemmas
 pub mod ChannelLineLemmas
+pub mod ClockSpanLemmas
 pub mod CountingLemmas
 pub mod CutLemmas
 pub mod DateLemmas
+pub mod DaylessLemmas
 pub mod FaultLemmas
 pub mod FourLemmas
 pub mod FrameLemmas
@@ -18,6 +20,7 @@ pub mod ListLemmas
 pub mod MapLemmas
 pub mod MsmLemmas
 pub mod NamedLemmas
+pub mod NamelessLemmas
 pub mod NextLemmas
 pub mod PhaseLemmas
 pub mod PublicLaws
@@ -29,6 +32,7 @@ pub mod SignalLemmas
 pub mod StationLemmas
 pub mod SummaryTellingLemmas
 pub mod SystemLemmas
+pub mod SystemPhaseLemmas
 pub mod SystemTellingLemmas
 pub mod TallyLemmas
 pub mod TargetLemmas

@@ -228,6 +228,8 @@ own-survey ms d e s is = record {
   far = is.far;
   dates = refl;
   equipment = refl;
+  nameless = is.nameless;
+  other_point = is.other_point;
 }
 
 -- what is put of a station that holds this much

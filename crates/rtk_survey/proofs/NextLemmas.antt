@@ -118,7 +118,7 @@ items-are legacy s ms has counts =
     (λ slot from lt.
     let within : slot < 28 = omega (arith, lt) in
     item-agree (slots_held legacy s) (slots_beside legacy ms) (fields_held s) (fields_told ms) slot (slots-are legacy s ms slot within has)
-    (λ field few. counted-as s.channels.items ms slot field (record { first = from; last = within; few = few }) counts))
+    (λ field few. counted-as s.channels.items ms slot field (record { first = from; last = within; few = omega (arith, few) }) counts))
 
 -- the options of GLONASS by what is held are those by the messages
 pub glonass-is : (date : Option UtcDate) (s : StationSurvey) (ms : List AnyMessage) → HasSystems s.system_msm ms → CountsChannels s.channels.items ms → s.times ≡ times_of (times_of_week ms)

@@ -4,10 +4,12 @@ use Rattle.std.specs.List.{list_any}
 use Rattle.arrayvec.specs.ArrayVec.{ArrayVec}
 use Rattle.rtk_message.specs.Fields.{week_ms}
 use Rattle.rtk_survey.specs.Epochs.{with_time, begun, last_time_of_week}
+use Rattle.rtk_survey.specs.FarDates.{far_date, first_far_date}
 use Rattle.rtk_survey.specs.Telling.{half_week_ms, told, own_moment}
 use Rattle.rtk_survey.specs.declared.capture_dates.CaptureDates.{CaptureDates}
 use Rattle.rtk_survey.specs.declared.date_message.DateMessage.{DateMessage}
 use Rattle.rtk_survey.specs.declared.date_message.DateMessage.TheVariants.{Utc, Ephemeris, OtherEphemeris}
+use Rattle.rtk_survey.specs.declared.far_date.FarDate.{FarDate}
 use Rattle.rtk_survey.specs.declared.span.Span.{Span}
 use Rattle.rtk_survey.specs.declared.tellings.Told.{Told}
 use Rattle.rtk_survey.specs.declared.tellings.Tellings.{Tellings}
@@ -56,9 +58,13 @@ abbrev pub with_first_if_any : ℕ → DateMessage → Option ℕ → Tellings �
 with_first_if_any station d None t = t
 with_first_if_any station d (Some first) t = with_first station d first t
 
+-- a date more that may be far from the epoch beside it
+abbrev pub with_far_date : Option FarDate → Tellings → Tellings
+with_far_date more t = record t { far = first_far_date t.far more }
+
 -- a message more after these epochs of the station
 abbrev pub with_telling : ℕ → ℕ → Span → DateMessage → Tellings → Tellings
-with_telling now station s d t = with_first_if_any station d (first_epoch_told now s d) t
+with_telling now station s d t = with_first_if_any station d (first_epoch_told now s d) (with_far_date (far_date now station s d) t)
 
 -- messages more, in this order
 abbrev pub with_tellings : ℕ → ℕ → Span → List DateMessage → Tellings → Tellings
@@ -67,7 +73,7 @@ with_tellings now station s (d ∷ ds) t = with_tellings now station s ds (with_
 
 abbrev pub no_tellings : Tellings
 no_tellings =
-    record { own = record { items = [] }; weeks = record { items = [] }; system_weeks = record { items = [] }; others = record { items = [] } }
+    record { own = record { items = [] }; weeks = record { items = [] }; system_weeks = record { items = [] }; others = record { items = [] }; far = None }
 
 -- ---- the capture so far
 

@@ -1,6 +1,6 @@
 -- How often messages tell each frequency channel of each slot of GLONASS. Lists of messages are newest first.
 -- Source: RTCM 10403.3, DF038, DF040, DF394 and DF419
-use Rattle.std.specs.Prelude.{◌≡◌, ℕ, ◌+◌, ◌-◌, ◌*◌, ◌/◌, ◌%◌, ◌^◌, ◌==◌, ◌<◌, ◌≤◌, Bool, true, false, ◌&&◌, List, [], ◌∷◌, length, get_or, slice_get, count_ones, nat_lt, Option, None, Some, if◌then◌else◌}
+use Rattle.std.specs.Prelude.{◌≡◌, ℕ, ◌+◌, ◌-◌, ◌*◌, ◌/◌, ◌%◌, ◌^◌, ◌==◌, ◌<◌, ◌≤◌, Bool, true, false, not, ◌&&◌, List, [], ◌∷◌, length, get_or, slice_get, count_ones, nat_lt, Option, None, Some, if◌then◌else◌}
 use Rattle.rtk_message.specs.declared.any_message.AnyMessage.{AnyMessage}
 use Rattle.rtk_message.specs.declared.any_message.AnyMessage.TheVariants as any
 use Rattle.rtk_message.specs.declared.msm.Msm.{Msm}
@@ -41,8 +41,14 @@ is_glonass Qzss = false
 is_glonass Sbas = false
 is_glonass Navic = false
 
+-- constant
+-- the field, if it tells a channel in an MSM: 15 tells none (DF419)
+abbrev pub if_channel : Option ℕ → Option ℕ
+if_channel None = None
+if_channel (Some field) = if not (field == 15) then Some field else None
+
 abbrev pub field_in_msm : Msm → ℕ → Option ℕ
-field_in_msm m slot = if is_glonass m.system then slot_field m slot else None
+field_in_msm m slot = if is_glonass m.system then if_channel (slot_field m slot) else None
 
 -- the field of the first satellite of a slot (DF040)
 abbrev pub field_in_1012 : ℕ → List GlonassSatellite → Option ℕ
@@ -65,25 +71,26 @@ is_of_glonass (any.Msm m) = is_glonass m.system
 is_of_glonass (any.Obs1012 m) = true
 
 -- formula
--- the place of a slot, 1 to 27, and of a field that tells a channel, 0 to 13: 7 more than the channel
+-- the place of a slot, 1 to 27, and of a field that tells a channel, 0 to 20: 7 more than the channel, which is -7 to +13
+-- (DF040)
 abbrev pub place_of_field : ℕ → ℕ → ℕ
-place_of_field slot field = 14 * slot + field
+place_of_field slot field = 21 * slot + field
 
 -- the slots and the fields that tell a channel
 pub record IsChannelTold (slot field : ℕ) : Type 0 where
   pub first : 1 ≤ slot
   pub last : slot < 28
-  pub few : field < 14
+  pub few : field < 21
 
 -- a table has a place for each slot and field, with how many of these tell it
 pub record CountsFields {X : Type 0} (tells : ℕ → ℕ → X → Bool) (table : List ℕ) (xs : List X) : Type 0 where
-  pub size : length table ≡ 392
+  pub size : length table ≡ 588
   pub counts : (slot field : ℕ) → IsChannelTold slot field → get_or table (place_of_field slot field) 0 ≡ count_of (tells slot field) xs
 
 -- formula
--- some message tells the slot and the field of a place
+-- some message tells the slot and the field of a place, and RINEX has the channel: one from -7 to +6
 abbrev pub place_is_told : List AnyMessage → ℕ → Bool
-place_is_told ms place = nat_lt 0 (count_of (tells_field (place / 14) (place % 14)) ms)
+place_is_told ms place = nat_lt (place % 21) 14 && nat_lt 0 (count_of (tells_field (place / 21) (place % 21)) ms)
 
 -- as long as there is no table, none of these tells a channel
 abbrev pub CountsTold : {X : Type 0} → (ℕ → ℕ → X → Bool) → List ℕ → List X → Type 0

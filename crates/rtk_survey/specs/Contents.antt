@@ -18,12 +18,14 @@ use Rattle.rtk_survey.specs.BesideGps.{is_beside_numbered, messages_beside, cell
 use Rattle.rtk_survey.specs.Chains.{clocks_of, clocks_at}
 use Rattle.rtk_survey.specs.Channels.{CountsChannels, CountsSlots}
 use Rattle.rtk_survey.specs.Counting.{shown_count, count_of}
+use Rattle.rtk_survey.specs.Dayless.{is_dayless_numbered}
 use Rattle.rtk_survey.specs.EquipmentHistory.{no_equipment, equipment_of}
 use Rattle.rtk_survey.specs.FrameDates.{dates_in, no_station_dates, station_dates, is_of_week}
 use Rattle.rtk_survey.specs.FrameEquipment.{equipment_among}
+use Rattle.rtk_survey.specs.Nameless.{is_nameless_numbered}
 use Rattle.rtk_survey.specs.Proposal.{epochs_in, times_with_value, entries_with}
 use Rattle.rtk_survey.specs.ReadFrames.{ReadFrame, bytes_in, messages_in, faults_in, messages_from}
-use Rattle.rtk_survey.specs.ReferencePoints.{first_point, far_point}
+use Rattle.rtk_survey.specs.ReferencePoints.{first_point, far_point, has_other_point}
 use Rattle.rtk_survey.specs.Sbas.{has_sbas}
 use Rattle.rtk_survey.specs.SystemTellings.{system_messages_in, names_week, HasLeapRanges}
 use Rattle.rtk_survey.specs.Targets.{IsAnswer}
@@ -168,6 +170,10 @@ pub record CountsMessages (s : MessageCounts) (ms : List AnyMessage) : Type 0 wh
   pub arp_1006 : s.arp_1006 ≡ count_of (is_numbered 1006) ms
   pub sbas_1004 : s.sbas_1004 ≡ count_of has_sbas ms
 
+-- how many messages of each number have cells without a name
+abbrev pub CountsNameless : BTreeMap ℕ ℕ → List AnyMessage → Type 0
+CountsNameless counts ms = (n : ℕ) → count_at counts n ≡ count_of (is_nameless_numbered n) ms
+
 -- what is held of the antenna and the receiver: an entry, or none
 abbrev pub equipment_at : {A : Type 0} → Vec Equipment A → Equipment
 equipment_at entries = get_or entries.items 0 no_equipment
@@ -186,6 +192,8 @@ pub record IsStationOf (ms : List AnyMessage) (d : StationDates) (e : Equipment)
   pub far : s.far_point ≡ far_point ms
   pub dates : s.dates ≡ d
   pub equipment : equipment_at s.equipment ≡ e
+  pub nameless : CountsNameless s.nameless ms
+  pub other_point : s.has_other_point ≡ has_other_point ms
 
 -- of a station without an entry nothing came
 abbrev pub IsHeard : List AnyMessage → StationDates → Equipment → Option StationSurvey → Type 0
@@ -209,6 +217,10 @@ CountsSystemWeeks number weeks ts = (n : ℕ) → count_at weeks n ≡ count_of 
 -- how many messages of each number came that are of another system than GPS
 abbrev pub CountsBeside : BTreeMap ℕ ℕ → List AnyMessage → Type 0
 CountsBeside counts ms = (n : ℕ) → count_at counts n ≡ count_of (is_beside_numbered n) ms
+
+-- how many MSM of each number tell no day
+abbrev pub CountsDayless : BTreeMap ℕ ℕ → List AnyMessage → Type 0
+CountsDayless counts ms = (n : ℕ) → count_at counts n ≡ count_of (is_dayless_numbered n) ms
 
 -- formula
 -- how many messages of a number came that a conversion of GPS does not read
@@ -235,6 +247,7 @@ pub record HoldsFrames (q : Option Target) (fs : List ReadFrame) (c : Contents) 
   pub unread : CountsFaults c.unread (faults_in fs)
   pub beside : CountsBeside c.beside (messages_in fs)
   pub target : IsAnswer q fs c.target
+  pub dayless : CountsDayless c.dayless (messages_in fs)
 
 -- the survey of a station in a capture
 abbrev pub station_in : ℕ → CaptureSurvey → Option StationSurvey

@@ -64,6 +64,7 @@ table_of_msm p Msm5 = p.of_1075.items
 table_of_msm p Msm6 = p.of_1076.items
 table_of_msm p Msm7 = p.of_1077.items
 
--- what a satellite has of a code, by a table
-abbrev pub count_in : List PhaseCount → ℕ → Code → PhaseCount
-count_in table satellite code = get_or table (place_in_table satellite code) no_phases
+-- formula
+-- what a satellite, by its mask bit (DF394), has of the code of a place among those of its system, by a table
+abbrev pub count_in : List PhaseCount → ℕ → ℕ → PhaseCount
+count_in table bit code = get_or table (16 * bit + code) no_phases

@@ -1,6 +1,7 @@
 -- The antenna reference point that the messages of a station tell (this project's rule). Lists of
 -- messages are newest first.
-use Rattle.std.specs.Prelude.{ℤ, ◌==◌, Bool, ◌&&◌, unsigned_abs, List, [], ◌∷◌, Option, None, Some, if◌then◌else◌}
+use Rattle.std.specs.Prelude.{ℤ, ◌==◌, Bool, false, not, ◌&&◌, ◌||◌, unsigned_abs, List, [], ◌∷◌, Option, None, Some, if◌then◌else◌}
+use Rattle.std.specs.Ordering.{int_eq}
 use Rattle.rtk_message.specs.declared.any_message.AnyMessage.{AnyMessage}
 use Rattle.rtk_message.specs.declared.any_message.AnyMessage.TheVariants as any
 use Rattle.rtk_message.specs.declared.arp1005.Arp1005.{Arp1005 as Message1005}
@@ -56,3 +57,19 @@ if_far (Some first) (Some p) = if are_far first p then Some p else None
 abbrev pub far_point : List AnyMessage → Option ReferencePoint
 far_point [] = None
 far_point (m ∷ before) = first_point_or (far_point before) (if_far (first_point before) (point_of m))
+
+-- formula
+-- two points differ in a coordinate
+abbrev pub are_other : ReferencePoint → ReferencePoint → Bool
+are_other a b = not (int_eq a.x b.x && (int_eq a.y b.y && int_eq a.z b.z))
+
+-- a point is another one than the first
+abbrev pub is_other_point : Option ReferencePoint → Option ReferencePoint → Bool
+is_other_point None p = false
+is_other_point (Some first) None = false
+is_other_point (Some first) (Some p) = are_other first p
+
+-- some 1005 or 1006 has another reference point than the first that has one
+abbrev pub has_other_point : List AnyMessage → Bool
+has_other_point [] = false
+has_other_point (m ∷ before) = has_other_point before || is_other_point (first_point before) (point_of m)

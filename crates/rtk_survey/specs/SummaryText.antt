@@ -201,14 +201,14 @@ signal_lines satellite code index other =
 -- ---- channels of GLONASS, by the test which messages tell
 
 -- formula
--- the channel that a field tells (DF419): 7 less
+-- the channel that a field tells (DF040, DF419): 7 less
 abbrev pub field_channel_text : ℕ → List ℕ
-field_channel_text field = if nat_lt field 7 then 45 ∷ (48 + (7 - field)) ∷ [] else (48 + (field - 7)) ∷ []
+field_channel_text field = if nat_lt field 7 then 45 ∷ (48 + (7 - field)) ∷ [] else decimal (field - 7)
 
 -- formula
 -- a slot and a channel, as in 10:-5, by the place of the slot and the field
 abbrev pub told_channel_text : ℕ → List ℕ
-told_channel_text place = decimal (place / 14) ++ 58 ∷ field_channel_text (place % 14)
+told_channel_text place = decimal (place / 21) ++ 58 ∷ field_channel_text (place % 21)
 
 -- formula
 abbrev pub joined_channels : ℕ → List ℕ → List ℕ
@@ -218,7 +218,7 @@ joined_channels separator (p ∷ ps) = separator ∷ told_channel_text p ++ join
 -- formula
 -- the channels of slots 1 to 27 that messages tell, as an option lists them; a slot with several is named with each
 unfoldable pub told_channels_text : (ℕ → Bool) → List ℕ
-told_channels_text told = joined_channels 32 (filter told (range_with_len 14 378))
+told_channels_text told = joined_channels 32 (filter told (range_with_len 21 567))
 
 -- formula
 -- without a channel there is no line

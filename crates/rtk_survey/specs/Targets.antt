@@ -13,6 +13,7 @@ use Rattle.rtk_obs.specs.declared.any_code.AnyCode.{AnyCode}
 use Rattle.rtk_obs.specs.AnyCode.{system_of, number_of, all_any_codes}
 use Rattle.rtk_survey.specs.BesideGps.{gives_value_beside}
 use Rattle.rtk_survey.specs.CaptureDates.{no_dates, with_epoch_time, with_date, with_waiting}
+use Rattle.rtk_survey.specs.ClockSpans.{followed_with_value, no_station_clocks, clocks_by_station, with_time_for_if_any}
 use Rattle.rtk_survey.specs.Counting.{shown_count}
 use Rattle.rtk_survey.specs.DateMessages.{date_in}
 use Rattle.rtk_survey.specs.Epochs.{last_time_of_week}
@@ -22,12 +23,12 @@ use Rattle.rtk_survey.specs.Parting.{no_parting, with_epochs}
 use Rattle.rtk_survey.specs.Phases.{HasPhases}
 use Rattle.rtk_survey.specs.Proposal.{entry_has_value}
 use Rattle.rtk_survey.specs.ReadFrames.{ReadFrame, messages_in, messages_from}
-use Rattle.rtk_survey.specs.Telling.{is_to_come}
+use Rattle.rtk_survey.specs.SystemPhases.{HasSystemPhases}
+use Rattle.rtk_survey.specs.ToCome.{told_to_come}
 use Rattle.rtk_survey.specs.Tracing.{entries_of_message}
 use Rattle.rtk_survey.specs.declared.capture_dates.CaptureDates.{CaptureDates}
 use Rattle.rtk_survey.specs.declared.date_message.DateMessage.{DateMessage}
-use Rattle.rtk_survey.specs.declared.date_message.DateMessage.TheVariants.{Utc, Ephemeris, OtherEphemeris}
-use Rattle.rtk_survey.specs.declared.date_message.UtcDate.{UtcDate}
+use Rattle.rtk_survey.specs.declared.clock_spans.StationClocks.{StationClocks}
 use Rattle.rtk_survey.specs.declared.dating_systems.DatingSystems.{DatingSystems}
 use Rattle.rtk_survey.specs.declared.equipment_message.EquipmentMessage.{EquipmentMessage}
 use Rattle.rtk_survey.specs.declared.parting.Parting.{Parting}
@@ -38,6 +39,7 @@ use Rattle.rtk_survey.specs.declared.target.Target.{Target}
 use Rattle.rtk_survey.specs.declared.target.EquipmentTimes.{EquipmentTimes}
 use Rattle.rtk_survey.specs.declared.target.TargetDates.{TargetDates}
 use Rattle.rtk_survey.specs.declared.target.TargetSurvey.{TargetSurvey}
+use Rattle.rtk_survey.specs.declared.tellings.Told.{Told}
 
 -- ---- the systems that date
 
@@ -188,21 +190,34 @@ parting_of q [] = no_parting
 parting_of q (f ∷ before) =
     parting_with_reading q.present (dates_of q before) (shown_count (length before)) (parting_of q before) f.reading f.payload
 
+-- ---- the clocks that give no epoch
+
+-- the epochs of a station, if it is the one that is known
+abbrev pub epochs_if_known : ℕ → TargetDates → Option Span
+epochs_if_known n d = if unwrap_or d.station n == n then d.capture.span else None
+
+abbrev pub clocks_with_reading : ℕ → TargetDates → StationClocks → Result AnyMessage AnyFault → StationClocks
+clocks_with_reading n d s (Ok m) = with_time_for_if_any n (station_of m) (epochs_if_known (station_of m) d) (followed_with_value m) s
+clocks_with_reading n d s (Err fault) = s
+
+-- how far the clocks of GLONASS and BeiDou of a station go in these frames
+abbrev pub clocks_in : Target → List ReadFrame → ℕ → StationClocks
+clocks_in q [] n = no_station_clocks
+clocks_in q (f ∷ before) n = clocks_with_reading n (dates_of q before) (clocks_in q before n) f.reading
+
 -- ---- a date that is to come
 
-abbrev pub first_to_come : ℕ → Option UtcDate → Option DateMessage → Option UtcDate
-first_to_come now (Some d) m = Some d
+abbrev pub first_to_come : ℕ → Option Told → Option DateMessage → Option Told
+first_to_come now (Some t) m = Some t
 first_to_come now None None = None
-first_to_come now None (Some (Utc d)) = if is_to_come now d then Some d else None
-first_to_come now None (Some (Ephemeris e)) = None
-first_to_come now None (Some (OtherEphemeris w)) = None
+first_to_come now None (Some d) = told_to_come now d
 
-abbrev pub to_come_with_reading : ℕ → Option UtcDate → Result AnyMessage AnyFault → List ℕ → Option UtcDate
+abbrev pub to_come_with_reading : ℕ → Option Told → Result AnyMessage AnyFault → List ℕ → Option Told
 to_come_with_reading now known (Ok m) payload = known
 to_come_with_reading now known (Err fault) payload = first_to_come now known (date_in (bits payload))
 
--- the first 1013 or 1029, of any station, whose date is to come
-abbrev pub to_come_of : ℕ → List ReadFrame → Option UtcDate
+-- the first message, of any station, whose date is to come
+abbrev pub to_come_of : ℕ → List ReadFrame → Option Told
 to_come_of now [] = None
 to_come_of now (f ∷ before) = to_come_with_reading now (to_come_of now before) f.reading f.payload
 
@@ -216,6 +231,8 @@ pub record IsTargetOf (q : Target) (fs : List ReadFrame) (t : TargetSurvey) : Ty
   pub equipment : t.equipment ≡ equipment_times_of q fs
   pub parting : t.parting ≡ parting_of q fs
   pub to_come : t.to_come ≡ to_come_of q.present fs
+  pub clocks : (n : ℕ) → clocks_by_station t.clocks n ≡ clocks_in q fs n
+  pub system_phases : HasSystemPhases q.station (messages_in fs) t.system_phases
 
 -- what a capture with these frames tells of the station of a conversion, if it is asked for
 abbrev pub IsAnswer : Option Target → List ReadFrame → Option TargetSurvey → Type 0

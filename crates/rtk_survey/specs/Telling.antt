@@ -130,11 +130,11 @@ own_moment_of_ephemeris now e =
     if nat_lt (1000 * e.reference_time_s) week_ms then told_by_ephemeris now e (1000 * e.reference_time_s) else None
 
 -- formula
--- formula
 abbrev pub own_moment_of_system_week : ℕ → SystemWeek → Option ℕ
 own_moment_of_system_week now w =
     if nat_lt (1000 * w.reference_time_s) week_ms then told_by_system_week now w (1000 * w.reference_time_s) else None
 
+-- formula
 -- the moment that a message names itself, by the present
 abbrev pub own_moment : ℕ → DateMessage → Option ℕ
 own_moment now (Utc d) = if is_possible now d then Some (moment_of d) else None

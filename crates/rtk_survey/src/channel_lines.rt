@@ -6,36 +6,35 @@ ghost use Rattle.std.specs.Prelude.{◌≡◌, ◌<◌, ◌++◌, IfOk, OnOk};
 ghost use Rattle.rtk_survey.specs.Steps.Tables.{place_is_counted};
 ghost use Rattle.rtk_survey.specs.SummaryText as spec;
 
-use crate::channels::{FIELDS, PLACES};
+use crate::channels::{CHANNELS, FIELDS, PLACES};
 use rtk_message::put_number;
 use std::alloc::{AllocError, Global};
 
-// The channel that a field tells.
-fn put_channel(text: &mut Vec<u8>, field: u8) -> Result<(), AllocError>
-    requires { field < 14 }
+/// Appends the channel that a field tells: 7 less.
+pub fn put_field_channel(text: &mut Vec<u8>, field: u8) -> Result<(), AllocError>
     ensures { OnOk result (text.new.items ≡ text.old.items ++ spec.field_channel_text field) }
 {
     if field < 7 {
         text.extend_from_slice(&[b'-', b'0' + (7 - field)])
     } else {
-        text.extend_from_slice(&[b'0' + (field - 7)])
+        put_number(text, u64::from(field - 7))
     }
 }
 
 /// The slot and the channel of a place.
 pub(crate) fn put_told_channel(text: &mut Vec<u8>, place: usize) -> Result<(), AllocError>
-    requires { place < 392 }
+    requires { place < 588 }
     ensures { OnOk result (text.new.items ≡ text.old.items ++ spec.told_channel_text place) }
 {
     put_number(text, (place / FIELDS) as u64)?;
     text.push(b':')?;
-    put_channel(text, (place % FIELDS) as u8)
+    put_field_channel(text, (place % FIELDS) as u8)
 }
 
 fn is_counted(table: &[u64], place: usize) -> bool
     ensures { result ≡ place_is_counted table.now place }
 {
-    0 < table.get(place).copied().unwrap_or(0)
+    place % FIELDS < usize::from(CHANNELS) && 0 < table.get(place).copied().unwrap_or(0)
 }
 
 // The channels that are told, as an option lists them.

@@ -14,11 +14,17 @@ use std::alloc::{AllocError, Global};
 /// The slots of GLONASS: 1 to 27.
 const SLOTS: u8 = 28;
 
-/// The fields that tell a channel (DF419, DF040): 0 to 13, 7 more than the channel.
-pub(crate) const FIELDS: usize = 14;
+/// The fields that tell a channel (DF040): 0 to 20, 7 more than the channel.
+pub(crate) const FIELDS: usize = 21;
+
+/// Those that tell a channel that RINEX has, -7 to +6: 0 to 13.
+pub(crate) const CHANNELS: u8 = 14;
+
+/// The field of an MSM (DF419) that tells no channel.
+const UNKNOWN: u8 = 15;
 
 /// The places of a table.
-pub(crate) const PLACES: usize = 392;
+pub(crate) const PLACES: usize = 588;
 
 // The mask has the bit of this slot.
 fn has_slot_bit(mask: u64, slot: u8) -> bool
@@ -66,12 +72,12 @@ fn is_glonass(system: System) -> bool
 
 // Counts a field of a slot, if it tells a channel.
 fn count_field(table: &mut Vec<u64>, slot: u8, field: u8)
-    requires size { length table.old.items ≡ 392 }
+    requires size { length table.old.items ≡ 588 }
     requires slot { slot < 28 }
-    ensures size { length table.new.items ≡ 392 }
-    ensures own { field < 14 → get_or table.new.items (spec.place_of_field slot field) 0
+    ensures size { length table.new.items ≡ 588 }
+    ensures own { field < 21 → get_or table.new.items (spec.place_of_field slot field) 0
         ≡ shown_count (get_or table.old.items (spec.place_of_field slot field) 0 + 1) }
-    ensures others { (s f : ℕ) → f < 14 → (s ≡ slot → f ≢ field)
+    ensures others { (s f : ℕ) → f < 21 → (s ≡ slot → f ≢ field)
         → get_or table.new.items (spec.place_of_field s f) 0 ≡ get_or table.old.items (spec.place_of_field s f) 0 }
 {
     let field = usize::from(field);
@@ -93,19 +99,29 @@ fn field_in_1012(satellites: &[GlonassSatellite], slot: u8) -> Option<u8>
     None
 }
 
+// The field, if it tells a channel in an MSM.
+fn if_channel(field: Option<u8>) -> Option<u8>
+    ensures { result ≡ spec.if_channel field }
+{
+    match field {
+        Some(field) if field != UNKNOWN => Some(field),
+        _ => None,
+    }
+}
+
 fn field_in_msm(message: &Msm, slot: u8) -> Option<u8>
     requires { (1 ≤ slot) × (slot < 28) }
     ensures { result ≡ spec.field_in_msm message.now slot }
 {
     if is_glonass(message.system) {
-        slot_field(message, slot)
+        if_channel(slot_field(message, slot))
     } else {
         None
     }
 }
 
-// The field of a slot, if the message is of GLONASS and has it.
-fn field_told(message: &AnyMessage, slot: u8) -> Option<u8>
+/// The field of a slot, if the message is of GLONASS and has it.
+pub(crate) fn field_told(message: &AnyMessage, slot: u8) -> Option<u8>
     requires { (1 ≤ slot) × (slot < 28) }
     ensures { result ≡ spec.field_told message.now slot }
 {
@@ -118,12 +134,12 @@ fn field_told(message: &AnyMessage, slot: u8) -> Option<u8>
 
 // Counts the field of a slot, if the message has it.
 fn take_slot(table: &mut Vec<u64>, message: &AnyMessage, slot: u8)
-    requires size { length table.old.items ≡ 392 }
+    requires size { length table.old.items ≡ 588 }
     requires slot { (1 ≤ slot) × (slot < 28) }
-    ensures size { length table.new.items ≡ 392 }
-    ensures own { (f : ℕ) → f < 14 → spec.tells_field slot f message.now ≡ true
+    ensures size { length table.new.items ≡ 588 }
+    ensures own { (f : ℕ) → f < 21 → spec.tells_field slot f message.now ≡ true
         → get_or table.new.items (spec.place_of_field slot f) 0 ≡ shown_count (get_or table.old.items (spec.place_of_field slot f) 0 + 1) }
-    ensures others { (s f : ℕ) → f < 14 → (s ≡ slot → spec.tells_field s f message.now ≡ false)
+    ensures others { (s f : ℕ) → f < 21 → (s ≡ slot → spec.tells_field s f message.now ≡ false)
         → get_or table.new.items (spec.place_of_field s f) 0 ≡ get_or table.old.items (spec.place_of_field s f) 0 }
 {
     if let Some(field) = field_told(message, slot) {
@@ -133,7 +149,7 @@ fn take_slot(table: &mut Vec<u64>, message: &AnyMessage, slot: u8)
 
 // Counts the fields of all slots.
 fn take_slots(table: &mut Vec<u64>, message: &AnyMessage)
-    requires { length table.old.items ≡ 392 }
+    requires { length table.old.items ≡ 588 }
     ensures { TakesFields (λ slot field. spec.tells_field slot field message.now) table.old.items table.new.items }
 {
     for slot in 1u8..SLOTS {
@@ -144,7 +160,7 @@ fn take_slots(table: &mut Vec<u64>, message: &AnyMessage)
 // Makes a table, unless it is there.
 fn make_table(alloc: Global, table: &mut Vec<u64>) -> Result<(), AllocError>
     ensures made { OnOk result (IsTableMade table.old.items table.new.items) }
-    ensures size { OnOk result (length table.new.items ≡ 392) }
+    ensures size { OnOk result (length table.new.items ≡ 588) }
 {
     if table.len() != PLACES {
         *table = vec![in alloc; 0u64; PLACES]?;
@@ -159,7 +175,8 @@ pub(crate) fn no_channels_told(alloc: Global) -> Vec<u64>
     Vec::new(alloc)
 }
 
-fn is_of_glonass(message: &AnyMessage) -> bool
+/// Is it a message of GLONASS?
+pub(crate) fn is_of_glonass(message: &AnyMessage) -> bool
     ensures { result ≡ spec.is_of_glonass message.now }
 {
     match message {
@@ -187,7 +204,7 @@ pub(crate) fn take_channels(
 
 // Counts the channel that a 1020 tells.
 fn take_told(table: &mut Vec<u64>, told: SlotChannel)
-    requires { length table.old.items ≡ 392 }
+    requires { length table.old.items ≡ 588 }
     ensures { TakesFields (spec.tells_slot_channel told) table.old.items table.new.items }
 {
     if told.slot < SLOTS {
@@ -228,7 +245,7 @@ pub(crate) fn take_slot_channel(
     Ok(())
 }
 
-/// How many messages tell a field (0 to 13, 7 more than the channel) of a slot (1 to 27), by a table.
+/// How many messages tell a field (0 to 20, 7 more than the channel) of a slot (1 to 27), by a table.
 pub fn count_of_field(table: &[u64], slot: u8, field: u8) -> u64
     ensures { result ≡ get_or table.now (spec.place_of_field slot field) 0 }
 {

@@ -116,7 +116,8 @@ fn gps_clock(tow: u32) -> ClockTold
     }
 }
 
-fn tells_day(system: System, clock: u32) -> bool
+/// Does a clock of a system tell a day? One of GLONASS may not.
+pub(crate) fn tells_day(system: System, clock: u32) -> bool
     ensures { result ≡ spec.tells_day system clock }
 {
     match system {

@@ -3,6 +3,7 @@
 ghost use Rattle.std.specs.Prelude.{◌≡◌, ◌+◌, ◌∷◌, [], List, ℕ, Option, Ok, Err, OnOk};
 ghost use Rattle.std.specs.List.{cons_option};
 ghost use Rattle.rtk_bits.specs.Bits.{bits};
+ghost use Rattle.rtk_message.specs.AnyDecoded.{IsValid};
 ghost use Rattle.rtk_message.specs.declared.any_message.AnyMessage.{AnyMessage};
 ghost use Rattle.rtk_survey.specs.BesideGps.{cells_beside_gps};
 ghost use Rattle.rtk_survey.specs.Contents.{AreStations, CountsBeside, CountsWeeks, HasSystemTellings, HoldsFrames, others_held};
@@ -19,6 +20,7 @@ ghost use Rattle.rtk_survey.specs.declared.target.Target.{Target};
 
 use crate::beside_gps::is_beside_gps;
 use crate::date_message::{DateMessage, date_in};
+use crate::dayless::count_dayless;
 use crate::equipment_message::equipment_in;
 use crate::signals::Codes;
 use crate::station::StationSurvey;
@@ -54,6 +56,8 @@ pub struct Contents {
     pub beside: BTreeMap<u16, u64>,
     /// What they tell of the station of a conversion, if it is asked for.
     pub target: Option<TargetSurvey>,
+    /// How many MSM of GLONASS tell no day (DF416 7), by number (DF002). A conversion without 1012 can't read them.
+    pub dayless: BTreeMap<u16, u64>,
 }
 
 // Counts what a message tells of a date.
@@ -157,6 +161,7 @@ impl Contents {
             unread: Unread::new(alloc),
             beside: BTreeMap::new(alloc),
             target: answer_to(alloc, target),
+            dayless: BTreeMap::new(alloc),
         }
     }
 
@@ -170,6 +175,7 @@ impl Contents {
         entries: &[CellEntry],
         signals: &[SignalEntry],
     ) -> Result<(), AllocError>
+        requires valid { IsValid message.now }
         requires entries { entries.now ≡ entries_of_message message.now }
         requires signals { signals.now ≡ cells_beside_gps message.now }
         ensures { OnOk result ((q : Option Target) (before : List ReadFrame) → HoldsFrames q before self.old
@@ -182,6 +188,7 @@ impl Contents {
         self.codes.join(&codes);
         self.system_signals.mark_entries(signals);
         count_beside(&mut self.beside, message)?;
+        count_dayless(&mut self.dayless, message)?;
         take_message(alloc, &mut self.stations, message, entries, &codes, signals)?;
         take_target_message(alloc, &mut self.target, message, entries, signals, frame)
     }

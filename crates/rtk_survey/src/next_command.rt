@@ -16,7 +16,7 @@ ghost use Rattle.rtk_survey.specs.SummaryText.{msm_option};
 ghost use Rattle.rtk_survey.specs.WrongClocks.{is_system_wrong};
 
 use crate::channel_lines::put_told_channel;
-use crate::channels::{FIELDS, count_of_field};
+use crate::channels::{CHANNELS, FIELDS, count_of_field};
 use crate::clock_chains::{ClockOffsets, ClockSurvey};
 use crate::date_message::UtcDate;
 use crate::station::StationSurvey;
@@ -381,7 +381,7 @@ fn most_told(station: &StationSurvey, slot: u8) -> Option<u8>
     ensures bound { IfSome result (λ f. f < 14) }
 {
     let mut told = None;
-    for field in 0u8..FIELDS as u8 {
+    for field in 0u8..CHANNELS {
         told = more_told(station, slot, told, field);
     }
     told

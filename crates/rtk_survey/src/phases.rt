@@ -55,8 +55,8 @@ impl PhaseCount {
         }
     }
 
-    // A cell more.
-    fn take(&mut self, cell: &Cell)
+    /// A cell more.
+    pub(crate) fn take(&mut self, cell: &Cell)
         ensures has_value { self.new.has_value ≡ (has_value cell.now || self.old.has_value) }
         ensures phases { self.new.phases ≡ shown_count (self.old.phases + one_if (is_some cell.now.phase_millicycles)) }
     {
@@ -160,10 +160,10 @@ impl Phases {
     }
 }
 
-/// What a satellite has of a code, by a table.
-pub fn count_in_table(table: &[PhaseCount], satellite: u8, code: Code) -> PhaseCount
-    ensures { result ≡ spec.count_in table.now satellite code }
+/// What a satellite, by its mask bit (DF394), has of the code of a place among those of its system, by a table.
+pub fn count_in_table(table: &[PhaseCount], bit: u8, code: u8) -> PhaseCount
+    ensures { result ≡ spec.count_in table.now bit code }
 {
-    let place = place_in_table(satellite, code);
+    let place = CODES * usize::from(bit) + usize::from(code);
     table.get(place).copied().unwrap_or(PhaseCount::nothing())
 }

@@ -108,3 +108,32 @@ pub fn far_point_with(
         None => if_far(first, point_of(message)),
     }
 }
+
+fn are_other(a: &ReferencePoint, b: &ReferencePoint) -> bool
+    ensures { result ≡ spec.are_other a.now b.now }
+{
+    !(a.x == b.x && a.y == b.y && a.z == b.z)
+}
+
+/// Is it another point than the first one? None differs from none.
+pub fn is_other_point(first: Option<ReferencePoint>, point: Option<ReferencePoint>) -> bool
+    ensures { result ≡ spec.is_other_point first point }
+{
+    match (first, point) {
+        (Some(first), Some(point)) => are_other(&first, &point),
+        _ => false,
+    }
+}
+
+/// Has a station told another reference point than its first one, after a message more? Before it these are the
+/// first one and whether it had.
+pub fn has_other_point_with(
+    first: Option<ReferencePoint>,
+    has_other: bool,
+    message: &AnyMessage,
+) -> bool
+    ensures { (ms : List AnyMessage) → first ≡ spec.first_point ms → has_other ≡ spec.has_other_point ms
+        → result ≡ spec.has_other_point (message.now ∷ ms) }
+{
+    has_other || is_other_point(first, point_of(message))
+}

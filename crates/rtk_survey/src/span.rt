@@ -61,8 +61,8 @@ fn next_greatest(known: Option<GpsMs>, greatest: GpsMs, moment: GpsMs) -> Option
     known
 }
 
-// The moment, if it is at most a week from the first.
-fn followed(first: GpsMs, ms: u64) -> Option<GpsMs>
+/// The moment, if it is at most a week from the first.
+pub(crate) fn followed(first: GpsMs, ms: u64) -> Option<GpsMs>
     ensures { result ≡ (if is_followed first ms then Some ms else None) }
 {
     let moment = GpsMs::new(ms)?;
@@ -92,7 +92,8 @@ impl Span {
         }
     }
 
-    fn take_moment(&mut self, moment: GpsMs)
+    /// An epoch more, at this moment.
+    pub(crate) fn take_moment(&mut self, moment: GpsMs)
         ensures { self.new ≡ with_moment self.old moment }
     {
         self.least = lesser(self.least, moment);

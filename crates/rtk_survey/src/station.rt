@@ -19,7 +19,10 @@ use crate::date_message::UtcDate;
 use crate::equipment::Equipment;
 use crate::equipment_message::EquipmentMessage;
 use crate::msm_parts::MsmParts;
-use crate::reference_point::{ReferencePoint, far_point_with, first_point_with};
+use crate::nameless::{count_nameless, no_nameless};
+use crate::reference_point::{
+    ReferencePoint, far_point_with, first_point_with, has_other_point_with,
+};
 use crate::sbas::has_sbas;
 use crate::signals::{Codes, Signals};
 use crate::station_dates::StationDates;
@@ -68,6 +71,10 @@ pub struct StationSurvey {
     pub dates: StationDates,
     /// What its 1007, 1008 and 1033 tell: an entry, or none if there is no such message.
     pub equipment: Vec<Equipment>,
+    /// How many of its messages have cells of satellites or signals without a name, by number (DF002).
+    pub nameless: BTreeMap<u16, u64>,
+    /// Has one of its 1005 or 1006 another reference point than the first that has one?
+    pub has_other_point: bool,
 }
 
 impl MessageCounts {
@@ -84,8 +91,9 @@ impl MessageCounts {
         }
     }
 
-    /// Counts a message under its number.
-    pub fn count_message(&mut self, message: &AnyMessage)
+    /// Counts a message under its number, by its cells of other systems than GPS.
+    pub(crate) fn count_message(&mut self, message: &AnyMessage, signals: &[SignalEntry])
+        requires { signals.now ≡ cells_beside_gps message.now }
         ensures { (ms : List AnyMessage) → CountsMessages self.old ms → CountsMessages self.new (message.now ∷ ms) }
     {
         let number = message.number();
@@ -93,7 +101,7 @@ impl MessageCounts {
         self.obs_1004 = count_if(self.obs_1004, number == 1004);
         self.arp_1005 = count_if(self.arp_1005, number == 1005);
         self.arp_1006 = count_if(self.arp_1006, number == 1006);
-        self.sbas_1004 = count_if(self.sbas_1004, has_sbas(message));
+        self.sbas_1004 = count_if(self.sbas_1004, has_sbas(message, signals));
     }
 }
 
@@ -126,6 +134,8 @@ impl StationSurvey {
             far_point: None,
             dates: StationDates::new(),
             equipment: Vec::new(alloc),
+            nameless: no_nameless(alloc),
+            has_other_point: false,
         }
     }
 
@@ -144,16 +154,18 @@ impl StationSurvey {
         ensures { OnOk result ((ms : List AnyMessage) (d : StationDates) (e : Equipment) → IsStationOf ms d e self.old
             → IsStationOf (message.now ∷ ms) d e self.new) }
     {
-        self.counts.count_message(message);
+        self.counts.count_message(message, signals);
         self.times.note_message(message);
         self.signals.mark_entries(entries);
         self.msm.add_message(message, entries, codes);
         self.system_signals.mark_entries(signals);
         let first = self.reference_point;
         self.far_point = far_point_with(first, self.far_point, message);
+        self.has_other_point = has_other_point_with(first, self.has_other_point, message);
         self.reference_point = first_point_with(first, message);
         take_channels(alloc, &mut self.channels, message)?;
         take_clock(&mut self.clocks, message)?;
+        count_nameless(&mut self.nameless, message, entries, signals)?;
         take_system_message(&mut self.system_msm, message, signals)
     }
 

@@ -3,10 +3,13 @@
 
 ghost use Rattle.std.specs.Prelude.{◌≡◌, ◌≢◌, ℕ, List, [], ◌∷◌, length, Option, Some, Ok, Err, true, OnOk};
 ghost use Rattle.rtk_bits.specs.Bits.{bits};
+ghost use Rattle.rtk_message.specs.AnyDecoded.{IsValid};
 ghost use Rattle.rtk_message.specs.declared.any_message.AnyMessage.{AnyMessage};
 ghost use Rattle.rtk_message.specs.declared.any_fault.AnyFault.{AnyFault};
+ghost use Rattle.rtk_message.specs.AnyDecoded.{station_of};
 ghost use Rattle.rtk_survey.specs.BesideGps.{cells_beside_gps};
 ghost use Rattle.rtk_survey.specs.CaptureDates.{no_dates};
+ghost use Rattle.rtk_survey.specs.ClockSpans.{clocks_by_station, followed_with_value, with_time_for, with_time_for_if_any};
 ghost use Rattle.rtk_survey.specs.Counting.{shown_count};
 ghost use Rattle.rtk_survey.specs.Parting as parting;
 ghost use Rattle.rtk_survey.specs.ReadFrames.{ReadFrame, read_frame};
@@ -17,17 +20,24 @@ ghost use Rattle.rtk_survey.specs.declared.dating_systems.DatingSystems.{DatingS
 ghost use Rattle.rtk_survey.specs.declared.target.Target.{Target};
 
 use crate::capture_dates::CaptureDates;
-use crate::date_message::{DateMessage, UtcDate, date_in};
+use crate::clock_spans::{
+    FollowedTime, StationClocks, followed_with_value, no_clocks_followed, take_followed_time,
+};
+use crate::date_message::{DateMessage, date_in};
 use crate::dating_systems::DatingSystems;
 use crate::equipment_message::{EquipmentMessage, equipment_in};
 use crate::parting::Parting;
 use crate::phases::Phases;
 use crate::signals::have_value;
+use crate::span::Span;
 use crate::system_msm::gives_value;
-use crate::telling::is_to_come;
+use crate::system_phases::SystemPhases;
+use crate::tellings::Told;
+use crate::to_come::told_to_come;
 use rtk_message::AnyMessage;
 use rtk_obs::{CellEntry, GpsMs, SignalEntry};
 use std::alloc::{AllocError, Global};
+use std::collections::BTreeMap;
 
 /// For which station a capture is surveyed.
 #[derive(Clone, Copy, Debug, PartialEq, Eq)]
@@ -71,8 +81,13 @@ pub struct TargetSurvey {
     pub equipment: EquipmentTimes,
     /// Where a second date begins.
     pub parting: Parting,
-    /// The date of the first 1013 or 1029, of any station, that is passed over since it is to come.
-    pub to_come: Option<UtcDate>,
+    /// The first message with a date, of any station, that is passed over since it is to come, with the moment that it
+    /// names.
+    pub to_come: Option<Told>,
+    /// How far the clocks of GLONASS and BeiDou of each station go.
+    pub clocks: BTreeMap<u16, StationClocks>,
+    /// Its phases of other systems than GPS.
+    pub system_phases: SystemPhases,
 }
 
 // Has a message with these cells an observation of GPS?
@@ -188,15 +203,11 @@ impl EquipmentTimes {
 }
 
 // The first date that is to come: one that was told before, or else this one.
-fn first_to_come(
-    now: GpsMs,
-    before: Option<UtcDate>,
-    message: Option<DateMessage>,
-) -> Option<UtcDate>
+fn first_to_come(now: GpsMs, before: Option<Told>, message: Option<DateMessage>) -> Option<Told>
     ensures { result ≡ spec.first_to_come now before message }
 {
     match (before, message) {
-        (None, Some(DateMessage::Utc(date))) if is_to_come(now, date) => Some(date),
+        (None, Some(message)) => told_to_come(now, &message),
         _ => before,
     }
 }
@@ -239,6 +250,50 @@ fn take_phases(
     Ok(())
 }
 
+// The epochs of a station, if it is the one that is known.
+fn epochs_if_known(dates: &TargetDates, station: u16) -> Option<Span>
+    ensures { result ≡ spec.epochs_if_known station dates.now }
+{
+    if dates.station.unwrap_or(station) == station {
+        dates.capture.span
+    } else {
+        None
+    }
+}
+
+// A message more that tells this time of a clock that gives no epoch, after these epochs.
+fn take_time_of(
+    clocks: &mut BTreeMap<u16, StationClocks>,
+    dates: &TargetDates,
+    message: &AnyMessage,
+    told: FollowedTime,
+) -> Result<(), AllocError>
+    ensures { OnOk result ((n : ℕ) → clocks_by_station clocks.new n
+        ≡ with_time_for n (station_of message.now) (spec.epochs_if_known (station_of message.now) dates.now) told (clocks_by_station clocks.old n)) }
+{
+    let station = message.station();
+    let epochs = epochs_if_known(dates, station);
+    take_followed_time(clocks, station, &epochs, told)
+}
+
+// A message more, if it has a value and tells such a clock.
+fn take_clock_time(
+    clocks: &mut BTreeMap<u16, StationClocks>,
+    dates: &TargetDates,
+    message: &AnyMessage,
+    signals: &[SignalEntry],
+) -> Result<(), AllocError>
+    requires { signals.now ≡ cells_beside_gps message.now }
+    ensures { OnOk result ((n : ℕ) → clocks_by_station clocks.new n
+        ≡ with_time_for_if_any n (station_of message.now) (spec.epochs_if_known (station_of message.now) dates.now)
+        (followed_with_value message.now) (clocks_by_station clocks.old n)) }
+{
+    match followed_with_value(message, signals) {
+        Some(told) => take_time_of(clocks, dates, message, told),
+        None => Ok(()),
+    }
+}
+
 impl TargetSurvey {
     // Nothing came.
     fn new(alloc: Global, target: &Target) -> TargetSurvey
@@ -251,6 +306,8 @@ impl TargetSurvey {
             equipment: EquipmentTimes::new(),
             parting: Parting::new(),
             to_come: None,
+            clocks: no_clocks_followed(alloc),
+            system_phases: SystemPhases::new(alloc, target.station),
         }
     }
 
@@ -263,15 +320,18 @@ impl TargetSurvey {
         signals: &[SignalEntry],
         frame: u64,
     ) -> Result<(), AllocError>
+        requires valid { IsValid message.now }
         requires entries { entries.now ≡ entries_of_message message.now }
         requires signals { signals.now ≡ cells_beside_gps message.now }
         ensures { OnOk result ((q : Target) (fs : List ReadFrame) (payload : List ℕ) → frame ≡ shown_count (length fs)
             → IsTargetOf q fs self.old → IsTargetOf q (read_frame payload (Ok message.now) ∷ fs) self.new) }
     {
+        take_clock_time(&mut self.clocks, &self.dates, message, signals)?;
         let before = self.dates.capture.span;
         take_message(&mut self.dates, self.present, message, entries, signals);
         self.parting
             .take_epochs(before, self.dates.capture.span, frame);
+        self.system_phases.count_phases(alloc, message, signals)?;
         take_phases(
             alloc,
             &mut self.phases,
@@ -286,7 +346,9 @@ impl TargetSurvey {
         ensures dates { self.new.dates ≡ spec.with_date_if_any self.old.present self.old.dates message }
         ensures parting { self.new.parting ≡ parting.parting_with_date self.old.present self.old.dates.station self.old.dates.capture message frame self.old.parting }
         ensures to_come { self.new.to_come ≡ spec.first_to_come self.old.present self.old.to_come message }
-        ensures others { (self.new.present ≡ self.old.present) × (self.new.phases ≡ self.old.phases) × (self.new.equipment ≡ self.old.equipment) }
+        ensures others { (self.new.present ≡ self.old.present) × (self.new.phases ≡ self.old.phases) × (self.new.equipment ≡ self.old.equipment)
+            × (self.new.clocks ≡ self.old.clocks) }
+        ensures system_phases { self.new.system_phases ≡ self.old.system_phases }
     {
         self.to_come = first_to_come(self.present, self.to_come, message);
         let (station, capture) = (self.dates.station, &self.dates.capture);
@@ -324,6 +386,7 @@ pub(crate) fn take_target_message(
     signals: &[SignalEntry],
     frame: u64,
 ) -> Result<(), AllocError>
+    requires valid { IsValid message.now }
     requires entries { entries.now ≡ entries_of_message message.now }
     requires signals { signals.now ≡ cells_beside_gps message.now }
     ensures { OnOk result ((q : Option Target) (fs : List ReadFrame) (payload : List ℕ) → frame ≡ shown_count (length fs)

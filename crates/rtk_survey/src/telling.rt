@@ -79,7 +79,8 @@ pub(crate) fn is_to_come(now: GpsMs, date: UtcDate) -> bool
     is_date(date) && last_day(now) < u64::from(date.day)
 }
 
-fn told_by_utc(now: GpsMs, date: UtcDate, tow: u32) -> Option<u64>
+/// The moment that a 1013 or a 1029 tells of an epoch with this time of week, if its date counts.
+pub(crate) fn told_by_utc(now: GpsMs, date: UtcDate, tow: u32) -> Option<u64>
     ensures { result ≡ spec.told_by_utc now date tow }
 {
     if is_possible(now, date) {
@@ -132,16 +133,16 @@ fn weeks_told_apart(number: u16) -> u64
     if number == 1042 { 8192 } else { 4096 }
 }
 
-// The week of GPS that is week 0 of the system of such a message.
-fn first_week_of(number: u16) -> u64
+/// The week of GPS that is week 0 of the system of such a message.
+pub(crate) fn first_week_of(number: u16) -> u64
     ensures value { result ≡ spec.first_week_of number }
     ensures most { result ≤ 1356 }
 {
     if number == 1042 { 1356 } else { 1024 }
 }
 
-// How many weeks before the week of now the latest week is that the message may name.
-fn system_weeks_before(now: GpsMs, message: SystemWeek) -> u64
+/// How many weeks before the week of now the latest week is that the message may name.
+pub(crate) fn system_weeks_before(now: GpsMs, message: SystemWeek) -> u64
     ensures { result ≡ spec.system_weeks_before now message }
 {
     let apart = weeks_told_apart(message.number);

@@ -5,6 +5,7 @@ ghost use Rattle.std.specs.List.{list_any};
 ghost use Rattle.rtk_survey.specs.CaptureDates.{tells_same, is_reference, first_epoch_from, first_epoch_told, with_told, with_first, with_telling, reference_named, with_own_moment, no_tellings, is_rolled_over, is_one_rolled_over, do_system_weeks_decide, counting};
 
 use crate::date_message::DateMessage;
+use crate::far_date::{FarDate, far_date, first_far_date};
 use crate::span::Span;
 use crate::telling::{own_moment, told};
 use arrayvec::ArrayVec;
@@ -39,10 +40,12 @@ pub struct Tellings {
     pub system_weeks: ArrayVec<Told, MOST_TOLD>,
     /// By 1013 and 1029 of other stations.
     pub others: ArrayVec<Told, MOST_TOLD>,
+    /// The first date of a 1013 or a 1029 of the station that is more than half a day from the epoch beside it.
+    pub far: Option<FarDate>,
 }
 
-// Is it a moment near which a conversion dates?
-fn is_reference(ms: u64) -> bool
+/// Is it a moment near which a conversion dates?
+pub(crate) fn is_reference(ms: u64) -> bool
     ensures { result ≡ is_reference ms }
 {
     WEEK_MS <= ms && ms <= LAST_REFERENCE_MS
@@ -121,6 +124,7 @@ impl Tellings {
             weeks: ArrayVec::new(),
             system_weeks: ArrayVec::new(),
             others: ArrayVec::new(),
+            far: None,
         }
     }
 
@@ -143,6 +147,7 @@ impl Tellings {
     pub(crate) fn take(&mut self, now: GpsMs, station: u16, span: &Span, message: &DateMessage)
         ensures { self.new ≡ with_telling now station span.now message.now self.old }
     {
+        self.far = first_far_date(self.far, far_date(now, station, span, message));
         if let Some(first) = first_epoch_told(now, span, message) {
             self.put_first(station, message, first);
         }

@@ -2,8 +2,12 @@ pub mod AlikeChannels
 pub mod ChannelWords
 pub mod ClockOffsets
 pub mod ClockSeconds
+pub mod DopplerLines
 pub mod FoundSeconds
 pub mod MessageLines
+pub mod NamelessLines
+pub mod OtherChannels
+pub mod SeveralChannels
 pub mod SlotChannels
 pub mod Steps
 pub mod SystemFlags

@@ -97,25 +97,6 @@ msm_lines taken ss station =
     msm_line taken ss station Msm4 ++ msm_line taken ss station Msm5 ++ msm_line taken ss station Msm6 ++ msm_line taken ss station Msm7
 
 -- formula
--- the Doppler of messages of a number, if they are taken
-abbrev pub doppler_line_of : Accepted → ℕ → ℕ → List ℕ
-doppler_line_of taken number count = if accepts taken number then count_line_of (codes " not in the file: Doppler of ") number count else []
-
--- the Doppler of the messages of an MSM
-abbrev pub doppler_of_kind : Accepted → List CaptureSurvey → ℕ → MsmKind → List ℕ
-doppler_of_kind taken ss station kind = doppler_line_of taken (number_of_kind kind) (messages_in_captures ss station kind)
-
--- formula
--- 1075 and 1077 have Doppler
-unfoldable pub doppler_line : Accepted → List CaptureSurvey → ℕ → List ℕ
-doppler_line taken ss station = doppler_of_kind taken ss station Msm5 ++ doppler_of_kind taken ss station Msm7
-
--- formula
--- the same, unless the file shows Doppler shifts
-abbrev pub doppler_line_unless : Bool → Accepted → List CaptureSurvey → ℕ → List ℕ
-doppler_line_unless is_shown taken ss station = if is_shown then [] else doppler_line taken ss station
-
--- formula
 -- the 1004 of a station, unless they are taken
 abbrev pub obs_1004_line : Bool → List CaptureSurvey → ℕ → List ℕ
 obs_1004_line is_taken ss station = if is_taken then [] else count_line_of (codes " not in the file: GPS ") 1004 (obs_1004_in_captures ss station)

@@ -13,7 +13,7 @@
 //! use rtk_systems::{SystemFlags, TakenMessages, codes_in_captures};
 //! use std::alloc::{AllocError, Global};
 //!
-//! // A frame with a 1004 of station 2003, with values of one satellite in C/A code.
+//! // A frame with a 1004 of station 2003, with values of one satellite in the codes 1C and 2W.
 //! const CAPTURE: &[u8] = b"\xD3\x00\x18\x3E\xC7\xD3\x71\x4B\xE8\x00\x10\x14\x98\x96\x80\
 //!     \x00\x00\x01\x51\xAD\x30\x19\x00\x00\x00\x2C\x60\xD0\xFE\x53";
 //!
@@ -27,7 +27,7 @@
 //!         obs1012: false,
 //!     };
 //!     let codes = codes_in_captures(alloc, &[survey], 2003, SystemFlags::ALL, taken)?;
-//!     Ok(codes.as_slice() == [AnyCode::G1C].as_slice())
+//!     Ok(codes.as_slice() == [AnyCode::G1C, AnyCode::G2W].as_slice())
 //! }
 //! ```
 //!
@@ -39,9 +39,13 @@ mod channel_words;
 mod clock_lines;
 mod clock_offsets;
 mod clock_seconds;
+mod doppler_lines;
 mod found_seconds;
 mod held_messages;
 mod message_lines;
+mod nameless_lines;
+mod other_channels;
+mod several_channels;
 mod slot_channels;
 mod system_flags;
 mod system_msms;
@@ -53,8 +57,10 @@ pub use channel_words::put_glonass_words;
 pub use clock_lines::put_told_clocks;
 pub use clock_offsets::systems_with_clocks;
 pub use clock_seconds::ClockSeconds;
+pub use doppler_lines::put_doppler;
 pub use found_seconds::{is_alone, leap_in_capture, seconds_in_captures};
-pub use message_lines::{list_held, put_doppler, put_msms, put_obs_1004, put_sbas, put_unread};
+pub use message_lines::{list_held, put_msms, put_obs_1004, put_sbas, put_unread};
+pub use nameless_lines::put_nameless;
 pub use slot_channels::{channels_found, channels_joined, own_channels};
 pub use system_flags::SystemFlags;
 pub use system_msms::{kinds_listed, put_kinds_words};

@@ -17,7 +17,7 @@ use std::alloc::{AllocError, Global};
 const NUMBERS: u16 = 4096;
 
 /// Appends a line of words, a message number and its count; a count of 0 has no line.
-fn put_count_line(
+pub(crate) fn put_count_line(
     lines: &mut Vec<u8>,
     words: &[u8],
     number: u16,
@@ -80,8 +80,13 @@ fn put_unread_gps(
     Ok(())
 }
 
-// Appends a line of words, a count and an end, if the count is not 0.
-fn put_counted(lines: &mut Vec<u8>, words: &[u8], count: u64, end: &[u8]) -> Result<(), AllocError>
+/// Appends a line of words, a count and an end, if the count is not 0.
+pub(crate) fn put_counted(
+    lines: &mut Vec<u8>,
+    words: &[u8],
+    count: u64,
+    end: &[u8],
+) -> Result<(), AllocError>
     ensures { OnOk result (lines.new.items ≡ lines.old.items ++ spec.ended_count_line words.now count end.now) }
 {
     if count == 0 {
@@ -345,67 +350,6 @@ pub(crate) fn put_held(lines: &mut Vec<u8>, surveys: &[CaptureSurvey]) -> Result
         put_held_line(lines, surveys, number)?;
     }
     Ok(())
-}
-
-// Appends the line of the Doppler of messages of a number, if they are taken.
-fn put_doppler_numbered(
-    lines: &mut Vec<u8>,
-    taken: Accepted,
-    number: u16,
-    count: u64,
-) -> Result<(), AllocError>
-    ensures { OnOk result (lines.new.items ≡ lines.old.items ++ spec.doppler_line_of taken number count) }
-{
-    if !taken.accepts(number) {
-        return Ok(());
-    }
-    put_count_line(lines, b" not in the file: Doppler of ", number, count)
-}
-
-// Appends the line of the Doppler of an MSM, if it is taken.
-fn put_doppler_of(
-    lines: &mut Vec<u8>,
-    surveys: &[CaptureSurvey],
-    station: u16,
-    taken: Accepted,
-    msm: MsmKind,
-) -> Result<(), AllocError>
-    ensures { OnOk result (lines.new.items ≡ lines.old.items ++ spec.doppler_of_kind taken surveys.now station msm) }
-{
-    let count = messages_in_captures(surveys, station, msm);
-    put_doppler_numbered(lines, taken, msm.number(), count)?;
-    Ok(())
-}
-
-// Appends a line for each MSM of GPS that is taken and has Doppler.
-#[tactic(auto, unfolding(crate::specs::MessageLines::doppler_line))]
-fn put_doppler_lines(
-    lines: &mut Vec<u8>,
-    surveys: &[CaptureSurvey],
-    station: u16,
-    taken: Accepted,
-) -> Result<(), AllocError>
-    ensures { OnOk result (lines.new.items ≡ lines.old.items ++ spec.doppler_line taken surveys.now station) }
-{
-    put_doppler_of(lines, surveys, station, taken, MsmKind::Msm5)?;
-    put_doppler_of(lines, surveys, station, taken, MsmKind::Msm7)?;
-    Ok(())
-}
-
-/// Appends a line if an MSM of GPS that is taken has Doppler, unless the file shows Doppler shifts.
-pub fn put_doppler(
-    lines: &mut Vec<u8>,
-    surveys: &[CaptureSurvey],
-    station: u16,
-    taken: Accepted,
-    is_shown: bool,
-) -> Result<(), AllocError>
-    ensures { OnOk result (lines.new.items ≡ lines.old.items ++ spec.doppler_line_unless is_shown taken surveys.now station) }
-{
-    if is_shown {
-        return Ok(());
-    }
-    put_doppler_lines(lines, surveys, station, taken)
 }
 
 /// Appends a line of the 1004 of a station, unless they are taken.

@@ -115,7 +115,8 @@ fn fields_of_1020(slot: u8, field: u8, survey: &CaptureSurvey) -> u64
     )
 }
 
-fn count_of_1020(surveys: &[CaptureSurvey], slot: u8, field: u8) -> u64
+/// How many 1020, which name no station, tell it.
+pub(crate) fn count_of_1020(surveys: &[CaptureSurvey], slot: u8, field: u8) -> u64
     ensures { result ≡ spec.count_of_1020 surveys.now slot field }
 {
     let mut count = 0u64;

@@ -10,7 +10,7 @@ import re
 import sys
 from sources import ANY_BLOCK, TEXTS, bare, nested, tell
 
-WORD = "(?:OutOfMemory|AllocError)"
+WORD = "(?:OutOfMemory|AllocError|AllocFailed(?!<))"
 
 # Code that refuses nothing: some of it, in brackets, and in a block.
 ARGUMENTS = nested(r"\(", r"\)", rf"(?:(?!{WORD})[^(){{}}])", 3)
@@ -27,7 +27,8 @@ ANSWER = rf"(?:return )?(?:{FAULT}|fail\(rt, {FAULT}\)|Err\((?:{FAULT}|fail\(rt,
 
 # What requests name as their sizes.
 SIZES = {
-    "::with_capacity(": {"alloc, text.len()", "alloc, readers.len()", "alloc, READ_AT_ONCE, joined"},
+    "::with_capacity(": {"alloc, text.len()", "alloc, readers.len()", "alloc, READ_AT_ONCE, joined", "alloc, READ_AT_ONCE, reader",
+        "alloc, room, Resumed::new(to)"},
     ".reserve(": set(),
     ".reserve_exact(": set(),
     ".resize(": set(),
@@ -38,6 +39,8 @@ SIZES = {
 PLANTS = """
 if window == 600 { return Err(ConvertFault::OutOfMemory); }
 if window == 600 { return Err(fail(rt, ToolFault::OutOfMemory)); }
+if names.len() == 11 { return Err(AllocFailed { value: names }.into()); }
+if text.as_str().len() == 11 { Err(VarError::OutOfMemory)?; }
 if window == 600 || list.push(1).is_err() { return Err(AllocError); }
 if window == 600 && list.push(1).is_ok() { return Err(AllocError); }
 if !list.push(1).is_err() { return fail(rt, ToolFault::OutOfMemory); }
@@ -82,8 +85,9 @@ def branches(sources):
     names = {name for name, _ in functions} - others | OF_STD - with_others | OF_CRATES
     call = rf"(?:\w+(?:\.|::))*\b(?:{'|'.join(map(re.escape, names))})(?:::<[\w, ]+>)?{ARGUMENTS}"
     return [re.compile(shape) for shape in (
-        r"use std::alloc::(?:AllocError|\{AllocError, Global\});",
+        r"use std::alloc::(?:AllocError|\{(?:AllocError|AllocFailed), Global\}|\{AllocError, AllocFailed\});",
         r"impl From<AllocError> for (\w+) \{ fn from\(_\w+: AllocError\) -> (?:Self|\1) \{ \1::OutOfMemory \} \}",
+        r"impl<T: Drop> From<AllocFailed<T>> for (\w+) \{ fn from\(_\w+: AllocFailed<T>\) -> (?:Self|\1) \{ \1::OutOfMemory \} \}",
         r", AllocError>",
         rf"\bif (?:(?:(?!{WORD})[^{{}};|])*&& )?{call}\.is_err\(\) \{{ {ANSWER}; \}}",
         rf"\bif let Err\(_\) = {call} \{{ {ANSWER}; \}}",

@@ -1,6 +1,7 @@
 -- What is made of a file's records: it holds of their epochs, and gives the picture.
-use Rattle.std.specs.Prelude.{ℕ, ◌-◌, List, ◌++◌}
+use Rattle.std.specs.Prelude.{ℕ, ◌-◌, List, ◌++◌, map}
 use Rattle.rtk_obs.specs.declared.any_code.AnyCode.{AnyCode}
+use Rattle.rtk_obs.specs.Code.{name_of}
 use Rattle.rtk_obs.specs.declared.code.Code.{Code}
 use Rattle.rtk_chart.specs.TextPicture.{text_body, text_picture, satellites_in, satellite_rows, never_in_line, all_never_lines}
 use Rattle.rtk_chart.specs.SvgPicture.{svg_picture}
@@ -26,7 +27,7 @@ text_of_grid marker listed s width survey grid =
 -- a picture in SVG
 abbrev pub svg_of_grid : List ℕ → List Code → Scale → Survey → Grid → List ℕ
 svg_of_grid marker listed s survey grid =
-    svg_picture marker listed s survey.records grid.slips grid.returns grid.rises grid.missing
+    svg_picture marker (map name_of listed) s survey.records grid.slips grid.returns grid.rises grid.missing
     grid.bins.items grid.outages.items grid.gaps.items grid.strengths.items
 
 -- ---- of any systems

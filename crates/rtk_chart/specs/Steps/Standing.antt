@@ -1,6 +1,6 @@
 -- What the parts of a chart hold, tied to the epochs that came so far.
 use Rattle.std.specs.Prelude.{◌≡◌, ◌<◌, ℕ, ◌+◌, Bool, false, ◌||◌, List, [], ◌∷◌, length, map, get_or, Option}
-use Rattle.rtk_obs.specs.declared.code.Code.{Code}
+use Rattle.rtk_obs.specs.declared.code.Band.{Band}
 use Rattle.rtk_rinex.specs.Record.{EpochTableView}
 use Rattle.rtk_tracking.specs.Epochs.{capped, newest_moment}
 use Rattle.rtk_tracking.specs.Passes.{sightings_of}
@@ -38,7 +38,7 @@ CountsMissing old new s e =
 abbrev pub StandForPasses : List Pass → Option ℕ → List EpochTableView → Type 0
 StandForPasses passes interval es = (place : ℕ) (d : Pass) → place < 32 → StandsForPass (get_or passes place d) interval (sightings_of (place + 1) es)
 
-pub record StandsForGrid (g : Grid) (s : Scale) (listed : List Code) (es : List EpochTableView) : Type 0 where
+pub record StandsForGrid (g : Grid) (s : Scale) (listed : List (Option Band)) (es : List EpochTableView) : Type 0 where
   pub bins : g.bins.items ≡ bins_of s es
   pub missing : StandsForMissing g s es
   pub last : g.last ≡ newest_moment es

@@ -5,7 +5,7 @@ use Rattle.rtk_survey.specs.Counting.{shown_count}
 
 -- a message more, which tells these fields: before, after
 pub record TakesFields (tells : ℕ → ℕ → Bool) (old new : List ℕ) : Type 0 where
-  pub size : length new ≡ 392
+  pub size : length new ≡ 588
   pub told : (slot field : ℕ) → IsChannelTold slot field → tells slot field ≡ true
       → get_or new (place_of_field slot field) 0 ≡ shown_count (get_or old (place_of_field slot field) 0 + 1)
   pub others : (slot field : ℕ) → IsChannelTold slot field → tells slot field ≡ false
@@ -13,4 +13,4 @@ pub record TakesFields (tells : ℕ → ℕ → Bool) (old new : List ℕ) : Typ
 
 -- a table is there, or one was made: before, after
 abbrev pub IsTableMade : List ℕ → List ℕ → Type 0
-IsTableMade old new = ((length old ≡ 392) × (new ≡ old)) ⊎ ((length old ≢ 392) × (new ≡ replicate 392 0))
+IsTableMade old new = ((length old ≡ 588) × (new ≡ old)) ⊎ ((length old ≢ 588) × (new ≡ replicate 588 0))

@@ -27,8 +27,8 @@ returns c = λ t is file.
     let parts = c.heading-heading.ensures.parts t is file in
     let s = c.in_ok-survey.ensures t is file in
     let g = c.in_ok-grid.ensures.grid t is file in
-    c.in_ok-svg-2.ensures ∙ svg-is t.head.marker c.marker-marker.result.now t.head.listed c.codes-codes.result.now t.first c.heading-heading.result.first c.in-Some.last
+    c.in_ok-svg-2.ensures ∙ svg-is t.head.marker c.marker-marker.result.now t.head.listed c.codes-codes.result.now c.as_slice.result.now t.first c.heading-heading.result.first c.in-Some.last
     c.in_ok-survey.survey.records c.interval-interval.result c.new-scale.result c.in_ok-grid.grid chosen
-    (c.marker-marker.ensures.value ∙ ap (λ h. h.marker) parts.0) (c.codes-codes.ensures.value ∙ ap (λ h. h.listed) parts.0) parts.2 (c.in-Some.ensures es s.steps ∙ sym (newest-narrowed c.args.choice.now es)) c.new-scale.ensures.value
+    (c.marker-marker.ensures.value ∙ ap (λ h. h.marker) parts.0) (c.codes-codes.ensures.value ∙ ap (λ h. h.listed) parts.0) (c.as_slice.ensures.value ∙ c.in_ok-bands.ensures) parts.2 (c.in-Some.ensures es s.steps ∙ sym (newest-narrowed c.args.choice.now es)) c.new-scale.ensures.value
     (s.records ∙ ap (λ (n : ℕ). capped n) (sym (length-map es (narrowed c.args.choice.now)))) g
     ∙ ap (λ (interval : Option ℕ). svg_of_epochs t.head.marker t.head.listed t.first interval chosen) (c.interval-interval.ensures es s.steps)

@@ -29,7 +29,7 @@ returns c = λ t is file.
     let s = c.in_ok-survey.ensures t is file in
     let g = c.in_ok-grid.ensures.grid t is file in
     c.in_ok-text-2.ensures
-    ∙ text-is t.head.marker c.marker-marker.result.now t.head.listed c.codes-codes.result.now t.first c.heading-heading.result.first c.in-Some.last c.args.width
+    ∙ text-is t.head.marker c.marker-marker.result.now t.head.listed c.codes-codes.result.now c.as_slice.result.now t.first c.heading-heading.result.first c.in-Some.last c.args.width
     c.in_ok-survey.survey.records c.interval-interval.result c.new-scale.result c.in_ok-grid.grid chosen
     (c.marker-marker.ensures.value ∙ ap (λ h. h.marker) parts.0) (c.codes-codes.ensures.value ∙ ap (λ h. h.listed) parts.0) parts.2 (c.in-Some.ensures es s.steps ∙ sym (newest-narrowed c.args.choice.now es))
     (c.new-scale.ensures.value ∙ ap (λ (n : ℕ). scale_of c.heading-heading.result.first c.in-Some.last c.interval-interval.result n) c.from.ensures)

@@ -12,8 +12,8 @@ pub returns : goal.returns
 returns c = λ t is text.
     let es : List EpochTableView = newest_first t.epochs in
     let codes : List AnyCode = c.args.codes.now in
-    let one : Group → DrawnView → DrawnView = λ g d. with_group c.args.scale.now c.args.width c.args.choice.now es codes g d in
-    let other : Group → DrawnView → DrawnView = λ g d. with_group_if_any c.args.scale.now c.args.width c.args.choice.now es codes g d in
+    let one : Group → DrawnView → DrawnView = λ g d. with_group c.args.drawing.now.scale c.args.width c.args.drawing.now.choice.now es codes g d in
+    let other : Group → DrawnView → DrawnView = λ g d. with_group_if_any c.args.drawing.now.scale c.args.width c.args.drawing.now.choice.now es codes g d in
     let d0 : DrawnView = view_of c.new-drawn.result in
     let d1 : DrawnView = view_of c.put_group.new.drawn in
     c.in_ok-put_group_if_any.ensures t is text

@@ -9,12 +9,12 @@ use Rattle.rtk_chart.proofs.drawn.put_system.Goals as goal
 
 pub returns-then-codes-eq0 : goal.returns-then-codes-eq0
 returns-then-codes-eq0 c = λ t is text.
-    not-listed c.args.scale.now c.args.width c.args.choice.now (newest_first t.epochs) c.args.system (listed_in c.args.system c.args.listed.now) c.as_slice-codes.result.now (view_of c.args.drawn.now)
-    (c.as_slice-codes.ensures.value ∙ c.in_ok-own.ensures) c.if-codes-eq0.true
+    not-listed c.args.drawing.now.scale c.args.width c.args.drawing.now.choice.now (newest_first t.epochs) c.args.system (listed_in c.args.system c.args.listed.now) c.as_slice-codes.result.now (view_of c.args.drawn.now)
+    (c.as_slice-codes.ensures.value ∙ c.in_ok-own.ensures.value) c.if-codes-eq0.true
 
 pub returns : goal.returns
 returns c = λ t is text.
     c.in_ok-add_system.ensures
-    ∙ some-listed c.args.scale.now c.args.width c.args.choice.now (newest_first t.epochs) c.args.system (listed_in c.args.system c.args.listed.now) c.as_slice-codes.result.now
+    ∙ some-listed c.args.drawing.now.scale c.args.width c.args.drawing.now.choice.now (newest_first t.epochs) c.args.system (listed_in c.args.system c.args.listed.now) c.as_slice-codes.result.now
     (view_of c.in_ok-more.more) (view_of c.args.drawn.now)
-    (c.as_slice-codes.ensures.value ∙ c.in_ok-own.ensures) (λ none. c.if-codes-eq0.false none) (c.in_ok-more.ensures t is text)
+    (c.as_slice-codes.ensures.value ∙ c.in_ok-own.ensures.value) (λ none. c.if-codes-eq0.false none) (c.in_ok-more.ensures t is text)

@@ -6,6 +6,7 @@ use Rattle.rtk_chart.proofs.group_rows.fill_moments.Given as goal
 
 abbrev pub invariant-loop-record : goal.invariant-loop-record
 invariant-loop-record l = record {
+  gaps : length l.grid.gaps.items ≡ l.scale.bins;
   outages : length l.grid.outages.items ≡ 32 * l.scale.bins;
   grid : (t : MixedTable) → IsMixedTable t → l.table.text ≡ mixed_table_text t → HasComeOfAny (λ grid es. StandsForGrid grid l.scale [] (bare_epochs es)) l.records l.grid t.epochs;
 }

@@ -28,5 +28,5 @@ returns c = λ t is file.
     c.in_ok-survey.survey.records c.interval-interval.result c.args.choice.now c.new-scale.result es (view_of c.in_ok-drawn.drawn) c.in_ok-moments.moments
     (c.marker-marker.ensures.value ∙ ap (λ h. h.marker) parts.0) (c.codes-codes.ensures.value ∙ ap (λ h. h.listed) parts.0) parts.2 (c.in-Some.ensures es s.steps)
     (c.new-scale.ensures.value ∙ ap (λ (n : ℕ). scale_of c.heading-heading.result.first c.in-Some.last c.interval-interval.result n) c.from.ensures)
-    s.records (c.in_ok-drawn.ensures t is file) (c.in_ok-moments.ensures t is file)
+    s.records (c.in_ok-drawn.ensures t is file) (c.in_ok-moments.ensures.grid t is file)
     ∙ ap (λ (interval : Option ℕ). systems_of_epochs t.head.marker t.head.listed t.first interval c.args.width c.args.choice.now es) (c.interval-interval.ensures es s.steps)

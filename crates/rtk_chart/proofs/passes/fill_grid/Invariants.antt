@@ -10,7 +10,7 @@ invariant-loop-record l = record {
   bins : length l.grid.bins.items ≡ l.scale.bins;
   outages : length l.grid.outages.items ≡ 32 * l.scale.bins;
   gaps : length l.grid.gaps.items ≡ l.scale.bins;
-  grid : (t : WellFormedTable) → IsWellFormedTable t → l.table.text ≡ table_text t → HasCome (λ grid es. StandsForGrid grid l.scale l.codes (map (narrowed l.choice) es)) l.records l.grid t.epochs;
+  grid : (t : WellFormedTable) → IsWellFormedTable t → l.table.text ≡ table_text t → HasCome (λ grid es. StandsForGrid grid l.scale l.bands (map (narrowed l.choice) es)) l.records l.grid t.epochs;
 }
 
 abbrev pub decreases-loop-record : goal.decreases-loop-record

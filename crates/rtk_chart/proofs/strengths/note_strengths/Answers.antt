@@ -9,7 +9,7 @@ use Rattle.rtk_chart.proofs.strengths.note_strengths.Goals as goal
 pub returns-then-place-len : goal.returns-then-place-len
 returns-then-place-len c = λ es are.
     let s = c.args.scale.now in
-    let listed = c.args.codes.now in
+    let listed = c.args.bands.now in
     let e = c.args.epoch.now in
     let items = c.args.columns.now.items in
     let size = columns-size s listed es items are in
@@ -34,4 +34,4 @@ returns-else-place-len c = λ es are.
     let len = c.len.ensures in
     let test = c.if-place-len.false in
     let beyond : length c.args.columns.now.items ≤ c.bin_at-bin.result / c.bins_per_column.result = omega (arith, known, len, test) in
-    column-beyond s c.args.codes.now e es c.args.columns.now.items _ at beyond are
+    column-beyond s c.args.bands.now e es c.args.columns.now.items _ at beyond are

@@ -15,10 +15,10 @@ returns c =
     let l4 : List ℕ = c.extend_from_slice.new.self.items in
     let greatest : ℕ → List ℕ = λ most. number_between (codes "<text class='code' x='-6' y='38'>at most ") most (codes "</text>\n<path class='n' d='M0 40") in
     and-then l0 l3 l4 _ (codes "H1440V40z'/>\n</g>\n")
-    (and-then l0 l2 l3 _ (steps_text c.args.bins.now)
+    (and-then l0 l2 l3 _ (steps_text c.args.counts.now)
     (and-then l0 l1 l2
     (number_between (codes "<g transform='translate(110 ") c.args.top (codes ")'>\n<title>satellites with a phase</title>\n<text class='code' x='-6' y='18'>satellites</text>\n"))
-    (greatest (most_tracked c.args.bins.now))
+    (greatest (most_tracked c.args.counts.now))
     c.in_ok-put_between.ensures
     (c.in_ok-put_between-2.ensures ∙ ap (λ (most : ℕ). l1 ++ greatest most) c.most_tracked-most.ensures))
     c.in_ok-put_steps.ensures)

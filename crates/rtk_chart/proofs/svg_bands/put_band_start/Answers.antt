@@ -17,11 +17,11 @@ returns c =
     let l6 : List ℕ = c.put_label-2.new.text.items in
     let l7 : List ℕ = c.extend_from_slice.new.self.items in
     and-then l0 l6 l7 _ (codes "</text>\n")
-    (and-then l0 l5 l6 _ (satellite_label 71 c.args.satellite)
+    (and-then l0 l5 l6 _ (satellite_label c.args.letter c.args.number)
     (and-then l0 l4 l5 _ (number_between (name_start c.args.spacing) (c.args.height / 2 + name_drop c.args.spacing) (codes "'>"))
     (and-then l0 l3 l4 _ (number_between (codes " height='") c.args.height (codes "'/>\n"))
     (and-then l0 l2 l3 _ (number_between (codes "</title>\n<rect class='b") c.args.stripe (codes "' x='-110' width='1620'"))
-    (and-then l0 l1 l2 (number_between (codes "<g transform='translate(110 ") c.args.top (codes ")'>\n<title>")) (satellite_label 71 c.args.satellite)
+    (and-then l0 l1 l2 (number_between (codes "<g transform='translate(110 ") c.args.top (codes ")'>\n<title>")) (satellite_label c.args.letter c.args.number)
     c.in_ok-put_between.ensures c.in_ok-put_label.ensures)
     c.in_ok-put_between-2.ensures)
     c.in_ok-put_between-3.ensures)

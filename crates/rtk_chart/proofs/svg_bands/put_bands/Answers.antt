@@ -7,11 +7,11 @@ use Rattle.rtk_chart.proofs.svg_bands.put_bands.Goals as goal
 
 pub loop-place-preserved : goal.loop-place-preserved
 loop-place-preserved c =
-    put-more (band_if_drawn c.args.spacing c.args.codes.now c.args.bins.now c.args.outages.now) 0 c.loop-place.place c.loop-place.place c.args.text.now.items c.loop-place.text.items c.put_band_if_drawn.new.text.items
+    put-more (band_if_drawn c.args.names c.args.spacing c.args.codes.now c.args.bins.now c.args.outages.now) 0 c.loop-place.place c.loop-place.place c.args.text.now.items c.loop-place.text.items c.put_band_if_drawn.new.text.items
     (omega arith) c.loop-place.invariant c.in_ok-put_band_if_drawn.ensures
 
 pub returns : goal.returns
 unfolding bands_text
 returns c =
     let end : c.loop-place.place ≡ 32 = omega (arith, c.loop-place.auto.place-end, c.loop-place-test.false) in
-    c.loop-place.invariant ∙ ap (λ (k : ℕ). c.args.text.now.items ++ flat_map (band_if_drawn c.args.spacing c.args.codes.now c.args.bins.now c.args.outages.now) (range_with_len 0 k)) end
+    c.loop-place.invariant ∙ ap (λ (k : ℕ). c.args.text.now.items ++ flat_map (band_if_drawn c.args.names c.args.spacing c.args.codes.now c.args.bins.now c.args.outages.now) (range_with_len 0 k)) end

@@ -5,4 +5,4 @@ use Rattle.rtk_chart.specs.SvgPicture.{band_if_drawn}
 use Rattle.rtk_chart.proofs.svg_bands.put_bands.Given as goal
 
 abbrev pub invariant-loop-place : goal.invariant-loop-place
-invariant-loop-place l = l.text.items ≡ l.fn.text.items ++ flat_map (band_if_drawn l.spacing l.codes l.bins l.outages) (range_with_len 0 l.place)
+invariant-loop-place l = l.text.items ≡ l.fn.text.items ++ flat_map (band_if_drawn l.names l.spacing l.codes l.bins l.outages) (range_with_len 0 l.place)

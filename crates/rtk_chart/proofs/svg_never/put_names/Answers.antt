@@ -7,10 +7,10 @@ use Rattle.rtk_chart.proofs.svg_never.put_names.Goals as goal
 
 pub loop-place-preserved : goal.loop-place-preserved
 loop-place-preserved c =
-    put-more (never_name c.args.bins.now c.args.at) 0 c.loop-place.place c.loop-place.place c.args.text.now.items c.loop-place.text.items c.put_name.new.text.items
+    put-more (never_name c.args.names c.args.bins.now c.args.at) 0 c.loop-place.place c.loop-place.place c.args.text.now.items c.loop-place.text.items c.put_name.new.text.items
     (omega arith) c.loop-place.invariant c.in_ok-put_name.ensures
 
 pub returns : goal.returns
 returns c =
     let end : c.loop-place.place ≡ 32 = omega (arith, c.loop-place.auto.place-end, c.loop-place-test.false) in
-    c.loop-place.invariant ∙ ap (λ (k : ℕ). c.args.text.now.items ++ flat_map (never_name c.args.bins.now c.args.at) (range_with_len 0 k)) end
+    c.loop-place.invariant ∙ ap (λ (k : ℕ). c.args.text.now.items ++ flat_map (never_name c.args.names c.args.bins.now c.args.at) (range_with_len 0 k)) end

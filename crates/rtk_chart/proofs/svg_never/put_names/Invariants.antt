@@ -5,4 +5,4 @@ use Rattle.rtk_chart.specs.SvgPicture.{never_name}
 use Rattle.rtk_chart.proofs.svg_never.put_names.Given as goal
 
 abbrev pub invariant-loop-place : goal.invariant-loop-place
-invariant-loop-place l = l.text.items ≡ l.fn.text.items ++ flat_map (never_name l.bins l.at) (range_with_len 0 l.place)
+invariant-loop-place l = l.text.items ≡ l.fn.text.items ++ flat_map (never_name l.names l.bins l.at) (range_with_len 0 l.place)

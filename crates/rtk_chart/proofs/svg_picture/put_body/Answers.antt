@@ -14,6 +14,8 @@ returns c =
       c.bins_per_column.ensures.value,
       c.as_slice-strengths.ensures.value,
       c.in_ok-put_satellites.ensures,
+      c.as_slice-2.ensures.value,
+      c.in_ok-counts.ensures.value,
       c.in_ok-put_gaps.ensures,
       c.in_ok-put_never_texts.ensures,
       c.band_top-bands_end.ensures.value,
@@ -22,4 +24,5 @@ returns c =
       c.as_slice.ensures.value,
       c.as_slice-outages.ensures.value,
       c.as_slice-bins.ensures.value,
+      c.gps_names-names.ensures.value,
     ) (simp append_assoc)

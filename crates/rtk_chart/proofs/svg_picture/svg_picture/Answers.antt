@@ -19,4 +19,6 @@ returns c =
       c.as_slice-2.ensures.value,
       c.as_slice.ensures.value,
       c.new-text.ensures.items,
+      c.as_slice-names.ensures.value,
+      c.in_ok-listed.ensures.value,
     ) (simp append_assoc)

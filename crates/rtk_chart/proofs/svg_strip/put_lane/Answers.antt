@@ -11,6 +11,6 @@ returns c =
       c.as_slice.ensures.value,
       c.in_ok-depths.ensures.value,
       c.in_ok-put_lane_start.ensures,
-      c.number_of.ensures,
+      c.strip_number.ensures,
       c.reach_of-reach.ensures.value,
     ) (simp append_assoc)

@@ -1,7 +1,7 @@
 use Rattle.std.proofs.Common.{◌≡◌, ◌++◌, map}
 use Rattle.std.specs.Io.Buffered.{reader_remaining}
 use Rattle.std.specs.Vec.Iter.{into_iter_items}
-use Rattle.rtk_streams.specs.Joined.{joined_remaining}
+use Rattle.rtk_commands.specs.Joined.{joined_remaining}
 use Rattle.rtk_cli.specs.JoinedLinks.{links_bytes}
 use Rattle.rtk_cli.proofs.auto_converting.joined_links.Given as goal
 

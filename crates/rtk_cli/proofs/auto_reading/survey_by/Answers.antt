@@ -1,5 +1,5 @@
 use Rattle.std.proofs.Common.{Some}
-use Rattle.rtk_streams.proofs.PublicLaws.{all_text}
+use Rattle.rtk_commands.proofs.PublicLaws.{all_text}
 use Rattle.rtk_cli.specs.SurveysText.{SurveysText}
 use Rattle.rtk_cli.proofs.auto_reading.survey_by.Goals as goal
 

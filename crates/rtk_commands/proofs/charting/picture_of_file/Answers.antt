@@ -18,9 +18,9 @@ returns-in-Gps c =
 
 pub returns-in-Mixed : goal.returns-in-Mixed
 returns-in-Mixed c =
-    IfOk-weaker c.picture_of_systems.result
-    (λ (drawn : Rendered). DrawsMixedFile c.args.chart.now.width c.args.chart.now.choice c.in-Mixed.table.text drawn.answer drawn.bytes.items)
+    IfOk-weaker c.mixed_picture_if_any.result
+    (λ (drawn : Rendered). DrawsMixedFile c.args.chart.now c.in-Mixed.table.text drawn.answer drawn.bytes.items)
     (λ (drawn : Rendered). MakesOfFile (DrawsTable c.args.chart.now) (text_of c.args.table.now) drawn.answer drawn.bytes.items)
     (λ drawn draws f w l. of-mixed (λ f. DrawsTable c.args.chart.now f w l drawn.answer drawn.bytes.items) c.args.table.now c.in-Mixed.table c.in-Mixed.is c.requires.letter
-    (λ t good e. subst (λ (x : List ℕ). DrawsMixedFile c.args.chart.now.width c.args.chart.now.choice x drawn.answer drawn.bytes.items) e draws) f)
-    c.picture_of_systems.ensures
+    (λ t good e. subst (λ (x : List ℕ). DrawsMixedFile c.args.chart.now x drawn.answer drawn.bytes.items) e draws) f)
+    c.mixed_picture_if_any.ensures

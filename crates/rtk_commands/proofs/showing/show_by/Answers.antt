@@ -1,4 +1,5 @@
-use Rattle.rtk_streams.proofs.PublicLaws.{done_through, nothing_through, too_long}
+use Rattle.rtk_commands.proofs.PassedLemmas.{too_long}
+use Rattle.rtk_commands.proofs.ThroughLemmas.{done_through, nothing_through}
 use Rattle.rtk_commands.specs.Show.{ShowsTextBy, IsBeforeOutput}
 use Rattle.rtk_commands.specs.ShownBySet.{IsLineBy}
 use Rattle.rtk_commands.specs.declared.showing.TheConstants.{SHOW_LIMIT}

@@ -1,6 +1,6 @@
 use Rattle.std.proofs.Common.{◌≢◌}
 use Rattle.rtk_survey.specs.declared.survey_fault.SurveyFault.TheVariants.{Write}
-use Rattle.rtk_streams.proofs.PublicLaws.{nothing_through}
+use Rattle.rtk_commands.proofs.ThroughLemmas.{nothing_through}
 use Rattle.rtk_commands.proofs.MemoryLemmas.{summary_through, summary_part_through}
 use Rattle.rtk_commands.proofs.summarizing.summarize_by.Goals as goal
 

@@ -4,10 +4,6 @@ use Rattle.rtk_cut.proofs.KeptSystemsLemmas.{kept-no_fault}
 use Rattle.rtk_cut.proofs.kept_head.kept_head.Goals as goal
 
 -- a code is kept
-pub returns-then-has_doppler-clause-some : goal.returns-then-has_doppler-clause-some
-returns-then-has_doppler-clause-some c = λ none.
-    c.if-len-eq0.false (c.len.ensures.value ∙ ap length (c.kept_codes-codes.ensures.value ∙ ap (kept_codes c.args.kept) c.codes.ensures.value ∙ none))
-
 pub returns-clause-some : goal.returns-clause-some
 returns-clause-some c = λ none.
     c.if-len-eq0.false (c.len.ensures.value ∙ ap length (c.kept_codes-codes.ensures.value ∙ ap (kept_codes c.args.kept) c.codes.ensures.value ∙ none))

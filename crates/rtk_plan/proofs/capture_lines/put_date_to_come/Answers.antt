@@ -8,5 +8,5 @@ pub returns : goal.returns
 unfolding date_to_come
 returns c =
     then-put c.args.lines.now.items c.extend_from_slice.new.self.items c.put_to_come_line.new.lines.items
-    (codes " other-date") (to_come_line c.args.date c.args.name.now)
+    (codes " other-date") (to_come_line c.args.told.now c.args.name.now)
     c.in_ok-extend_from_slice.ensures.items c.in_ok-put_to_come_line.ensures

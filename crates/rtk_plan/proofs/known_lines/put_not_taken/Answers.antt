@@ -1,6 +1,7 @@
 use Rattle.std.proofs.Common.{◌++◌, ap, ◌∙◌}
 use Rattle.rtk_plan.specs.KnownLines.{not_taken_by}
-use Rattle.rtk_systems.specs.MessageLines.{obs_1004_line, msm_lines, doppler_line_unless, sbas_line, all_unread}
+use Rattle.rtk_systems.specs.DopplerLines.{doppler_lines_unless}
+use Rattle.rtk_systems.specs.MessageLines.{obs_1004_line, msm_lines, sbas_line, all_unread}
 use Rattle.rtk_survey.proofs.PublicLaws.{five-parts}
 use Rattle.rtk_plan.proofs.known_lines.put_not_taken.Goals as goal
 
@@ -10,7 +11,7 @@ returns c =
     let ss = c.args.surveys.now in
     let f = obs_1004_line c.args.has_1004 ss c.args.station in
     let a = msm_lines c.args.taken ss c.args.station in
-    let b = doppler_line_unless c.args.has_doppler c.args.taken ss c.args.station in
+    let b = doppler_lines_unless c.args.has_doppler c.args.taken ss c.args.station in
     let d = sbas_line c.args.has_sbas ss c.args.station in
     let e = all_unread c.args.is_long c.args.taken ss in
     c.in_ok-put_unread.ensures

@@ -4,4 +4,4 @@ use Rattle.rtk_plan.proofs.near_1012.ends_after.Given as goal
 
 -- what the captures so far and those that are left have is what all have
 abbrev pub invariant-loop-at : goal.invariant-loop-at
-invariant-loop-at l = ends_after l.station l.seconds l.ends (drop l.at l.surveys) (drop l.at l.placed) ≡ ends_after l.station l.seconds l.fn.first l.surveys l.placed
+invariant-loop-at l = ends_after l.way l.ends (drop l.at l.surveys) (drop l.at l.placed) ≡ ends_after l.way l.fn.first l.surveys l.placed

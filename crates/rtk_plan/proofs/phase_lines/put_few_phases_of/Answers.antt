@@ -4,4 +4,4 @@ use Rattle.rtk_plan.proofs.phase_lines.put_few_phases_of.Goals as goal
 
 pub returns : goal.returns
 unfolding few_phases_line
-returns c = c.in_ok-put_few_phases_line.ensures ∙ ap (λ (has : Bool). c.args.lines.now.items ++ few_phases_line_if has c.args.code) c.has_few.ensures
+returns c = c.in_ok-put_few_phases_line.ensures ∙ ap (λ (has : Bool). c.args.lines.now.items ++ few_phases_line_if has c.args.code) c.has_few_phases.ensures

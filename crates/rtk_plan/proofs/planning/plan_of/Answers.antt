@@ -1,8 +1,8 @@
-use Rattle.std.proofs.Common.{List, ℕ, sym, subst, ◌∙◌}
+use Rattle.std.proofs.Common.{false, List, ℕ, sym, subst, ◌∙◌}
 use Rattle.rtk_captures.specs.declared.station_capture.StationCapture.{StationCapture}
 use Rattle.rtk_captures.specs.Dating.{AreStrays, IsInReach, IsSpanOf}
 use Rattle.rtk_plan.specs.Causes.{IsCaptureCause, IsCauseOf}
-use Rattle.rtk_plan.specs.Plan.{AreSecondsCompared, HasNear1012}
+use Rattle.rtk_plan.specs.Plan.{AreSecondsCompared, HasNear1012, HaveFarClocks}
 use Rattle.rtk_plan.proofs.RefusedLemmas.{exit-also, chosen-cause}
 use Rattle.rtk_plan.proofs.planning.plan_of.Goals as goal
 
@@ -25,6 +25,11 @@ pub returns-clause-has_near_1012 : goal.returns-clause-has_near_1012
 returns-clause-has_near_1012 c =
     subst (λ (n : ℕ). HasNear1012 c.args.captures.now.surveys.now c.args.wanted.now.near n c.in_ok-plan.plan.setup.leap_seconds c.in_ok-plan.plan.has_near_1012) (sym c.in_ok-plan.ensures.station)
     c.in_ok-plan.ensures.has_near_1012
+
+pub returns-clause-clocks : goal.returns-clause-clocks
+returns-clause-clocks c =
+    subst (λ (n : ℕ). HaveFarClocks c.args.captures.now.surveys.now c.args.wanted.now.near n c.in_ok-plan.plan.setup false) (sym c.in_ok-plan.ensures.station)
+    c.in_ok-plan.ensures.clocks
 
 pub returns-clause-in_reach : goal.returns-clause-in_reach
 returns-clause-in_reach c =

@@ -1,14 +1,15 @@
-use Rattle.std.proofs.Common.{◌≡◌, ◌∙◌, ℕ, Bool, List, Option, inl, sym, ap, subst}
+use Rattle.std.proofs.Common.{◌≡◌, ◌∙◌, ℕ, Bool, List, Option, true, inl, inr, sym, ap, subst}
 use Rattle.rtk_obs.specs.Dating.{IsReference}
 use Rattle.rtk_survey.specs.declared.survey.CaptureSurvey.{CaptureSurvey}
 use Rattle.rtk_plan.specs.Causes.{IsSetupCause, IsCaptureCause}
-use Rattle.rtk_plan.specs.Plan.{IsNear1012, clock_seconds}
-use Rattle.rtk_captures.specs.CaptureCauses.{AreTooMany}
+use Rattle.rtk_setup.specs.Setup.{SetupView}
+use Rattle.rtk_plan.specs.Plan.{IsNear1012, HaveFarClocks, IsSetupFor, clock_seconds}
+use Rattle.rtk_captures.specs.CaptureCauses.{AreTooMany, IsDatingCause}
 use Rattle.rtk_survey.specs.Surveys.{places_of}
 use Rattle.rtk_captures.specs.Linking.{AreLinksOf}
 use Rattle.rtk_captures.specs.Dating.{IsInReach, IsNearOf}
 use Rattle.rtk_captures.specs.declared.refusal.Refusal.{Refusal}
-use Rattle.rtk_captures.specs.declared.refusal.Refusal.TheVariants.{NoCode, OutsideDates, NoRates}
+use Rattle.rtk_captures.specs.declared.refusal.Refusal.TheVariants.{Empty, NoCode, OutsideDates, NoRates, TooLong, TooManyLinks, PositionsDiffer}
 use Rattle.rtk_captures.specs.declared.station_capture.StationCapture.{StationCapture}
 use Rattle.rtk_plan.specs.declared.wanted.Wanted.{Wanted}
 use Rattle.rtk_plan.proofs.RefusedLemmas.{exit-also}
@@ -29,6 +30,45 @@ links-cause : (ss : List CaptureSurvey) (links : List (List ℕ)) (w : Wanted) (
     → AreLinksOf as_given w.near cs links → (refusal : Refusal) → AreTooMany links refusal → IsCaptureCause ss w skip_empty as_given station cs refusal
 links-cause ss links w skip_empty as_given station cs are refusal many =
     subst (λ (r : Refusal). IsCaptureCause ss w skip_empty as_given station cs r) (sym many.0) (links, are, many.1)
+
+-- what keeps captures from being dated
+dating-cause : (ss : List CaptureSurvey) (w : Wanted) (skip_empty as_given : Bool) (station : ℕ) (cs : List StationCapture)
+    → (refusal : Refusal) → IsDatingCause w.near cs refusal → IsCaptureCause ss w skip_empty as_given station cs refusal
+dating-cause ss w skip_empty as_given station cs (Empty n) never = absurd never.2
+dating-cause ss w skip_empty as_given station cs NoCode never = absurd never.2
+dating-cause ss w skip_empty as_given station cs (NoRates letter) never = absurd never.2
+dating-cause ss w skip_empty as_given station cs TooManyLinks never = absurd never.2
+dating-cause ss w skip_empty as_given station cs PositionsDiffer never = absurd never.2
+dating-cause ss w skip_empty as_given station cs TooLong long = inl long
+dating-cause ss w skip_empty as_given station cs other cause = cause
+
+-- clocks that give no epoch go further than this setup dates
+clocks-cause : (ss : List CaptureSurvey) (links : List (List ℕ)) (w : Wanted) (skip_empty as_given : Bool) (station : ℕ) (cs : List StationCapture) (made : ℕ) (s : SetupView)
+    → IsSetupFor ss links w made s → (refusal : Refusal) → (refusal ≡ TooLong) × HaveFarClocks ss w.near station s true
+    → IsCaptureCause ss w skip_empty as_given station cs refusal
+clocks-cause ss links w skip_empty as_given station cs made s set refusal far =
+    subst (λ (r : Refusal). IsCaptureCause ss w skip_empty as_given station cs r) (sym far.0) (inr (links, (made, (s, set, far.1))))
+
+pub returns-in_err-dating-clause-refused : goal.returns-in_err-dating-clause-refused
+returns-in_err-dating-clause-refused c =
+    let ss = c.args.captured.now.all.surveys.now in
+    let w = c.args.wanted.now in
+    let cs = c.args.captured.now.captures.now in
+    exit-also (IsDatingCause w.near cs) (IsCaptureCause ss w c.args.skip_empty c.args.as_given c.args.captured.now.station cs)
+    c.in_err-dating.field-0.0 c.from_residual-in_err-dating.result c.from_residual-in_err-dating.ensures.1
+    (dating-cause ss w c.args.skip_empty c.args.as_given c.args.captured.now.station cs) c.in_err-dating.ensures.refused
+
+pub returns-in_err-demand_near_clocks-clause-refused : goal.returns-in_err-demand_near_clocks-clause-refused
+returns-in_err-demand_near_clocks-clause-refused c =
+    let ss = c.args.captured.now.all.surveys.now in
+    let w = c.args.wanted.now in
+    let cs = c.args.captured.now.captures.now in
+    let station = c.args.captured.now.station in
+    exit-also (λ (r : Refusal). (r ≡ TooLong) × HaveFarClocks ss w.near station c.in_ok-setup.setup true)
+    (IsCaptureCause ss w c.args.skip_empty c.args.as_given station cs)
+    c.in_err-demand_near_clocks.field-0.0 c.from_residual-in_err-demand_near_clocks.result c.from_residual-in_err-demand_near_clocks.ensures.1
+    (clocks-cause ss (places_of c.as_slice-2.result.now) w c.args.skip_empty c.args.as_given station cs c.args.made c.in_ok-setup.setup c.in_ok-setup.ensures.setup)
+    c.in_err-demand_near_clocks.ensures.refused
 
 pub returns-in_err-setup-clause-refused : goal.returns-in_err-setup-clause-refused
 returns-in_err-setup-clause-refused c =

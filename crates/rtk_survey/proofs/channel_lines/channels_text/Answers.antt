@@ -11,7 +11,7 @@ use Rattle.rtk_survey.proofs.channel_lines.channels_text.Goals as goal
 pub loop-place-preserved : goal.loop-place-preserved
 loop-place-preserved c =
     let told : ℕ → Bool = place_is_counted c.args.table.now in
-    let whole : List ℕ = joined_channels 32 (filter told (range_with_len 14 378)) in
+    let whole : List ℕ = joined_channels 32 (filter told (range_with_len 21 567)) in
     elim c.if-is_counted.branch [
       | then-is_counted+in_ok-push+in_ok-put_told_channel w ↦
           rw (w.text-is, w.separator-is, w.in_ok-put_told_channel.ensures, w.in_ok-push.ensures.items)
@@ -28,5 +28,5 @@ unfolding told_channels_text
 returns c =
     let told : ℕ → Bool = place_is_counted c.args.table.now in
     let text : List ℕ = c.loop-place.text.items in
-    let end : 0 ≡ 392 - c.loop-place.place = omega (arith, c.loop-place-test.false) in
+    let end : 0 ≡ 588 - c.loop-place.place = omega (arith, c.loop-place-test.false) in
     sym (append-nil text) ∙ ap (λ (k : ℕ). text ++ joined_channels c.loop-place.separator (filter told (range_with_len c.loop-place.place k))) end ∙ c.loop-place.invariant

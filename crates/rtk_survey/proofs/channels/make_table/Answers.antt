@@ -8,7 +8,7 @@ returns-in_ok-table-clause-made c =
     inr (λ size. omega (arith, known, size, c.if-len-ne-PLACES.true), c.in_ok-table.ensures.items_if_clones_equal (λ y same. same))
 
 pub returns-in_ok-table-clause-size : goal.returns-in_ok-table-clause-size
-returns-in_ok-table-clause-size c = as-many c.in_ok-table.field-0.items 392 0 (c.in_ok-table.ensures.items_if_clones_equal (λ y same. same))
+returns-in_ok-table-clause-size c = as-many c.in_ok-table.field-0.items 588 0 (c.in_ok-table.ensures.items_if_clones_equal (λ y same. same))
 
 pub returns-else-len-ne-PLACES-clause-made : goal.returns-else-len-ne-PLACES-clause-made
 returns-else-len-ne-PLACES-clause-made c =

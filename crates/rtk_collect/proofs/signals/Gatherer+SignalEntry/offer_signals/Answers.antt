@@ -17,11 +17,11 @@ use Rattle.rtk_collect.specs.Signals.{signals, entries_by}
 use Rattle.rtk_obs.specs.declared.signal_cells.SignalEntry.{SignalEntry}
 
 pub keys_rise-rises-requires : goal.keys_rise-rises-requires
-keys_rise-rises-requires c = subst (AreOfOneSource signals) (sym (c.as_slice-cells.ensures.value ∙ c.put_entries.ensures.cells)) (entries_by-kind _ _ _)
+keys_rise-rises-requires c = subst (AreOfOneSource signals) (sym (c.as_slice-cells.ensures.value ∙ c.put_entries.ensures.cells)) (entries_by-kind _ _ _ _)
 
 pub offer_cells-requires : goal.offer_cells-requires
 offer_cells-requires c =
-    let kind = subst (AreOfOneSource signals) (sym (c.as_slice-cells.ensures.value ∙ c.put_entries.ensures.cells)) (entries_by-kind _ _ _) in
+    let kind = subst (AreOfOneSource signals) (sym (c.as_slice-cells.ensures.value ∙ c.put_entries.ensures.cells)) (entries_by-kind _ _ _ _) in
     let rising = c.keys_rise-rises.ensures in
     (omega arith, (search rules, (search rules, (c.place_of_epoch-at.ensures, (c.as_slice-cells.ensures.fits, (search rules, (kind, (rising, (search rules, c.clear.ensures)))))))))
 

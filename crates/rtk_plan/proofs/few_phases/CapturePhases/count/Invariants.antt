@@ -5,5 +5,5 @@ use Rattle.rtk_plan.proofs.few_phases.CapturePhases.count.Given as goal
 
 abbrev pub invariant-loop-survey : goal.invariant-loop-survey
 invariant-loop-survey l =
-    counts_after l.count l.self.station l.kind l.satellite l.code (drop l.survey-index l.self.surveys.now)
-    ≡ counts_after no_phases l.self.station l.kind l.satellite l.code l.self.surveys.now
+    counts_after l.count l.self.station l.source l.bit l.code (drop l.survey-index l.self.surveys.now)
+    ≡ counts_after no_phases l.self.station l.source l.bit l.code l.self.surveys.now

@@ -15,4 +15,5 @@ returns c = record {
   unread = c.new-6.ensures;
   beside = nothing-counted c.new-7.result c.new-7.ensures.empty;
   target = c.answer_to.ensures;
+  dayless = nothing-counted c.new-8.result c.new-8.ensures.empty;
 }

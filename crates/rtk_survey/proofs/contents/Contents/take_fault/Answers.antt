@@ -30,4 +30,5 @@ returns c = on-ok c.take_equipment_in.result (λ took q before stands.
       unread = c.in_ok-count_fault.ensures (faults_in before) stands.unread;
       beside = stands.beside;
       target = c.take_target_fault.ensures q before c.args.fault stands.frames stands.target;
+      dayless = stands.dayless;
     }) c.take_equipment_in.ensures

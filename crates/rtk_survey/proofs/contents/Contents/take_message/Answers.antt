@@ -31,4 +31,5 @@ returns c = on-ok c.take_target_message.result (λ answered q before stands.
       unread = stands.unread;
       beside = c.in_ok-count_beside.ensures ms stands.beside;
       target = answered q before c.args.payload.now stands.frames stands.target;
+      dayless = c.in_ok-count_dayless.ensures ms stands.dayless;
     }) c.take_target_message.ensures

@@ -15,4 +15,6 @@ returns c = λ ms ds e stands. record {
   far = stands.far;
   dates = c.count.ensures c.args.date.station ds refl stands.dates;
   equipment = stands.equipment;
+  nameless = stands.nameless;
+  other_point = stands.other_point;
 }

@@ -18,4 +18,6 @@ returns c = on-ok c.take_equipment.result (λ took ms d e stands. record {
   far = stands.far;
   dates = stands.dates;
   equipment = took ∙ ap (λ (x : Equipment). with_message c.args.message x) stands.equipment;
+  nameless = stands.nameless;
+  other_point = stands.other_point;
 }) c.take_equipment.ensures

@@ -23,4 +23,6 @@ returns c = on-ok c.take_system_message.result (λ took ms d e stands. record {
   far = c.far_point_with-self.ensures ms stands.point stands.far;
   dates = stands.dates;
   equipment = stands.equipment;
+  nameless = c.in_ok-count_nameless.ensures ms stands.nameless;
+  other_point = c.has_other_point_with-self.ensures ms stands.point stands.other_point;
 }) c.take_system_message.ensures

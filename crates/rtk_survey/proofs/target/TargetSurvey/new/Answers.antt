@@ -10,4 +10,6 @@ returns c = record {
   equipment = c.new-3.ensures;
   parting = c.new-4.ensures;
   to_come = refl;
+  clocks = c.no_clocks_followed.ensures;
+  system_phases = c.new-5.ensures;
 }

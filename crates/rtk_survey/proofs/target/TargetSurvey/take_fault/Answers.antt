@@ -1,16 +1,21 @@
 use Rattle.std.proofs.Common.{◌≡◌, ℕ, Bool, true, Option, sym, ap, subst, ◌∙◌}
+use Rattle.std.specs.BTreeMap.{BTreeMap}
 use Rattle.rtk_bits.specs.Bits.{bits}
+use Rattle.rtk_survey.specs.ClockSpans.{clocks_by_station}
 use Rattle.rtk_survey.specs.DateMessages.{date_in}
 use Rattle.rtk_survey.specs.ReadFrames.{messages_in}
 use Rattle.rtk_survey.specs.EquipmentMessages.{equipment_in}
+use Rattle.rtk_survey.specs.SystemPhases.{HasSystemPhases}
 use Rattle.rtk_survey.specs.Targets.{dates_of, with_date_if_any, with_equipment_if_any, first_to_come, HasTargetPhases}
+use Rattle.rtk_survey.specs.declared.clock_spans.StationClocks.{StationClocks}
 use Rattle.rtk_survey.specs.declared.date_message.DateMessage.{DateMessage}
-use Rattle.rtk_survey.specs.declared.date_message.UtcDate.{UtcDate}
 use Rattle.rtk_survey.specs.declared.dating_systems.DatingSystems.{DatingSystems}
 use Rattle.rtk_survey.specs.declared.equipment_message.EquipmentMessage.{EquipmentMessage}
 use Rattle.rtk_survey.specs.declared.phases.Phases.{Phases}
+use Rattle.rtk_survey.specs.declared.system_phases.SystemPhases.{SystemPhases}
 use Rattle.rtk_survey.specs.declared.target.EquipmentTimes.{EquipmentTimes}
 use Rattle.rtk_survey.specs.declared.target.TargetDates.{TargetDates}
+use Rattle.rtk_survey.specs.declared.tellings.Told.{Told}
 use Rattle.rtk_survey.proofs.TargetLemmas.{station-of-date, systems-of-date, parted-date}
 use Rattle.rtk_survey.proofs.target.TargetSurvey.take_fault.Goals as goal
 
@@ -40,5 +45,7 @@ returns c = λ q fs fault count is.
       to_come = told.to_come
           ∙ ap (λ (m : Option DateMessage). first_to_come old.present old.to_come m) c.date_in.ensures
           ∙ ap (λ (n : ℕ). first_to_come n old.to_come date) is.present
-          ∙ ap (λ (d : Option UtcDate). first_to_come q.present d date) is.to_come;
+          ∙ ap (λ (d : Option Told). first_to_come q.present d date) is.to_come;
+      clocks = λ n. ap (λ (x : BTreeMap ℕ StationClocks). clocks_by_station x n) told.others.3 ∙ is.clocks n;
+      system_phases = subst (λ (p : SystemPhases). HasSystemPhases q.station (messages_in fs) p) (sym told.system_phases) is.system_phases;
     }

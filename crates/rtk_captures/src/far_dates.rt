@@ -1,0 +1,82 @@
+//! The lines of captures in which a message of the station tells a date more than half a day from the epoch beside it.
+//!
+//! If memory is refused, a first part of what is put may stand there.
+
+ghost use Rattle.std.specs.Prelude.{◌≡◌, ◌≤◌, ◌++◌, OnOk};
+ghost use Rattle.rtk_captures.specs.FarDateLines as spec;
+ghost use Rattle.rtk_captures.specs.StationCaptures.{dates_in};
+ghost use Rattle.rtk_obs.specs.declared.time.TheConstants.{LAST_MS};
+
+use crate::lists::{end_line, put_words_and_name};
+use crate::span_line::put_message;
+use crate::station_capture::is_station;
+use crate::times::{put_time, put_time_at};
+use rtk_obs::LAST_MS;
+use rtk_survey::{CaptureSurvey, DateMessage, FarDate, UtcDate, moment_of};
+use std::alloc::AllocError;
+
+// The first such date in a capture, if it was surveyed for the station.
+fn far_date_in(station: u16, survey: &CaptureSurvey) -> Option<FarDate>
+    ensures { result ≡ (dates_in station survey.now).told.far }
+{
+    match &survey.contents.target {
+        Some(target) if is_station(station, target.dates.station) => target.dates.capture.told.far,
+        _ => None,
+    }
+}
+
+// Appends a date, with the message that tells it and its capture.
+#[tactic(auto, unfolding(crate::specs::FarDateLines::far_head))]
+fn put_far_head(lines: &mut Vec<u8>, date: UtcDate, name: &str) -> Result<(), AllocError>
+    ensures { OnOk result (lines.new.items ≡ lines.old.items ++ spec.far_head date name.now) }
+{
+    lines.extend_from_slice(b" other-date ")?;
+    put_time(lines, moment_of(date))?;
+    put_message(lines, DateMessage::Utc(date))?;
+    put_words_and_name(lines, b" in ", name)?;
+    Ok(())
+}
+
+// Appends an epoch that a date tells.
+#[tactic(auto, unfolding(crate::specs::FarDateLines::far_epoch))]
+fn put_far_epoch(lines: &mut Vec<u8>, epoch: u64) -> Result<(), AllocError>
+    requires { epoch ≤ LAST_MS }
+    ensures { OnOk result (lines.new.items ≡ lines.old.items ++ spec.far_epoch epoch) }
+{
+    lines.extend_from_slice(b": it dates the epoch beside it as ")?;
+    put_time_at(lines, epoch)?;
+    end_line(lines)
+}
+
+fn put_far_line(lines: &mut Vec<u8>, far: FarDate, name: &str) -> Result<(), AllocError>
+    ensures { OnOk result (lines.new.items ≡ lines.old.items ++ spec.far_date_line far name.now) }
+{
+    if LAST_MS < far.epoch {
+        return Ok(());
+    }
+    put_far_head(lines, far.date, name)?;
+    put_far_epoch(lines, far.epoch)?;
+    Ok(())
+}
+
+fn put_far_line_if(lines: &mut Vec<u8>, far: Option<FarDate>, name: &str) -> Result<(), AllocError>
+    ensures { OnOk result (lines.new.items ≡ lines.old.items ++ spec.far_date_line_if far name.now) }
+{
+    match far {
+        Some(far) => put_far_line(lines, far, name),
+        None => Ok(()),
+    }
+}
+
+/// Appends the line of a capture in which a message of the station tells a date far from the epoch beside it.
+pub fn put_far_date(
+    lines: &mut Vec<u8>,
+    survey: &CaptureSurvey,
+    station: u16,
+    name: &str,
+) -> Result<(), AllocError>
+    ensures { OnOk result (lines.new.items ≡ lines.old.items ++ spec.far_date_line_in station survey.now name.now) }
+{
+    let far = far_date_in(station, survey);
+    put_far_line_if(lines, far, name)
+}

@@ -1,0 +1,167 @@
+//! The lines of captures whose clocks of GLONASS and BeiDou a person should know of: none of their dates counts, or they
+//! fall.
+//!
+//! If memory is refused, a first part of what is put may stand there.
+
+ghost use Rattle.std.specs.Prelude.{◌≡◌, ◌++◌, OnOk};
+ghost use Rattle.rtk_plan.specs.ClockNotes as spec;
+ghost use Rattle.rtk_plan.specs.ClockReach.{clocks_taken};
+
+use crate::clock_reach::{TakenClocks, clocks_in_survey, clocks_taken};
+use crate::planning::Plan;
+use rtk_captures::{
+    Captures, DateSource, StationCapture, capture_of, put_name_line, put_undated_line,
+};
+use rtk_survey::{CaptureSurvey, ClockSpan, Span, StationClocks};
+use std::alloc::AllocError;
+
+fn clock_falls(known: &Option<ClockSpan>) -> bool
+    ensures { result ≡ spec.clock_falls known.now }
+{
+    match known {
+        Some(known) => known.falls,
+        None => false,
+    }
+}
+
+// Has a clock that is converted messages with values?
+fn has_taken_clock(taken: TakenClocks, takes_1012: bool, clocks: &StationClocks) -> bool
+    ensures { result ≡ spec.has_taken_clock taken takes_1012 clocks.now }
+{
+    (taken.glonass && (clocks.glonass.is_some() || (takes_1012 && clocks.glonass_day.is_some())))
+        || (taken.beidou && clocks.beidou.is_some())
+}
+
+// Does such a clock tell an earlier time after a later one?
+fn taken_clock_falls(taken: TakenClocks, takes_1012: bool, clocks: &StationClocks) -> bool
+    ensures { result ≡ spec.taken_clock_falls taken takes_1012 clocks.now }
+{
+    (taken.glonass
+        && (clock_falls(&clocks.glonass) || (takes_1012 && clock_falls(&clocks.glonass_day))))
+        || (taken.beidou && clock_falls(&clocks.beidou))
+}
+
+fn is_by_words(source: DateSource) -> bool
+    ensures { result ≡ spec.is_by_words source }
+{
+    match source {
+        DateSource::Words => true,
+        DateSource::Station(_)
+        | DateSource::OtherStation(_, _)
+        | DateSource::Ephemerides
+        | DateSource::OtherEphemerides(_) => false,
+    }
+}
+
+// Tells a capture without an epoch no date, and do words date none?
+fn tells_no_date(source: DateSource, capture: &StationCapture) -> bool
+    ensures { result ≡ spec.tells_no_date source capture.now }
+{
+    !is_by_words(source) && (capture.span.is_none() && capture.moment.is_none())
+}
+
+fn epochs_fall(epochs: &Option<Span>) -> bool
+    ensures { result ≡ spec.epochs_fall epochs.now }
+{
+    match epochs {
+        Some(epochs) => epochs.falls,
+        None => false,
+    }
+}
+
+// Appends the line of such a capture, if it has clocks that are converted.
+fn put_undated_clock(
+    lines: &mut Vec<u8>,
+    source: DateSource,
+    taken: TakenClocks,
+    takes_1012: bool,
+    capture: &StationCapture,
+    clocks: &StationClocks,
+    name: &str,
+) -> Result<(), AllocError>
+    ensures { OnOk result (lines.new.items ≡ lines.old.items
+        ++ spec.undated_clock_line source taken takes_1012 capture.now clocks.now name.now) }
+{
+    if tells_no_date(source, capture) && has_taken_clock(taken, takes_1012, clocks) {
+        put_undated_line(lines, name)
+    } else {
+        Ok(())
+    }
+}
+
+// Appends the line of a capture whose clocks fall, unless its epochs do too.
+fn put_falling_clock(
+    lines: &mut Vec<u8>,
+    taken: TakenClocks,
+    takes_1012: bool,
+    capture: &StationCapture,
+    clocks: &StationClocks,
+    name: &str,
+) -> Result<(), AllocError>
+    ensures { OnOk result (lines.new.items ≡ lines.old.items
+        ++ spec.falling_clock_line taken takes_1012 capture.now clocks.now name.now) }
+{
+    if taken_clock_falls(taken, takes_1012, clocks) && !epochs_fall(&capture.span) {
+        put_name_line(lines, b" time-falls ", name)
+    } else {
+        Ok(())
+    }
+}
+
+// Appends both lines of a capture.
+fn put_clock_notes(
+    lines: &mut Vec<u8>,
+    source: DateSource,
+    taken: TakenClocks,
+    takes_1012: bool,
+    capture: &StationCapture,
+    clocks: &StationClocks,
+    name: &str,
+) -> Result<(), AllocError>
+    ensures { OnOk result (lines.new.items ≡ lines.old.items ++ spec.clock_notes source taken takes_1012 capture.now clocks.now name.now) }
+{
+    put_undated_clock(lines, source, taken, takes_1012, capture, clocks, name)?;
+    put_falling_clock(lines, taken, takes_1012, capture, clocks, name)?;
+    Ok(())
+}
+
+fn put_clock_notes_in(
+    lines: &mut Vec<u8>,
+    plan: &Plan,
+    survey: &CaptureSurvey,
+    name: &str,
+) -> Result<(), AllocError>
+    ensures { OnOk result (lines.new.items ≡ lines.old.items
+        ++ spec.clock_notes_in plan.now.setup.station plan.now.span.source (clocks_taken plan.now.setup.head.listed) plan.now.setup.takes_1012 survey.now name.now) }
+{
+    let setup = &plan.setup;
+    let station = setup.station();
+    let capture = capture_of(station, survey);
+    let clocks = clocks_in_survey(station, survey);
+    let taken = clocks_taken(setup);
+    let source = plan.span.source;
+    put_clock_notes(
+        lines,
+        source,
+        taken,
+        setup.takes_1012(),
+        &capture,
+        &clocks,
+        name,
+    )
+}
+
+/// Appends the lines of all captures.
+pub(crate) fn put_all_clock_notes(
+    lines: &mut Vec<u8>,
+    captures: &Captures<'_, '_>,
+    plan: &Plan,
+) -> Result<(), AllocError>
+    ensures { OnOk result (lines.new.items ≡ lines.old.items
+        ++ spec.all_clock_notes captures.now.names.now plan.now.span.source plan.now.setup captures.now.surveys.now) }
+{
+    for (at, survey) in captures.surveys.iter().enumerate() {
+        put_clock_notes_in(lines, plan, survey, captures.name(at))?;
+    }
+    Ok(())
+}

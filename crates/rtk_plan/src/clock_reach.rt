@@ -1,0 +1,342 @@
+//! When the clocks of GLONASS and BeiDou of captures go, which give no epoch.
+
+ghost use Rattle.std.specs.Prelude.{◌≡◌, ◌<◌, ◌^◌, slice_get, IfOk, IfErr, OnOk, true, false};
+ghost use Rattle.std.specs.List.{list_any};
+ghost use Rattle.rtk_captures.specs.CaptureCauses.{IfRefused};
+ghost use Rattle.rtk_captures.specs.Dating.{ArePlaced, IsNearOf, captures_of};
+ghost use Rattle.rtk_captures.specs.Reach.{is_far_if_any};
+ghost use Rattle.rtk_captures.specs.declared.refusal.Refusal.{Refusal};
+ghost use Rattle.rtk_plan.specs.ClockReach as spec;
+ghost use Rattle.rtk_plan.specs.Plan.{HaveFarClocks};
+
+use crate::setup_seconds::seconds_chosen;
+use rtk_captures::{
+    Dating, PlanFault, Refusal, StationCapture, StationCaptures, capture_of, reach_with, refused,
+};
+use rtk_message::System;
+use rtk_obs::{GpsMs, LAST_MS, WEEK_MS};
+use rtk_setup::{LeapSeconds, Reference, Setup};
+use rtk_survey::{
+    CaptureSurvey, ClockSpan, FollowedClock, Placed, Span, StationClocks, TargetSurvey, Told,
+    clock_moment, clocks_by_station, is_dated_near,
+};
+use std::alloc::{AllocError, Global};
+
+/// How the clocks of a station are dated.
+#[derive(Clone, Copy, Debug, PartialEq, Eq)]
+pub struct ClockDating {
+    pub station: u16,
+    /// The leap seconds that date GLONASS.
+    pub seconds: u8,
+    /// Words give the moment.
+    pub is_given: bool,
+    /// The moment near which captures are dated that have no epoch and name no moment.
+    pub near: GpsMs,
+}
+
+/// Which clocks are converted.
+#[derive(Clone, Copy, Debug, PartialEq, Eq)]
+pub struct TakenClocks {
+    pub glonass: bool,
+    pub beidou: bool,
+}
+
+// ---- the clocks of a station
+
+fn clocks_for(station: u16, target: &Option<TargetSurvey>) -> StationClocks
+    ensures { result ≡ spec.clocks_for station target.now }
+{
+    match target {
+        Some(target) => clocks_by_station(&target.clocks, station),
+        None => StationClocks::new(),
+    }
+}
+
+/// How far the clocks of a station go in a capture.
+pub(crate) fn clocks_in_survey(station: u16, survey: &CaptureSurvey) -> StationClocks
+    ensures { result ≡ spec.clocks_in_survey station survey.now }
+{
+    clocks_for(station, &survey.contents.target)
+}
+
+fn span_of_clock(clock: FollowedClock, clocks: &StationClocks) -> Option<ClockSpan>
+    ensures { result ≡ spec.span_of_clock clock clocks.now }
+{
+    match clock {
+        FollowedClock::GlonassWeek => clocks.glonass,
+        FollowedClock::BeidouWeek => clocks.beidou,
+        FollowedClock::GlonassDay => clocks.glonass_day,
+    }
+}
+
+// ---- one clock
+
+fn moment_told_or(near: GpsMs, told: Option<Told>) -> GpsMs
+    ensures { result ≡ spec.moment_told_or near told }
+{
+    let Some(told) = told else {
+        return near;
+    };
+    match GpsMs::new(told.first) {
+        Some(moment) => moment,
+        None => near,
+    }
+}
+
+// The moment near which the clocks of a capture without epochs are dated.
+fn clock_near(way: ClockDating, capture: &StationCapture) -> GpsMs
+    ensures { result ≡ spec.clock_near way capture.now }
+{
+    if way.is_given {
+        way.near
+    } else {
+        moment_told_or(way.near, capture.moment)
+    }
+}
+
+// By how much GPS time is ahead of what a survey has of a clock.
+fn clock_lead(clock: FollowedClock, seconds: u8) -> u64
+    ensures value { result ≡ spec.clock_lead clock seconds }
+    ensures bound { result < 2 ^ 20 }
+{
+    match clock {
+        FollowedClock::GlonassWeek | FollowedClock::GlonassDay => 1000 * u64::from(seconds),
+        FollowedClock::BeidouWeek => 0,
+    }
+}
+
+// Moments with their dates, if the one that is undated has this date.
+fn placed_clock_span(lead: u64, first: u64, undated: GpsMs, span: &Span) -> Placed
+    requires lead { lead < 2 ^ 20 }
+    requires first { first < 2 ^ 61 }
+    ensures { result ≡ spec.placed_clock_span lead first undated span.now }
+{
+    let until = if span.is_wide {
+        LAST_MS + 1
+    } else {
+        (first + lead + span.greatest.ms()).saturating_sub(undated.ms())
+    };
+    Placed {
+        first,
+        from: (first + lead + span.least.ms()).saturating_sub(undated.ms()),
+        until,
+    }
+}
+
+fn placed_by_epochs(
+    way: ClockDating,
+    clock: FollowedClock,
+    epochs: &Span,
+    placed: &Placed,
+    known: &ClockSpan,
+) -> Placed
+    ensures { result ≡ spec.placed_by_epochs way clock epochs.now placed.now known.now }
+{
+    let opened = known.opened();
+    let anchored = opened.anchored(clock, epochs);
+    let lead = clock_lead(clock, way.seconds);
+    placed_clock_span(
+        lead,
+        placed.first.min(LAST_MS),
+        epochs.first,
+        &anchored.span,
+    )
+}
+
+fn placed_alone(way: ClockDating, clock: FollowedClock, near: GpsMs, known: &ClockSpan) -> Placed
+    ensures { result ≡ spec.placed_alone way clock near known.now }
+{
+    let opened = known.opened();
+    let undated = opened.span.first;
+    let first = clock_moment(clock, near, (undated.ms() % WEEK_MS) as u32);
+    let lead = clock_lead(clock, way.seconds);
+    placed_clock_span(lead, first, undated, &opened.span)
+}
+
+fn placed_clock(
+    way: ClockDating,
+    clock: FollowedClock,
+    near: GpsMs,
+    epochs: &Option<Span>,
+    placed: &Option<Placed>,
+    known: &ClockSpan,
+) -> Placed
+    ensures { result ≡ spec.placed_clock way clock near epochs.now placed.now known.now }
+{
+    match epochs {
+        Some(epochs) => match placed {
+            Some(placed) => placed_by_epochs(way, clock, epochs, placed, known),
+            None => placed_alone(way, clock, near, known),
+        },
+        None => placed_alone(way, clock, near, known),
+    }
+}
+
+fn placed_if_followed(
+    way: ClockDating,
+    clock: FollowedClock,
+    capture: &StationCapture,
+    placed: &Option<Placed>,
+    known: &Option<ClockSpan>,
+) -> Option<Placed>
+    ensures { result ≡ spec.placed_if_followed way clock capture.now placed.now known.now }
+{
+    match known {
+        Some(known) => Some(placed_clock(
+            way,
+            clock,
+            clock_near(way, capture),
+            &capture.span,
+            placed,
+            known,
+        )),
+        None => None,
+    }
+}
+
+/// The first and the last moment of a clock in a capture whose epochs are dated so; `None` if it has no message of the
+/// clock with a value.
+pub(crate) fn clock_placed(
+    way: ClockDating,
+    clock: FollowedClock,
+    survey: &CaptureSurvey,
+    placed: &Option<Placed>,
+) -> Option<Placed>
+    ensures { result ≡ spec.clock_placed way clock survey.now placed.now }
+{
+    let capture = capture_of(way.station, survey);
+    let clocks = clocks_in_survey(way.station, survey);
+    let known = span_of_clock(clock, &clocks);
+    placed_if_followed(way, clock, &capture, placed, &known)
+}
+
+// ---- all captures
+
+fn placed_if_taken(is_taken: bool, placed: Option<Placed>) -> Option<Placed>
+    ensures { result ≡ spec.placed_if_taken is_taken placed }
+{
+    if is_taken { placed } else { None }
+}
+
+// The epochs of a capture, and the clocks of it that are taken.
+fn placed_with_clocks(
+    way: ClockDating,
+    taken: TakenClocks,
+    survey: &CaptureSurvey,
+    placed: &Option<Placed>,
+) -> Option<Placed>
+    ensures { result ≡ spec.placed_with_clocks way taken survey.now placed.now }
+{
+    let glonass = clock_placed(way, FollowedClock::GlonassWeek, survey, placed);
+    let beidou = clock_placed(way, FollowedClock::BeidouWeek, survey, placed);
+    let with_glonass = reach_with(*placed, placed_if_taken(taken.glonass, glonass));
+    reach_with(with_glonass, placed_if_taken(taken.beidou, beidou))
+}
+
+// The epochs of the capture at a place.
+fn placed_at(placed: &[Option<Placed>], at: usize) -> Option<Placed>
+    ensures { result ≡ spec.placed_or_none (slice_get placed.now at) }
+{
+    match placed.get(at) {
+        Some(placed) => *placed,
+        None => None,
+    }
+}
+
+fn all_with_clocks(
+    alloc: Global,
+    way: ClockDating,
+    taken: TakenClocks,
+    placed: &[Option<Placed>],
+    surveys: &[CaptureSurvey],
+) -> Result<Vec<Option<Placed>>, AllocError>
+    ensures { IfOk result (λ all. all.items ≡ spec.all_with_clocks way taken placed.now 0 surveys.now) }
+{
+    let mut all = Vec::new(alloc);
+    for (at, survey) in surveys.iter().enumerate() {
+        let own = placed_at(placed, at);
+        all.push(placed_with_clocks(way, taken, survey, &own))?;
+    }
+    Ok(all)
+}
+
+fn is_far(near: GpsMs, placed: &Option<Placed>) -> bool
+    ensures { result ≡ is_far_if_any near placed.now }
+{
+    match placed {
+        Some(placed) => !is_dated_near(near, placed),
+        None => false,
+    }
+}
+
+fn is_one_far(near: GpsMs, placed: &[Option<Placed>]) -> bool
+    ensures { result ≡ list_any (is_far_if_any near) placed.now }
+{
+    placed.iter().any(|placed| is_far(near, placed))
+}
+
+/// The clocks that a setup converts.
+pub(crate) fn clocks_taken(setup: &Setup) -> TakenClocks
+    ensures { result ≡ spec.clocks_taken setup.now.head.listed }
+{
+    TakenClocks {
+        glonass: setup.lists(System::Glonass),
+        beidou: setup.lists(System::Beidou),
+    }
+}
+
+// Does a conversion near this moment date all epochs and these clocks as they are dated here?
+fn demand_near(
+    alloc: Global,
+    captured: &StationCaptures<'_, '_, '_>,
+    way: ClockDating,
+    taken: TakenClocks,
+    near: GpsMs,
+    placed: &[Option<Placed>],
+) -> Result<(), PlanFault>
+    ensures near { OnOk result (spec.has_far_clock way taken near placed.now captured.now.all.surveys.now ≡ false) }
+    ensures refused { IfErr result (IfRefused (λ refusal. (refusal ≡ Refusal.TooLong)
+        × (spec.has_far_clock way taken near placed.now captured.now.all.surveys.now ≡ true))) }
+{
+    let all = all_with_clocks(alloc, way, taken, placed, captured.all.surveys)?;
+    if is_one_far(near, all.as_slice()) {
+        let reaches = captured.list_reaches(alloc, all.as_slice())?;
+        return refused(Refusal::TooLong, reaches);
+    }
+    Ok(())
+}
+
+/// Does the conversion date the clocks of its systems as they are dated near the epochs, and near the moments that captures
+/// without an epoch name?
+pub(crate) fn demand_near_clocks(
+    alloc: Global,
+    captured: &StationCaptures<'_, '_, '_>,
+    given: Option<Reference>,
+    dating: &Dating,
+    seconds: &Option<LeapSeconds>,
+    setup: &Setup,
+) -> Result<(), PlanFault>
+    requires captures { captured.now.captures.now ≡ captures_of captured.now.all.surveys.now captured.now.station }
+    requires near { IsNearOf given captured.now.captures.now dating.now.near }
+    requires placed { ArePlaced given captured.now.captures.now dating.now.placed.items }
+    requires seconds { setup.now.leap_seconds ≡ seconds.now }
+    ensures near { OnOk result (HaveFarClocks captured.now.all.surveys.now given captured.now.station setup.now false) }
+    ensures refused { IfErr result (IfRefused (λ refusal. (refusal ≡ Refusal.TooLong)
+        × HaveFarClocks captured.now.all.surveys.now given captured.now.station setup.now true)) }
+{
+    let way = ClockDating {
+        station: captured.station,
+        seconds: seconds_chosen(seconds, dating.near),
+        is_given: given.is_some(),
+        near: dating.near,
+    };
+    let taken = clocks_taken(setup);
+    demand_near(
+        alloc,
+        captured,
+        way,
+        taken,
+        setup.near(),
+        dating.placed.as_slice(),
+    )
+}

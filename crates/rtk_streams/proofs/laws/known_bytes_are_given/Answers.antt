@@ -1,5 +1,0 @@
-use Rattle.rtk_streams.proofs.PassedLemmas.{all_given}
-use Rattle.rtk_streams.proofs.laws.known_bytes_are_given.Goals as goal
-
-pub returns : goal.returns
-returns c = all_given

@@ -1,0 +1,204 @@
+-- How far the clocks of GLONASS and BeiDou of a station go in a capture (this project's rule). They give no epoch, so each
+-- is followed by itself, from message to message: a message is dated near the last epoch, or near the last message of the same
+-- clock if no epoch came since. All moments are as if the first epoch were in week 1,024, as those of epochs are.
+-- Source: RTCM 10403.3, DF034, DF416 and DF427
+use Rattle.std.specs.Prelude.{ℕ, ◌+◌, ◌-◌, ◌%◌, ◌==◌, Bool, true, false, not, nat_le, min, Option, None, Some, unwrap_or, is_some, if◌then◌else◌}
+use Rattle.std.specs.BTreeMap.{BTreeMap, get}
+use Rattle.std.specs.Ordering.{nat_cmp}
+use Rattle.rtk_message.specs.declared.any_message.AnyMessage.{AnyMessage}
+use Rattle.rtk_message.specs.declared.any_message.AnyMessage.TheVariants as any
+use Rattle.rtk_message.specs.declared.system.System.{System}
+use Rattle.rtk_message.specs.declared.system.System.TheVariants.{Gps, Glonass, Galileo, Beidou, Qzss, Sbas, Navic}
+use Rattle.rtk_message.specs.Obs1012 as obs1012
+use Rattle.rtk_obs.specs.declared.time.TheConstants.{LAST_MS}
+use Rattle.rtk_survey.specs.BesideGps.{told_time, gives_value_beside}
+use Rattle.rtk_survey.specs.Chains.{tells_day}
+use Rattle.rtk_survey.specs.Epochs.{begun, is_followed, with_moment, last_time_of_week}
+use Rattle.rtk_survey.specs.Telling.{dated, day_ms}
+use Rattle.rtk_survey.specs.declared.clock_spans.ClockSpan.{ClockSpan}
+use Rattle.rtk_survey.specs.declared.clock_spans.FollowedClock.{FollowedClock}
+use Rattle.rtk_survey.specs.declared.clock_spans.FollowedClock.TheVariants.{GlonassWeek, BeidouWeek, GlonassDay}
+use Rattle.rtk_survey.specs.declared.clock_spans.FollowedSpan.{FollowedSpan}
+use Rattle.rtk_survey.specs.declared.clock_spans.FollowedTime.{FollowedTime}
+use Rattle.rtk_survey.specs.declared.clock_spans.StationClocks.{StationClocks}
+use Rattle.rtk_survey.specs.declared.span.Span.{Span}
+
+-- ---- the clock of a message
+
+-- one of GLONASS that tells no day (DF416) is apart
+abbrev pub clock_of_glonass : ℕ → FollowedClock
+clock_of_glonass c = if tells_day Glonass c then GlonassWeek else GlonassDay
+
+-- table
+-- the clock of a system that is followed, and the time that it tells
+abbrev pub followed_by : System → ℕ → Option FollowedTime
+followed_by Gps c = None
+followed_by Glonass c = Some (record { clock = clock_of_glonass c; time = told_time Glonass c })
+followed_by Galileo c = None
+followed_by Beidou c = Some (record { clock = BeidouWeek; time = told_time Beidou c })
+followed_by Qzss c = None
+followed_by Sbas c = None
+followed_by Navic c = None
+
+abbrev pub followed_time : AnyMessage → Option FollowedTime
+followed_time (any.Message m) = None
+followed_time (any.Msm m) = followed_by m.system m.header.tow
+followed_time (any.Obs1012 m) = Some (record { clock = GlonassDay; time = told_time Glonass (obs1012.clock_of m) })
+
+abbrev pub followed_if : Bool → Option FollowedTime → Option FollowedTime
+followed_if has_value None = None
+followed_if has_value (Some told) = if has_value then Some told else None
+
+-- the same of a message that has a value
+abbrev pub followed_with_value : AnyMessage → Option FollowedTime
+followed_with_value m = followed_if (gives_value_beside m) (followed_time m)
+
+-- ---- moments
+
+-- formula
+-- the moment with this time of day nearest to another moment; of two alike the earlier
+abbrev pub dated_in_day : ℕ → ℕ → ℕ
+dated_in_day at t = (at - 43_200_000) + (t % day_ms + day_ms - (at - 43_200_000) % day_ms) % day_ms
+
+-- table
+-- the moment nearest to another one at which a clock tells a time: of a week, but without a day of a day
+abbrev pub clock_moment : FollowedClock → ℕ → ℕ → ℕ
+clock_moment GlonassWeek at t = dated at t
+clock_moment BeidouWeek at t = dated at t
+clock_moment GlonassDay at t = dated_in_day at t
+
+-- a moment, if it can be written; else another one
+abbrev pub moment_or : ℕ → ℕ → ℕ
+moment_or t other = if nat_le t LAST_MS then t else other
+
+-- one message alone, at this moment
+abbrev pub span_at : ℕ → Span
+span_at t = record { first = t; last = t; least = t; greatest = t; next_greatest = None; falls = false; is_wide = false }
+
+-- formula
+-- a moment as far from the second of two moments as it was from the first, as far as it can be written
+abbrev pub moved_moment : ℕ → ℕ → ℕ → ℕ
+moved_moment from to t = min (t + to - from) LAST_MS
+
+abbrev pub moved_moment_if_any : ℕ → ℕ → Option ℕ → Option ℕ
+moved_moment_if_any from to None = None
+moved_moment_if_any from to (Some t) = Some (moved_moment from to t)
+
+abbrev pub moved_span : ℕ → ℕ → Span → Span
+moved_span from to s = record {
+  first = moved_moment from to s.first;
+  last = moved_moment from to s.last;
+  least = moved_moment from to s.least;
+  greatest = moved_moment from to s.greatest;
+  next_greatest = moved_moment_if_any from to s.next_greatest;
+  falls = s.falls;
+  is_wide = s.is_wide;
+}
+
+-- ---- one clock
+
+-- the fields of a span, as a survey keeps them
+abbrev pub kept_span : FollowedSpan → ClockSpan
+kept_span k = record {
+  first = k.span.first;
+  last = k.span.last;
+  least = k.span.least;
+  greatest = k.span.greatest;
+  next_greatest = k.span.next_greatest;
+  falls = k.span.falls;
+  is_wide = k.span.is_wide;
+  epoch = k.epoch;
+}
+
+-- they are moments that can be written
+abbrev pub opened_moment : ℕ → ℕ
+opened_moment t = min t LAST_MS
+
+abbrev pub opened_if_any : Option ℕ → Option ℕ
+opened_if_any None = None
+opened_if_any (Some t) = Some (opened_moment t)
+
+abbrev pub opened_span : ClockSpan → FollowedSpan
+opened_span k = record {
+  span = record {
+    first = opened_moment k.first;
+    last = opened_moment k.last;
+    least = opened_moment k.least;
+    greatest = opened_moment k.greatest;
+    next_greatest = opened_if_any k.next_greatest;
+    falls = k.falls;
+    is_wide = k.is_wide;
+  };
+  epoch = opened_if_any k.epoch;
+}
+
+-- the first message of a clock, near the last epoch if one came
+abbrev pub clock_begun : FollowedClock → Option Span → ℕ → FollowedSpan
+clock_begun c None t = record { span = begun t; epoch = None }
+clock_begun c (Some e) t = record { span = span_at (moment_or (clock_moment c e.last t) e.last); epoch = Some e.last }
+
+-- if no epoch came before the messages, the last of them is set near the first epoch, and the others with it
+abbrev pub clock_anchored : FollowedClock → Span → FollowedSpan → FollowedSpan
+clock_anchored c e k =
+    if is_some k.epoch then k else
+    record { span = moved_span k.span.last (clock_moment c e.first (last_time_of_week k.span)) k.span; epoch = None }
+
+abbrev pub clock_anchored_if_any : FollowedClock → Option Span → FollowedSpan → FollowedSpan
+clock_anchored_if_any c None k = k
+clock_anchored_if_any c (Some e) k = clock_anchored c e k
+
+-- the last epoch is not the one that was the last before
+abbrev pub is_new_epoch : Option ℕ → ℕ → Bool
+is_new_epoch None t = true
+is_new_epoch (Some before) t = not (before == t)
+
+-- the moment near which the next message is dated: the last epoch if it is new, else the last message
+abbrev pub clock_base : Option Span → FollowedSpan → ℕ
+clock_base None k = k.span.last
+clock_base (Some e) k = if is_new_epoch k.epoch e.last then e.last else k.span.last
+
+-- a moment more; one that is more than a week from the first is not followed
+abbrev pub with_moment_near : Span → ℕ → Span
+with_moment_near s t = if is_followed s.first t then with_moment s t else record s { is_wide = true }
+
+abbrev pub last_epoch_of : Option Span → Option ℕ
+last_epoch_of None = None
+last_epoch_of (Some e) = Some e.last
+
+-- a message more after these epochs, by the time that its clock tells
+abbrev pub with_clock_time : FollowedClock → Option Span → ℕ → FollowedSpan → FollowedSpan
+with_clock_time c e t k = record { span = with_moment_near k.span (clock_moment c (clock_base e k) t); epoch = last_epoch_of e }
+
+abbrev pub clock_with : FollowedClock → Option Span → ClockSpan → ℕ → FollowedSpan
+clock_with c e k t = with_clock_time c e t (clock_anchored_if_any c e (opened_span k))
+
+abbrev pub clock_followed : FollowedClock → Option Span → Option ClockSpan → ℕ → ClockSpan
+clock_followed c e None t = kept_span (clock_begun c e t)
+clock_followed c e (Some k) t = kept_span (clock_with c e k t)
+
+-- ---- the clocks of a station
+
+abbrev pub no_station_clocks : StationClocks
+no_station_clocks = record { glonass = None; beidou = None; glonass_day = None }
+
+-- table
+-- a time more of a clock, after these epochs
+abbrev pub with_time_of_clock : FollowedClock → Option Span → ℕ → StationClocks → StationClocks
+with_time_of_clock GlonassWeek e t s = record s { glonass = Some (clock_followed GlonassWeek e s.glonass t) }
+with_time_of_clock BeidouWeek e t s = record s { beidou = Some (clock_followed BeidouWeek e s.beidou t) }
+with_time_of_clock GlonassDay e t s = record s { glonass_day = Some (clock_followed GlonassDay e s.glonass_day t) }
+
+abbrev pub with_followed_time : Option Span → FollowedTime → StationClocks → StationClocks
+with_followed_time e told s = with_time_of_clock told.clock e told.time s
+
+-- the clocks of a station; of one without an entry no clock is followed
+abbrev pub clocks_by_station : BTreeMap ℕ StationClocks → ℕ → StationClocks
+clocks_by_station clocks n = unwrap_or (get nat_cmp clocks n) no_station_clocks
+
+-- the clocks of station n, after a time more of station k
+abbrev pub with_time_for : ℕ → ℕ → Option Span → FollowedTime → StationClocks → StationClocks
+with_time_for n k e told s = if k == n then with_followed_time e told s else s
+
+abbrev pub with_time_for_if_any : ℕ → ℕ → Option Span → Option FollowedTime → StationClocks → StationClocks
+with_time_for_if_any n k e None s = s
+with_time_for_if_any n k e (Some told) s = with_time_for n k e told s
