@@ -32,6 +32,13 @@ def told_of_rows(message: Message) -> list[tuple[int, int]]:
     return [(slot, field - 7) for slot, field in told if GLONASS.name(slot) and field <= LAST_FIELD]
 
 
+def phase_channels(message: Message) -> dict[int, int]:
+    """A channel of each slot, on which phases of a message of GLONASS are counted: the one that it tells, else 0. Whether it gives a
+    phase depends on no channel."""
+    told = dict(told_of_rows(message)) if letter_of(message) == GLONASS.letter else {}
+    return {slot: told[slot] if slot in told and told[slot] <= LAST_CHANNEL else 0 for slot in range(1, 28)}
+
+
 def told_by(messages: Iterable[Message]) -> Told:
     """The channels that observations of GLONASS tell."""
     told: Told = {}

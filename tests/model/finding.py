@@ -17,7 +17,7 @@ from pathlib import Path
 from typing import NamedTuple
 
 import stages
-from channels import orbit_of
+from channels import orbit_of, phase_channels
 from choosing import Allowed, Chosen, Sent, Wanted, choose, has_value_of_1012, leap_of
 from clock_spans import CLOCKS, DAY, Going, going, placed
 from clocks import leap_seconds_at, near_of_span
@@ -441,16 +441,25 @@ def stray_of(epochs: list[list[int]], places: list[int]) -> tuple[int, list[int]
     return last, [at for at, of in zip(places, epochs) if last in of]
 
 
-def few_phases(messages: list[Message], chosen: Chosen) -> list[str]:
-    """The codes that have fewer than half of the phases that their satellites have in the code that has most. Of a 1004 and an
-    MSM of one epoch the phases of a code are counted once."""
-    channels = chosen.slots.channels if chosen.slots else {}
-    taken = [it for it in messages if it.header["number"] in chosen.numbers]
+def station_of_cells(capture: Capture, named: int | None) -> int | None:
+    """The station whose phases of other systems than GPS are counted: the one that is named, else the first that has a cell of one."""
+    if named is not None:
+        return named
+    has_cell = (it for it in capture.messages() if any(satellite[0] != "G" for satellite, _, _ in cells_in(it, {})))
+    return next((it.header["station"] for it in has_cell), None)
+
+
+def few_phases(captures: list[Capture], station: int, named: int | None, chosen: Chosen) -> list[str]:
+    """The codes that have fewer than half of the phases that their satellites have in the code that has most. Of a 1004 or a 1012
+    and an MSM of one epoch the phases of a code are counted once."""
     cells = [
         (it.header["number"], satellite, name_of_code(satellite[0], code), cell)
-        for it in taken
-        for satellite, code, cell in cells_in(it, channels)
-        if satellite[0] in stages.PHASES
+        for capture in captures
+        for is_counted in [station_of_cells(capture, named) == station]
+        for it in capture.of_station(station)
+        if it.header["number"] in chosen.numbers
+        for satellite, code, cell in cells_in(it, phase_channels(it))
+        if satellite[0] == "G" or is_counted
     ]
     shown = {(satellite, name) for _, satellite, name, cell in cells if has_value(cell)}
     by_number = Counter((number, satellite, name) for number, satellite, name, cell in cells if cell.phase is not None)
@@ -532,7 +541,7 @@ def find(texts: list[bytes], now: int, wanted: Wanted = Wanted()) -> Found:
     taken = [{it: its for it, its in of.items() if it in letters} for of in clocks]
     return Found(
         number, chosen, near, None if by is None else by.fields, [[places[at] for at in link] for link in links], epochs,
-        [places[at] for at, of in enumerate(epochs) if not of], skipped, few_phases(messages, chosen), stray_of(epochs, places),
+        [places[at] for at, of in enumerate(epochs) if not of], skipped, few_phases(captures, number, wanted.station, chosen), stray_of(epochs, places),
         middle is None and GLONASS.letter in wanted.letters and any(has_value_of_1012(it) for it in messages),
         [] if wanted.near is not None else [at for at, own, of, it in zip(places, owns, epochs, taken) if it and own is None and not of],
         [at for at, of, it in zip(places, epochs, taken) if any(its.falls for its in it.values()) and of == sorted(of)],

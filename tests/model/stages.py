@@ -5,8 +5,6 @@ once all are turned."""
 TAKEN = "GRECJSI"
 # The systems whose observations tell the station, the dates and the spans of captures; without others G alone does.
 DATING = "GEJSI"
-# The systems whose phases are counted for the lines of codes with few phases.
-PHASES = "G"
 # Leap seconds of GLONASS that are wrong everywhere by the same whole seconds are set right.
 SETS_LEAP_SECONDS = True
 # `summary` has a line of the clock of GLONASS, by the leap seconds at the first date of the station, and one of each system that no

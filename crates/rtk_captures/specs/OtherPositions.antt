@@ -29,7 +29,7 @@ abbrev pub tells_other_position : Option ReferencePoint → StationCapture → B
 tells_other_position first c = c.has_other_point || is_other_point first c.point
 
 -- formula
-abbrev pub other_position_line : Option ReferencePoint → StationCapture → List ℕ → List ℕ
+unfoldable pub other_position_line : Option ReferencePoint → StationCapture → List ℕ → List ℕ
 other_position_line first c name = if tells_other_position first c then name_line (codes " other-position ") name else []
 
 abbrev pub all_other_positions : List (Bor (List ℕ)) → List StationCapture → Option ReferencePoint → List ℕ

@@ -53,6 +53,7 @@ fn tells_other_position(first: Option<ReferencePoint>, capture: &StationCapture)
     capture.has_other_point || is_other_point(first, capture.point)
 }
 
+#[tactic(auto, unfolding(crate::specs::OtherPositions::other_position_line))]
 fn put_other_position_at(
     lines: &mut Vec<u8>,
     first: Option<ReferencePoint>,

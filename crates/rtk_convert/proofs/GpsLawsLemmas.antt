@@ -23,7 +23,7 @@ use Rattle.rtk_rinex.specs.MixedHead.{letter}
 use Rattle.rtk_convert.specs.FrameClass.{IsClassOfReading, IsEpochOf, IsMomentOf, system_of}
 use Rattle.rtk_setup.specs.Setup.{SetupView, IsSetupView, channels_of, is_of_gps, taken_by}
 use Rattle.rtk_convert.specs.SetupLaws.{DefaultTakesFour, GpsMessagesStay, IsGpsEpoch}
-use Rattle.rtk_convert.proofs.GpsOfferLemmas.{entries-same, gps-cells, gps-message, taken-of-gps}
+use Rattle.rtk_convert.proofs.GpsOfferLemmas.{entries-same, gps-alone, gps-cells, gps-message, taken-of-gps}
 
 -- ---- messages, cells and epochs
 
@@ -64,7 +64,7 @@ lists-some (c ∷ listed) some h =
 taken-four : (s : SetupView) → IsSetupView s → IsTrue (is_of_gps s) → s.kinds.gps ≡ Msm4 → taken_by s ≡ four
 taken-four s good is four_is =
     let some : 0 < length s.head.listed = good.2.listed.count.0 in
-    taken-of-gps s is ∙ rw (lists-some s.head.listed some is, four_is) refl
+    taken-of-gps s is ∙ rw (lists-some s.head.listed some (gps-alone s is), four_is) refl
 
 pub default-takes-four : FourIsSame → FourIsEach → DefaultTakesFour
 default-takes-four same each s payload f good is four_is =

@@ -36,8 +36,7 @@ use Rattle.rtk_collect.specs.Accepted.{kept, cells_at, closed}
 use Rattle.rtk_collect.specs.Answer.{Class, LateClass, IsRightAnswer, class_by, class_of, class_of_cells, class_in_time, conflicts_of, conflicts_with}
 use Rattle.rtk_collect.specs.Arrival.{Arrival, At, message_of}
 use Rattle.rtk_collect.specs.Collector.{CollectorView, RepresentsArrivals}
-use Rattle.rtk_collect.specs.EpochSet.{AreLeftBeside, EpochSetView, left_beside, with_cell, cell_under, one_more, fresh, conflict, conflicts}
-use Rattle.rtk_collect.specs.Equal.{equal_cells}
+use Rattle.rtk_collect.specs.EpochSet.{AreLeftBeside, EpochSetView, left_beside, with_cell, cell_under, one_more, fresh, equal_values, conflict, conflicts}
 use Rattle.rtk_collect.specs.Gps.{gps}
 use Rattle.rtk_collect.specs.Key.{Above, KeysRise, key}
 use Rattle.rtk_collect.specs.Late.{epochs, greater, late}
@@ -69,7 +68,7 @@ lists-none (c ∷ listed) m h ne =
     not-first (letter c == m) (list_any (λ c. letter c == m) listed) (letter-no (letter c) m p.0 ne) (lists-none listed m p.1 ne)
 
 -- all codes are of GPS, and the file shows no Doppler shifts
-gps-alone : (s : SetupView) → IsTrue (is_of_gps s) → list_all (λ c. letter c == 71) s.head.listed ≡ true
+pub gps-alone : (s : SetupView) → IsTrue (is_of_gps s) → list_all (λ c. letter c == 71) s.head.listed ≡ true
 gps-alone s is = (and_parts (not s.head.doppler) (list_all (λ c. letter c == 71) s.head.listed) is).1
 
 not-shown : (b : Bool) → not b ≡ true → b ≡ false
@@ -257,7 +256,7 @@ module _ (order : GpsKeepsItsOrder) where
 
   conflict-same : (c : CellEntry) (o : Option CellEntry) → HasSatellite c → conflict signals (signal_of c) (option_map signal_of o) ≡ map name_of_gps (conflict gps c o)
   conflict-same c None h = refl
-  conflict-same c (Some x) h = conflict-if (equal_cells x.cell c.cell) (signals.signal (signal_of c)) (signals.signal (signal_of c)) (gps.signal c) (name-same c h)
+  conflict-same c (Some x) h = conflict-if (equal_values gps x c) (signals.signal (signal_of c)) (signals.signal (signal_of c)) (gps.signal c) (name-same c h)
 
   conflicts-same : (cs xs : List CellEntry) → All HasSatellite cs → conflicts signals (map signal_of cs) (map signal_of xs) ≡ map name_of_gps (conflicts gps cs xs)
   conflicts-same [] xs h = refl

@@ -67,7 +67,7 @@ one-in-time s link e m before None valid fresh none =
     let class : class_of signals (cells_by s) s.window (At (Some e) m) before ≡ TakenClass =
     ap (λ (b : Bool). if b then LateClass else class_in_time signals (cells_by s) s.window (At (Some e) m) before) fresh ∙ ap (class_of_cells signals (cells_by s m)) none in
     inr (ap (λ (c : Class). class_lines link (number_of m) (Some e) c (conflicts_of signals (cells_by s) s.window (At (Some e) m) before)) class
-    ∙ ap (cell_lines link (number_of m) (Some e)) (ap (conflicts_with signals (cells_by s m)) none ∙ signals-open (lists_system s.head.listed Sbas) (channels_of s.head.glonass) m valid))
+    ∙ ap (cell_lines link (number_of m) (Some e)) (ap (conflicts_with signals (cells_by s m)) none ∙ signals-open (lists_system s.head.listed Sbas) s.head.doppler (channels_of s.head.glonass) m valid))
 one-in-time s link e m before (Some b) valid fresh held = stays s link (At (Some e) m) before (held-length signals (cells_by s) s.window e m b before held)
 
 one-text : (s : SetupView) (link : ℕ) (a : Arrival) (before : List Arrival) → IsValid (message_of a) → One s link a before

@@ -19,7 +19,7 @@ use Rattle.rtk_systems.specs.NamelessLines.{nameless_lines}
 
 -- formula
 -- so many messages of a number that can't be read, behind words that name the fault
-abbrev pub refused_number_line : List ℕ → List ℕ → ℕ → ℕ → List ℕ
+unfoldable pub refused_number_line : List ℕ → List ℕ → ℕ → ℕ → List ℕ
 refused_number_line words name number count = words ++ decimal number ++ codes " " ++ decimal count ++ name_line (codes " in ") name
 
 abbrev pub refused_among : List ℕ → List ℕ → BTreeMap ℕ ℕ → List ℕ
@@ -31,7 +31,7 @@ abbrev pub numberless_line : ℕ → List ℕ → List ℕ
 numberless_line count name = if count == 0 then [] else codes " refused M1 - " ++ decimal count ++ name_line (codes " in ") name
 
 -- so many MSM of a number that tell no day, if MSM of this number are taken
-abbrev pub dayless_line : Accepted → List ℕ → ℕ → ℕ → List ℕ
+unfoldable pub dayless_line : Accepted → List ℕ → ℕ → ℕ → List ℕ
 dayless_line taken name number count = if accepts taken number then refused_number_line (codes " refused M4 ") name number count else []
 
 abbrev pub dayless_among : Accepted → List ℕ → BTreeMap ℕ ℕ → List ℕ
@@ -43,7 +43,7 @@ dayless_lines taken name counts = if taken.obs1012 then [] else dayless_among ta
 
 -- table
 -- the frames of a capture that can't be read, by fault and number
-abbrev pub refused_lines : Accepted → List ℕ → Contents → List ℕ
+unfoldable pub refused_lines : Accepted → List ℕ → Contents → List ℕ
 refused_lines taken name c =
     numberless_line c.unread.no_number name ++ refused_among (codes " refused M3 ") name c.unread.short
     ++ refused_among (codes " refused M4 ") name c.unread.outside_week ++ dayless_lines taken name c.dayless

@@ -84,8 +84,8 @@ fn moment_told_or(near: GpsMs, told: Option<Told>) -> GpsMs
 }
 
 // The moment near which the clocks of a capture without epochs are dated.
-fn clock_near(way: ClockDating, capture: &StationCapture) -> GpsMs
-    ensures { result ≡ spec.clock_near way capture.now }
+fn clock_near(way: &ClockDating, capture: &StationCapture) -> GpsMs
+    ensures { result ≡ spec.clock_near way.now capture.now }
 {
     if way.is_given {
         way.near
@@ -106,7 +106,7 @@ fn clock_lead(clock: FollowedClock, seconds: u8) -> u64
 }
 
 // Moments with their dates, if the one that is undated has this date.
-fn placed_clock_span(lead: u64, first: u64, undated: GpsMs, span: &Span) -> Placed
+fn placed_clock_span(lead: u64, first: u64, undated: u64, span: &Span) -> Placed
     requires lead { lead < 2 ^ 20 }
     requires first { first < 2 ^ 61 }
     ensures { result ≡ spec.placed_clock_span lead first undated span.now }
@@ -114,23 +114,23 @@ fn placed_clock_span(lead: u64, first: u64, undated: GpsMs, span: &Span) -> Plac
     let until = if span.is_wide {
         LAST_MS + 1
     } else {
-        (first + lead + span.greatest.ms()).saturating_sub(undated.ms())
+        (first + lead + span.greatest.ms()).saturating_sub(undated)
     };
     Placed {
         first,
-        from: (first + lead + span.least.ms()).saturating_sub(undated.ms()),
+        from: (first + lead + span.least.ms()).saturating_sub(undated),
         until,
     }
 }
 
 fn placed_by_epochs(
-    way: ClockDating,
+    way: &ClockDating,
     clock: FollowedClock,
     epochs: &Span,
     placed: &Placed,
     known: &ClockSpan,
 ) -> Placed
-    ensures { result ≡ spec.placed_by_epochs way clock epochs.now placed.now known.now }
+    ensures { result ≡ spec.placed_by_epochs way.now clock epochs.now placed.now known.now }
 {
     let opened = known.opened();
     let anchored = opened.anchored(clock, epochs);
@@ -138,30 +138,30 @@ fn placed_by_epochs(
     placed_clock_span(
         lead,
         placed.first.min(LAST_MS),
-        epochs.first,
+        epochs.first.ms(),
         &anchored.span,
     )
 }
 
-fn placed_alone(way: ClockDating, clock: FollowedClock, near: GpsMs, known: &ClockSpan) -> Placed
-    ensures { result ≡ spec.placed_alone way clock near known.now }
+fn placed_alone(way: &ClockDating, clock: FollowedClock, near: GpsMs, known: &ClockSpan) -> Placed
+    ensures { result ≡ spec.placed_alone way.now clock near known.now }
 {
     let opened = known.opened();
-    let undated = opened.span.first;
-    let first = clock_moment(clock, near, (undated.ms() % WEEK_MS) as u32);
+    let undated = opened.span.first.ms();
+    let first = clock_moment(clock, near, (undated % WEEK_MS) as u32);
     let lead = clock_lead(clock, way.seconds);
     placed_clock_span(lead, first, undated, &opened.span)
 }
 
 fn placed_clock(
-    way: ClockDating,
+    way: &ClockDating,
     clock: FollowedClock,
     near: GpsMs,
     epochs: &Option<Span>,
     placed: &Option<Placed>,
     known: &ClockSpan,
 ) -> Placed
-    ensures { result ≡ spec.placed_clock way clock near epochs.now placed.now known.now }
+    ensures { result ≡ spec.placed_clock way.now clock near epochs.now placed.now known.now }
 {
     match epochs {
         Some(epochs) => match placed {
@@ -173,13 +173,13 @@ fn placed_clock(
 }
 
 fn placed_if_followed(
-    way: ClockDating,
+    way: &ClockDating,
     clock: FollowedClock,
     capture: &StationCapture,
     placed: &Option<Placed>,
     known: &Option<ClockSpan>,
 ) -> Option<Placed>
-    ensures { result ≡ spec.placed_if_followed way clock capture.now placed.now known.now }
+    ensures { result ≡ spec.placed_if_followed way.now clock capture.now placed.now known.now }
 {
     match known {
         Some(known) => Some(placed_clock(
@@ -197,12 +197,12 @@ fn placed_if_followed(
 /// The first and the last moment of a clock in a capture whose epochs are dated so; `None` if it has no message of the
 /// clock with a value.
 pub(crate) fn clock_placed(
-    way: ClockDating,
+    way: &ClockDating,
     clock: FollowedClock,
     survey: &CaptureSurvey,
     placed: &Option<Placed>,
 ) -> Option<Placed>
-    ensures { result ≡ spec.clock_placed way clock survey.now placed.now }
+    ensures { result ≡ spec.clock_placed way.now clock survey.now placed.now }
 {
     let capture = capture_of(way.station, survey);
     let clocks = clocks_in_survey(way.station, survey);
@@ -220,12 +220,12 @@ fn placed_if_taken(is_taken: bool, placed: Option<Placed>) -> Option<Placed>
 
 // The epochs of a capture, and the clocks of it that are taken.
 fn placed_with_clocks(
-    way: ClockDating,
+    way: &ClockDating,
     taken: TakenClocks,
     survey: &CaptureSurvey,
     placed: &Option<Placed>,
 ) -> Option<Placed>
-    ensures { result ≡ spec.placed_with_clocks way taken survey.now placed.now }
+    ensures { result ≡ spec.placed_with_clocks way.now taken survey.now placed.now }
 {
     let glonass = clock_placed(way, FollowedClock::GlonassWeek, survey, placed);
     let beidou = clock_placed(way, FollowedClock::BeidouWeek, survey, placed);
@@ -245,12 +245,12 @@ fn placed_at(placed: &[Option<Placed>], at: usize) -> Option<Placed>
 
 fn all_with_clocks(
     alloc: Global,
-    way: ClockDating,
+    way: &ClockDating,
     taken: TakenClocks,
     placed: &[Option<Placed>],
     surveys: &[CaptureSurvey],
 ) -> Result<Vec<Option<Placed>>, AllocError>
-    ensures { IfOk result (λ all. all.items ≡ spec.all_with_clocks way taken placed.now 0 surveys.now) }
+    ensures { IfOk result (λ all. all.items ≡ spec.all_with_clocks way.now taken placed.now 0 surveys.now) }
 {
     let mut all = Vec::new(alloc);
     for (at, survey) in surveys.iter().enumerate() {
@@ -289,14 +289,14 @@ pub(crate) fn clocks_taken(setup: &Setup) -> TakenClocks
 fn demand_near(
     alloc: Global,
     captured: &StationCaptures<'_, '_, '_>,
-    way: ClockDating,
+    way: &ClockDating,
     taken: TakenClocks,
     near: GpsMs,
     placed: &[Option<Placed>],
 ) -> Result<(), PlanFault>
-    ensures near { OnOk result (spec.has_far_clock way taken near placed.now captured.now.all.surveys.now ≡ false) }
+    ensures near { OnOk result (spec.has_far_clock way.now taken near placed.now captured.now.all.surveys.now ≡ false) }
     ensures refused { IfErr result (IfRefused (λ refusal. (refusal ≡ Refusal.TooLong)
-        × (spec.has_far_clock way taken near placed.now captured.now.all.surveys.now ≡ true))) }
+        × (spec.has_far_clock way.now taken near placed.now captured.now.all.surveys.now ≡ true))) }
 {
     let all = all_with_clocks(alloc, way, taken, placed, captured.all.surveys)?;
     if is_one_far(near, all.as_slice()) {
@@ -334,7 +334,7 @@ pub(crate) fn demand_near_clocks(
     demand_near(
         alloc,
         captured,
-        way,
+        &way,
         taken,
         setup.near(),
         dating.placed.as_slice(),

@@ -22,6 +22,7 @@ use std::alloc::AllocError;
 use std::collections::BTreeMap;
 
 // Appends the line of so many messages of a number that can't be read, with words that name the fault.
+#[tactic(auto, unfolding(crate::specs::LeftOut::refused_number_line))]
 fn put_refused(
     lines: &mut Vec<u8>,
     words: &[u8],
@@ -64,6 +65,7 @@ fn put_numberless(lines: &mut Vec<u8>, count: u64, name: &str) -> Result<(), All
 }
 
 // Appends the line of so many MSM of a number that tell no day, if MSM of this number are taken.
+#[tactic(auto, unfolding(crate::specs::LeftOut::dayless_line))]
 fn put_dayless_numbered(
     lines: &mut Vec<u8>,
     taken: Accepted,
@@ -110,6 +112,7 @@ fn put_dayless(
 }
 
 // Appends the lines of a capture, by its faults.
+#[tactic(auto, unfolding(crate::specs::LeftOut::refused_lines))]
 fn put_refused_of(
     lines: &mut Vec<u8>,
     taken: Accepted,

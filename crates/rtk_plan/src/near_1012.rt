@@ -49,12 +49,12 @@ fn ends_with_placed(ends: Ends, placed: Option<Placed>) -> Ends
 
 // Those of the 1012 of a capture too.
 fn ends_with_capture(
-    way: ClockDating,
+    way: &ClockDating,
     ends: Ends,
     survey: &CaptureSurvey,
     placed: Option<Placed>,
 ) -> Ends
-    ensures { result ≡ spec.ends_with_capture way ends survey.now placed }
+    ensures { result ≡ spec.ends_with_capture way.now ends survey.now placed }
 {
     let times = clock_placed(way, FollowedClock::GlonassDay, survey, &placed);
     ends_with_placed(ends, times)
@@ -62,12 +62,12 @@ fn ends_with_capture(
 
 // Those of captures that are placed so.
 fn ends_after(
-    way: ClockDating,
+    way: &ClockDating,
     first: Ends,
     surveys: &[CaptureSurvey],
     placed: &[Option<Placed>],
 ) -> Ends
-    ensures { result ≡ spec.ends_after way first surveys.now placed.now }
+    ensures { result ≡ spec.ends_after way.now first surveys.now placed.now }
 {
     let mut ends = first;
     let count = surveys.len().min(placed.len());
@@ -174,11 +174,11 @@ fn near_in_reach(
 
 fn near_with(
     captured: &StationCaptures<'_, '_, '_>,
-    way: ClockDating,
+    way: &ClockDating,
     placed: &[Option<Placed>],
     span: &DatedSpan,
 ) -> Option<Reference>
-    ensures { result ≡ near_with_1012 captured.now.all.surveys.now way captured.now.captures.now placed.now span.now.from span.now.until }
+    ensures { result ≡ near_with_1012 captured.now.all.surveys.now way.now captured.now.captures.now placed.now span.now.from span.now.until }
 {
     let first = Ends {
         from: span.from.ms(),
@@ -207,5 +207,5 @@ pub(crate) fn near_of_1012(
         is_given: given.is_some(),
         near: dating.near,
     };
-    near_with(captured, way, dating.placed.as_slice(), &dating.span)
+    near_with(captured, &way, dating.placed.as_slice(), &dating.span)
 }

@@ -37,7 +37,7 @@ left-preserved g c =
 pub close-requires : goal.close-requires
 close-requires g c =
     let f = set_of g.E.FileEntry.signal_of in
-    (search rules, c.requires.shows, last-above c.left.closed_epochs (map f c.next_left.new.self.sets) (f c.in-Some.set) (map f c.left.left.sets) (ap (map f) c.in-Some.ensures.next ∙ map-append f _ _) c.left.invariant.above)
+    (search rules, (c.requires.shows, last-above c.left.closed_epochs (map f c.next_left.new.self.sets) (f c.in-Some.set) (map f c.left.left.sets) (ap (map f) c.in-Some.ensures.next ∙ map-append f _ _) c.left.invariant.above))
 
 pub left-init : goal.left-init
 left-init g c = record {

@@ -1,4 +1,5 @@
-use Rattle.std.proofs.Common.{◌≡◌, ◌∙◌, ℕ, ℤ, ap, subst}
+use Rattle.std.proofs.Common.{◌≡◌, ◌∙◌, ℕ, ℤ, to_z, of_z, w32, ap, subst, arith}
+use Rattle.std.proofs.lemmas.Int.{ints}
 use Rattle.rtk_obs.specs.declared.cell.Cell.{Cell}
 use Rattle.rtk_obs.specs.AnyCode.{place_of}
 use Rattle.rtk_obs.specs.Rollover.{digits_since}
@@ -15,9 +16,10 @@ returns g c =
     let codes = c.args.form.now.codes.now in
     let last = track_at (g.E.FileEntry.places c.args.phases.now) e.satellite e.code in
     let cell = c.cell.ensures ∙ c.cells_are_signals.ensures.values c.args.entry.now in
+    let passed : to_z w32 (of_z w32 c.doppler.result) ≡ c.doppler.result = omega (arith, ints) in
     let shift = c.doppler.ensures ∙ c.cells_are_signals.ensures.shifts c.args.entry.now in
     let shown : c.observed-shown.result ≡ observed_with e (digits_since (rolling_frequency e.code) last (epoch_cell c.args.form.now.epoch e.cell)) =
-    c.observed-shown.ensures ∙ ap (λ (x : Cell). observed_by x c.doppler.result c.step-digits.result) cell ∙ ap (λ (d : ℤ). observed_by e.cell d c.step-digits.result) shift
+    c.observed-shown.ensures ∙ ap (λ (d : ℤ). observed_by c.cell.result.now d c.step-digits.result) passed ∙ ap (λ (x : Cell). observed_by x c.doppler.result c.step-digits.result) cell ∙ ap (λ (d : ℤ). observed_by e.cell d c.step-digits.result) shift
     ∙ ap (observed_with e) c.step-digits.ensures.digits in
     record {
       track = c.step-digits.ensures.same;

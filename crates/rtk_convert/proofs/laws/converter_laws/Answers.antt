@@ -8,6 +8,6 @@ returns c = record {
   refused = link-decides-refusal;
   newest = link-holds-newest;
   found = waiting-decides-frames;
-  call = held-decides-call (λ (s : SetupView). c.signal_window_laws.ensures.greatest (lists_system s.head.listed Sbas) (channels_of s.head.glonass)) c.stations_are_final.ensures.excused;
-  end = held-decides-end (λ (s : SetupView). c.signal_window_laws.ensures.greatest (lists_system s.head.listed Sbas) (channels_of s.head.glonass)) c.stations_are_final.ensures.excused;
+  call = held-decides-call (λ (s : SetupView). c.signal_window_laws.ensures.greatest (lists_system s.head.listed Sbas) s.head.doppler (channels_of s.head.glonass)) c.stations_are_final.ensures.excused;
+  end = held-decides-end (λ (s : SetupView). c.signal_window_laws.ensures.greatest (lists_system s.head.listed Sbas) s.head.doppler (channels_of s.head.glonass)) c.stations_are_final.ensures.excused;
 }

@@ -1,9 +1,11 @@
 use Rattle.std.proofs.Common.{◌++◌, ℕ, List, ap, ◌∙◌, codes, decimal}
 use Rattle.rtk_captures.specs.Lists.{name_line}
+use Rattle.rtk_plan.specs.LeftOut.{refused_number_line}
 use Rattle.rtk_survey.proofs.PublicLaws.{five-parts}
 use Rattle.rtk_plan.proofs.left_out.put_refused.Goals as goal
 
 pub returns : goal.returns
+unfolding refused_number_line
 returns c =
     let old : List ℕ = c.args.lines.now.items in
     let words : List ℕ = c.args.words.now in

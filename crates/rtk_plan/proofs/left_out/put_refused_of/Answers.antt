@@ -1,9 +1,10 @@
 use Rattle.std.proofs.Common.{◌++◌, ℕ, List, ap, ◌∙◌, codes}
-use Rattle.rtk_plan.specs.LeftOut.{numberless_line, refused_among, dayless_lines}
+use Rattle.rtk_plan.specs.LeftOut.{numberless_line, refused_among, dayless_lines, refused_lines}
 use Rattle.rtk_survey.proofs.PublicLaws.{five-parts}
 use Rattle.rtk_plan.proofs.left_out.put_refused_of.Goals as goal
 
 pub returns : goal.returns
+unfolding refused_lines
 returns c =
     let name : List ℕ = c.args.name.now in
     let unread = c.args.contents.now.unread in

@@ -1,4 +1,4 @@
-use Rattle.std.proofs.Common.{ℕ, Bool, true, List, refl, sym, ap, subst, ◌∙◌}
+use Rattle.std.proofs.Common.{rules, ℕ, Bool, true, List, refl, sym, ap, subst, ◌∙◌}
 use Rattle.std.proofs.lemmas.Result.{err_from_is_err_and}
 use Rattle.rtk_frame.specs.Stream.{with_more, TakesPart}
 use Rattle.rtk_obs.specs.declared.any_code.AnyCode.{AnyCode}
@@ -12,13 +12,18 @@ use Rattle.rtk_convert.specs.File.{record_of}
 use Rattle.rtk_convert.specs.LastPhases.{HasLastPhases}
 use Rattle.rtk_convert.specs.Rows.{table_of}
 use Rattle.rtk_convert.specs.Steps.ClosedText.{is_any}
+use Rattle.rtk_convert.specs.Steps.ShownCells.{AllBelow}
 use Rattle.rtk_convert.specs.ClosedEpochs.{ClosedEpochsView, HasClosed}
 use Rattle.rtk_convert.proofs.RecordsLemmas.{closing-is, follows-no, follows-yes}
 use Rattle.rtk_convert.proofs.WritingLemmas.{takes-none}
 use Rattle.rtk_convert.proofs.closed_epochs.ClosedEpochs.close.Goals as goal
 
-pub push_rows-requires-clause-shows : goal.push_rows-requires-clause-shows
-push_rows-requires-clause-shows g c = subst g.E.Lines.RowLines.CanShow (sym c.has_doppler-doppler.ensures) c.requires.shows
+pub push_rows-requires : goal.push_rows-requires
+push_rows-requires g c =
+    let epoch = c.args.set.now.epoch in
+    let above = subst (λ (x : ClosedEpochsView). AllBelow x.tracks epoch) (sym c.self.view_is) c.requires.above in
+    let below = subst (λ (p : _). AllBelow (g.E.FileEntry.places p) epoch) (sym c.deref_mut.ensures.value) above in
+    (search rules, (c.codes-listed.ensures.good, (subst g.E.Lines.RowLines.CanShow (sym c.has_doppler-doppler.ensures) c.requires.shows, below)))
 
 pub returns-then-not-has_record-clause-closes : goal.returns-then-not-has_record-clause-closes
 returns-then-not-has_record-clause-closes g c = record {

@@ -13,8 +13,10 @@ finish-requires g c = (
     omega arith,
     (
       shows-none c.args.setup.now (subst (AreEpochsOf c.args.setup.now) c.in-Gps.is c.requires.form),
-      subst (λ (e : AnyEpochs). (epochs_in e).collector.places ≡ c.args.setup.now.window) c.in-Gps.is c.requires.places,
-      subst (λ (e : AnyEpochs). IsAhead (epochs_in e).collector (epochs_in e).closed) c.in-Gps.is c.requires.ahead,
+      (
+        subst (λ (e : AnyEpochs). (epochs_in e).collector.places ≡ c.args.setup.now.window) c.in-Gps.is c.requires.places,
+        subst (λ (e : AnyEpochs). IsAhead (epochs_in e).collector (epochs_in e).closed) c.in-Gps.is c.requires.ahead,
+      ),
     ),
   ),
 )
@@ -29,8 +31,10 @@ finish-requires-in-Any g c = (
     omega arith,
     (
       tt,
-      subst (λ (e : AnyEpochs). (epochs_in e).collector.places ≡ c.args.setup.now.window) c.in-Any.is c.requires.places,
-      subst (λ (e : AnyEpochs). IsAhead (epochs_in e).collector (epochs_in e).closed) c.in-Any.is c.requires.ahead,
+      (
+        subst (λ (e : AnyEpochs). (epochs_in e).collector.places ≡ c.args.setup.now.window) c.in-Any.is c.requires.places,
+        subst (λ (e : AnyEpochs). IsAhead (epochs_in e).collector (epochs_in e).closed) c.in-Any.is c.requires.ahead,
+      ),
     ),
   ),
 )

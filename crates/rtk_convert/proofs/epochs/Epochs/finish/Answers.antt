@@ -19,7 +19,7 @@ pub close_remaining-requires : goal.close_remaining-requires
 close_remaining-requires g c =
     let f = set_of g.E.FileEntry.signal_of in
     let ahead = subst (λ (x : EpochsView). IsAhead x.collector x.closed) (sym c.self.view_is) c.requires.ahead in
-    (search rules, c.requires.shows, subst (λ (xs : List (EpochSetView SignalEntry)). AllAbove c.self.inside.closed xs) (sym (ap (map f) c.close-left.ensures.sets)) (ahead-all _ c.self.inside.closed ahead))
+    (search rules, (c.requires.shows, subst (λ (xs : List (EpochSetView SignalEntry)). AllAbove c.self.inside.closed xs) (sym (ap (map f) c.close-left.ensures.sets)) (ahead-all _ c.self.inside.closed ahead)))
 
 pub returns-in_err-close_remaining-clause-ends : goal.returns-in_err-close_remaining-clause-ends
 returns-in_err-close_remaining-clause-ends g c =

@@ -27,7 +27,7 @@ pub close-requires : goal.close-requires
 close-requires g c =
     let f = set_of g.E.FileEntry.signal_of in
     let some : closed_by (outcome_of g.E.FileEntry.signal_of c.args.offer) ≡ Some (f c.in-Some.set) = sym c.closed_by.ensures ∙ ap (option_map f) c.in-Some.is in
-    (search rules, c.requires.shows, subst (λ (x : Option (EpochSetView SignalEntry)). ClosesAbove c.self.inside.closed x) some (subst (λ (x : _). ClosesAbove x.closed (closed_by (outcome_of g.E.FileEntry.signal_of c.args.offer))) (sym c.self.view_is) c.requires.above))
+    (search rules, (c.requires.shows, subst (λ (x : Option (EpochSetView SignalEntry)). ClosesAbove c.self.inside.closed x) some (subst (λ (x : _). ClosesAbove x.closed (closed_by (outcome_of g.E.FileEntry.signal_of c.args.offer))) (sym c.self.view_is) c.requires.above)))
 
 pub returns-in_err-close-clause-writes : goal.returns-in_err-close-clause-writes
 returns-in_err-close-clause-writes g c =
