@@ -75,6 +75,10 @@ done 3<<'ROWS'
 3|last_week one|the captures tell dates that differ; choose one by --near\n 2024-05-10T12:00:02 by 1019 in last_week\n 2024-05-17T12:00:00 by 1013 of station 2003 in one
 3|one half_week|the captures are longer than half a week; convert them in parts\n 2024-05-21T00:00:00 until 2024-05-21T00:00:00 in half_week: 1 epochs\n 2024-05-17T12:00:00 until 2024-05-17T12:00:01 in one: 2 epochs
 3|one over_half_week|the captures tell dates that differ; choose one by --near\n 2024-05-17T12:00:00 by 1013 of station 2003 in one\n 2024-05-21T00:00:01 by 1019 in over_half_week
+3|glonass_4_days one|the captures are longer than half a week; convert them in parts\n 2024-05-21T12:00:00 until 2024-05-21T12:00:01 in glonass_4_days: 0 epochs\n 2024-05-17T12:00:00 until 2024-05-17T12:00:01 in one: 2 epochs
+3|beidou_4_days one|the captures are longer than half a week; convert them in parts\n 2024-05-21T12:00:00 until 2024-05-21T12:00:00 in beidou_4_days: 0 epochs\n 2024-05-17T12:00:00 until 2024-05-17T12:00:01 in one: 2 epochs
+3|glonass_before|the captures are longer than half a week; convert them in parts\n 2024-05-13T12:00:00 until 2024-05-17T12:00:00 in glonass_before: 1 epochs
+3|glonass_too_far|the captures are longer than half a week; convert them in parts\n 2024-05-17T12:00:00 until 2024-05-21T00:00:00 in glonass_too_far: 2 epochs
 3|undated|the captures tell no date; give one, as in --near GPS-TIME-WITHIN-HALF-A-WEEK
 3|passed_over|the captures tell no date; give one, as in --near GPS-TIME-WITHIN-HALF-A-WEEK\n 2024-07-09T12:00:00 by 1013 of station 2003 in passed_over: it is after the time of making
 3|beidou_to_come|the captures tell no date; give one, as in --near GPS-TIME-WITHIN-HALF-A-WEEK\n 2024-06-02T00:00:00 by 1042 in beidou_to_come: it is after the time of making
@@ -378,6 +382,25 @@ finds 'two_places undated' "$noon until $noon by 1013" "cat two_places undated |
 finds '--near 2024-05-24T12:00:00 dated_place undated' "2024-05-24T12:00:00 until 2024-05-24T12:00:00 by --near" "cat dated_place undated | $(command 2024-05-24T12:00:00) stdin" '3 1 0 0 2 0 0 0 1' 0 '' \
     ' other-date 2024-05-17T12:00:00 by 1013 of station 2003 in dated_place\n no-epoch dated_place'
 position=$no_position
+# GLONASS without epochs is dated near the others, or near the date that the capture names; a gap of more than half a week is not
+# seen, but what follows it seems to come before.
+of_glonass=" unchecked R\n no-channel R03: give --channels, as a header's GLONASS SLOT / FRQ # of the same days has them\n"
+glonass_command="$(command $noon 1C,2W,R1C) --channels none"
+# pins: undated_clock_line, has_taken_clock, tells_no_date
+finds 'glonass one' "$two 1013" "cat glonass one | $glonass_command stdin" '5 1 0 0 4 0 0 0 2' 0 '' \
+    " undated glonass: dated near the others\n$of_glonass no-epoch glonass"
+finds '--near 2024-05-17T12:00:00 glonass one' "$two --near" "cat glonass one | $glonass_command stdin" '5 1 0 0 4 0 0 0 2' 0 '' "$of_glonass no-epoch glonass"
+finds 'glonass_2_days one' "$noon until 2024-05-19T12:00:00 by 1013" "cat glonass_2_days one | $glonass_command stdin" '5 2 0 0 3 0 0 0 3' 0 '' \
+    " gap 2024-05-17T12:00:01 until 2024-05-19T12:00:00\n$of_glonass no-epoch glonass_2_days"
+finds '--near 2024-05-17T12:00:00 glonass_4_days one' "2024-05-14T12:00:00 until 2024-05-17T12:00:01 by --near" "cat glonass_4_days one | $glonass_command stdin" '6 2 0 0 4 0 0 0 4' 0 '' \
+    " gap 2024-05-14T12:00:01 until 2024-05-17T12:00:00\n other-date 2024-05-24T12:00:00 by 1013 of station 2003 in glonass_4_days\n$of_glonass no-epoch glonass_4_days"
+finds '--systems G glonass_4_days one' "$two 1013" "cat glonass_4_days one | $one_command stdin" '6 4 0 0 2 0 0 0 2' 0 '' \
+    ' other-date 2024-05-24T12:00:00 by 1013 of station 2003 in glonass_4_days\n no-epoch glonass_4_days\n not in the file: GLONASS 1084, 2 messages'
+finds glonass_on "$noon until 2024-05-20T23:59:59 by 1013" "$glonass_command glonass_on" '6 1 0 0 5 0 0 0 4' 0 '' \
+    " gap 2024-05-17T12:00:01 until 2024-05-19T12:00:00\n gap 2024-05-19T12:00:00 until 2024-05-20T23:59:59\n${of_glonass%\\n}"
+# pins: falling_clock_line, taken_clock_falls, clock_falls
+finds glonass_over_a_gap "2024-05-14T12:00:00 until 2024-05-17T12:00:01 by 1013" "$glonass_command glonass_over_a_gap" '5 1 0 0 4 0 0 0 3' 0 '' \
+    " gap 2024-05-14T12:00:00 until 2024-05-17T12:00:00\n time-falls glonass_over_a_gap\n${of_glonass%\\n}"
 # What was told last counts by its time, and not by the order of the captures or of their begins.
 # A text beside it, and how often a text changes within a capture, have a line.
 # pins: time_or_first, CaptureEquipment.moment_told, field_after, other_named_line, changes_line

@@ -6,15 +6,17 @@ from pathlib import Path
 sys.path.insert(0, str(Path(__file__).resolve().parents[1] / "model"))
 
 import model  # noqa: E402
-from clocks import UNKNOWN_DAY, glonass_clock  # noqa: E402
+from clocks import UNKNOWN_DAY, clock_of, glonass_clock  # noqa: E402
 from finding import EPHEMERIS, OTHER_EPHEMERIDES, TEXT  # noqa: E402
 from msm import message_of, payload_of_msm  # noqa: E402
+from systems import BEIDOU, GLONASS  # noqa: E402
 from station import STATION, capture, date, frame_of_row, legacy_of, msm_of, point  # noqa: E402
 from wire import WEEK_MS, frame_of  # noqa: E402
 
 DAY = 5 * 86_400  # 2024-05-17 in its week, in s
 SATELLITE = {"l1_range": 5_000_000, "modulus_ambiguity": 70, "l1_cnr": 180, "l2_code": 3, "l2_cnr": 140, "l1_lock": 5, "l2_lock": 5}
 MADE = model.moment("2024-06-01T13:00:00")
+SUNDAY = model.moment("2024-05-12T00:00:00")
 
 
 def epochs(*seconds, satellites=(5, 7), **fields):
@@ -55,6 +57,15 @@ def other_cells(number, tow, *cells, **satellite):
     """An MSM of another system than GPS, of these cells by satellite and signal."""
     rows = {bit: {"rough_ms": 70, **satellite} for bit, _ in cells}
     return frame_of(payload_of_msm(message_of({"number": number, "station": STATION, "tow": tow}, rows, {it: {"cnr": 40} for it in cells})))
+
+
+def without_epochs(system, number, *seconds):
+    """An MSM of GLONASS or BeiDou of each second of the week, with a cell of satellite 3."""
+    return b"".join(other_cells(number, clock_of(system, SUNDAY + 1000 * it), (3, 2)) for it in seconds)
+
+
+def glonass(*seconds):
+    return without_epochs(GLONASS, 1084, *seconds)
 
 
 def equipment(number, *fields, station=2003):
@@ -201,6 +212,15 @@ CAPTURES = {
     "gaps": date(43_200) + epochs(*(NOON + sum(range(70, 70 + it)) + it + more for it in range(13) for more in (0, 1)), NOON + 906 + 13 + 60),
     # an interval of 30 s: a step of ten intervals is no gap, one of eleven is
     "slow": date(43_200) + epochs(*(NOON + it for it in (0, 30, 60, 360, 690))),
+    # GLONASS and BeiDou without epochs: without a date, with one of two days and of four days later, and beside epochs
+    "glonass": glonass(NOON, NOON + 1),
+    "glonass_2_days": date(43_200, 60_449) + glonass(NOON + 172_800),
+    "glonass_4_days": date(43_200, 60_451) + glonass(NOON + 345_600, NOON + 345_601),
+    "beidou_4_days": date(43_200, 60_451) + without_epochs(BEIDOU, 1124, NOON + 345_600),
+    "glonass_before": date(43_200) + glonass(NOON - 345_600, NOON - 172_800, NOON) + epochs(NOON),
+    "glonass_on": ONE + glonass(*(NOON + it for it in (0, 172_800, 302_399))),
+    "glonass_too_far": ONE + glonass(*(NOON + it for it in (0, 172_800, 302_400))),
+    "glonass_over_a_gap": ONE + glonass(NOON, NOON + 345_600),
     "no_value": date(43_200) + capture(legacy_of(1000 * NOON, [])),
     **{f"here.{it}": date(43_200 + it) + place(x) + epochs(NOON + it, NOON + it + 9) for it, x in ((0, 0), (1, 1_000_000), (2, 1_000_001))},
     **{f"same.{it:02}": date(43_200) + epochs(NOON, NOON + 1, satellites=(it + 1,)) for it in range(17)},

@@ -420,7 +420,7 @@ R12_1012=3F400124210600818318EAEE800097221CA7FACFF289C97E
 G05_1004=3EC0017D8AAC0210141E848000000291AC08002000000000
 G05_3_S=3EC0017D8ADAE010141E848000000291AC08002000000000
 G05_A_DAY=3EC00101F20C0010141E848000000291AC08002000000000
-# pins: day_time, day_time_from, moment_in_day, first_moment_at, middle_up, middle_second, dates_ends
+# pins: followed_by, dated_in_day, clock_lead, placed_clock_span, middle_up, middle_second, dates_ends
 legacy with_1012 2020-01-25T02:16:02 '1C,R1C,R2P --window 4096 --channels 12:-1 --with-1012' $G05_1004 $R12_1012 $G05_3_S
 legacy with_1012_too_long 2020-01-25T02:16:00 '1C --window 4096' $G05_1004 $R12_1012 $G05_A_DAY
 # pins: long_line, unread_legacy_glonass
