@@ -1,4 +1,4 @@
-use Rattle.std.proofs.Common.{ℕ, List, ◌+◌, ◌*◌, ◌++◌, length, refl, ap, ◌∙◌}
+use Rattle.std.proofs.Common.{◌≡◌, ℕ, List, ◌+◌, ◌*◌, ◌++◌, length, refl, ap, ◌∙◌}
 use Rattle.rtk_chart.specs.MixedChart.{both_numbers}
 use Rattle.rtk_chart.specs.SvgPath.{tracked_counts}
 use Rattle.rtk_chart.specs.SvgPicture.{never_texts, lacked_before}
@@ -23,3 +23,6 @@ returns-clause-value c =
     (c.in_ok-lower.ensures ∙ ap (λ (x : List Strengths). columns_with x c.as_slice-5.result.now) c.as_slice-4.ensures.value
     ∙ ap (λ (x : List Strengths). columns_with old.lower.items x) c.as_slice-5.ensures.value)
     (c.in_ok-higher.ensures ∙ ap (λ (x : List Strengths). columns_with x c.args.upper.now) c.as_slice-6.ensures.value)
+
+pub returns-clause-bins : goal.returns-clause-bins
+returns-clause-bins c = c.in_ok-tracked.ensures.size ∙ ap (λ (x : List ℕ). length x) c.as_slice-2.ensures.value
