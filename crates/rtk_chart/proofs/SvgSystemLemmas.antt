@@ -29,7 +29,6 @@ use Rattle.rtk_chart.specs.declared.scale.Scale.{Scale}
 use Rattle.rtk_chart.specs.declared.spacing.Spacing.TheVariants.{Close}
 use Rattle.rtk_chart.specs.declared.strengths.Strengths.{Strengths}
 use Rattle.rtk_chart.specs.declared.time_bin.TimeBin.{TimeBin}
-use Rattle.rtk_chart.proofs.ListLemmas.{and-then}
 use Rattle.rtk_chart.proofs.MixedLemmas.{count-bare, gaps-bare}
 use Rattle.rtk_chart.proofs.ChartLemmas.{scale-is}
 
@@ -88,11 +87,11 @@ pub svg-some : (system : System) (first : Bool) (listed : List (List ℕ)) (name
     → w ≡ with_svg_grid system first listed names grid upper v
 svg-some system first listed names grid upper v w bands mid n h e d is some high one two three four all =
     let drawn : List ℕ = bands_text names Close listed grid.bins.items grid.outages.items in
-    let own : List ℕ = v.bands ++ (heading_if_first first system v.top ++ moved_bands (v.top + heading_height first) drawn) in
+    let front : List ℕ = v.bands ++ heading_if_first first system v.top in
+    let own : List ℕ = front ++ moved_bands (v.top + heading_height first) drawn in
     let end : ℕ = v.top + heading_height first + (band_top Close grid.bins.items (length listed) 32 - 140) in
     let are : bands ≡ own =
-    and-then v.bands mid bands (heading_if_first first system v.top) (moved_bands (v.top + h) drawn) one two
-    ∙ ap (λ (k : ℕ). v.bands ++ (heading_if_first first system v.top ++ moved_bands (v.top + k) drawn)) high in
+    two ∙ ap (λ (x : List ℕ). x ++ moved_bands (v.top + h) drawn) one ∙ ap (λ (k : ℕ). front ++ moved_bands (v.top + k) drawn) high in
     let low : v.top + h + d ≡ end =
     ap (λ (k : ℕ). v.top + k + d) high ∙ ap (λ (k : ℕ). v.top + heading_height first + k) (four ∙ ap (λ (k : ℕ). k - 140) three) in
     all ∙ ap (λ (b : List ℕ). with_svg_sums listed names grid upper (with_bands b (v.top + h + d) v)) are
