@@ -185,7 +185,8 @@ CAPTURES = {
     # messages of other systems, and one of GPS, that are not converted
     "with_others": ONE + b"".join(unread(it) for it in (1087, 1012, 1003, 1012)),
     # E36 in 1C, also beside the signal 1A, which no code names; and R09 of an unknown day, and of the Friday, 54,000 s in Moscow
-    "nameless": ONE + other_cells(1094, 1000 * NOON, (36, 2), (36, 3)) + other_cells(1094, 1000 * NOON + 1000, (36, 2)),
+    "nameless": date(43_200) + epochs(NOON) + other_cells(1094, 1000 * NOON, (36, 2), (36, 3))
+    + epochs(NOON + 1) + other_cells(1094, 1000 * NOON + 1000, (36, 2)),
     "no_day": ONE + b"".join(
         other_cells(1087, glonass_clock(day, 53_982_000 + 1000 * second), (9, 2), extended=5)
         for second, day in ((0, UNKNOWN_DAY), (1, 5))),
