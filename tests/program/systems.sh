@@ -368,6 +368,12 @@ finds kinds kinds.rnx '5X,E7Q --msm 7,E4 --window 4096 two_kinds.rtcm' '2 0 0 0 
 convert 5X --msm 7 two_kinds.rtcm; cp out gps_alone.rnx
 finds one_system gps_alone.rnx '5X --msm 7 --window 4096 two_kinds.rtcm' '2 1 0 0 1 0 0 0 1' \
     "$doppler not in the file: Galileo 1094, 1 messages\n" --systems G two_kinds.rtcm
+# A 1094: phases of E11, E12 and E13 in 1X, and of E11 alone in 5X.
+python3 "$here/framed.py" 446001714BE8000000001C000000000000040000807E8C8C8C320C832000A00160030006800E001E000FA0003E8000FA400000000FA400000AAAAAA05B6DB6DB68 >few.rtcm
+convert E1X,E5X few.rtcm; cp out few.rnx
+# pins: few_phases_line_if, has_few_phases
+finds few_phases few.rnx 'E1X,E5X --window 4096 few.rtcm' '1 0 0 0 1 0 0 0 1' \
+    ' unchecked E\n few-phases E5X: its satellites have more than twice as many in another code\n' few.rtcm
 # A message that tells no channel leaves the slot without one.
 R09_1C=43C001ACDECCC000000040000000000000200000005112C0961F6817CAF0
 python3 "$here/framed.py" $(more $G05_5X) $R09_1C >no_channel.rtcm
