@@ -183,6 +183,11 @@ same quality told want
 run quality --lines gps.rnx; grep '^doppler' out >told
 printf 'doppler 1C values 0\ndoppler 5X values 1\n' >want; same quality_of_gps told want
 run quality --lines plain.rnx; grep '^doppler' out >told; : >want; same quality_without_shifts told want
+# A picture shows no Doppler, so it is that of the file without it.
+for form in '' --text; do
+    run chart $form plain.rnx; cp out want; run chart $form seven.rnx; leaves "picture$form" 0 want /dev/null
+done
+run chart gps.rnx; sed -n "s/.*class='system'.*>\(.*\)<.*/\1/p" out >told; echo GPS >want; same picture_of_gps told want
 
 # compare: what is lost, changed, and explained.
 run compare seven.rnx seven.rnx

@@ -428,7 +428,7 @@ echo ' untaken GLONASS 1012 1: more than a day' >want; grep 1012 said >told; sam
 # So is one that is cut short. Nothing is said where 1012 are converted.
 legacy with_1012_cut_short 2020-01-25T02:16:00 '1C --window 4096' $G05_1004 "$(echo $R12_1012 | cut -c 1-16)"
 # pins: glonass_line_of
-echo ' not in the file: GLONASS 1012, 1 messages' >want; grep 1012 said >told; same auto_with_1012_cut_short told want
+printf '%s\n' ' not in the file: GLONASS 1012, 1 messages' ' refused M3 1012 1 in legacy.rtcm' >want; grep 1012 said >told; same auto_with_1012_cut_short told want
 # The channels that are told of slot 12: by 1012 -1, none or +10; by 1020 -2 or 3. Of two alike it is the lesser.
 told_slots() {
     name=$1 want=$2 options=$3

@@ -38,7 +38,7 @@ class Values(Case):
         head = b"".join(SESSION.splitlines(True)[:14])
         line = b"G05" + b" " * 16 + b"        -1.500 5" + b"        30.000  " + b"         0.001" + b"\n"
         rows = list(rtcm2rinex.observations(io.BytesIO(head + b"> 2024 05 17 12 00  0.0000000  0  1\n" + line)))
-        self.assertEqual([it[2:] for it in rows], [("1C", None, -1.5, 30.0, False, False), ("2W", 0.001, None, None, False, False)])
+        self.assertEqual([it[2:] for it in rows], [("1C", None, -1.5, 30.0, False, False, None), ("2W", 0.001, None, None, False, False, None)])
 
     def test_epochs(self) -> None:
         found = list(rtcm2rinex.epochs(EXAMPLES / "session.rnx"))

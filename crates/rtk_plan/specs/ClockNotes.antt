@@ -57,7 +57,7 @@ falling_clock_line taken takes_1012 c s name =
     if taken_clock_falls taken takes_1012 s && not (epochs_fall c.span) then name_line (codes " time-falls ") name else []
 
 -- both lines of a capture
-abbrev pub clock_notes : DateSource → TakenClocks → Bool → StationCapture → StationClocks → List ℕ → List ℕ
+unfoldable pub clock_notes : DateSource → TakenClocks → Bool → StationCapture → StationClocks → List ℕ → List ℕ
 clock_notes source taken takes_1012 c s name =
     undated_clock_line source taken takes_1012 c s name ++ falling_clock_line taken takes_1012 c s name
 

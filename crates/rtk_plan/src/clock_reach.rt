@@ -143,11 +143,17 @@ fn placed_by_epochs(
     )
 }
 
+fn first_ms(span: &Span) -> u64
+    ensures { result ≡ span.now.first }
+{
+    span.first.ms()
+}
+
 fn placed_alone(way: &ClockDating, clock: FollowedClock, near: GpsMs, known: &ClockSpan) -> Placed
     ensures { result ≡ spec.placed_alone way.now clock near known.now }
 {
     let opened = known.opened();
-    let undated = opened.span.first.ms();
+    let undated = first_ms(&opened.span);
     let first = clock_moment(clock, near, (undated % WEEK_MS) as u32);
     let lead = clock_lead(clock, way.seconds);
     placed_clock_span(lead, first, undated, &opened.span)

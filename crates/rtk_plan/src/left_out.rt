@@ -75,11 +75,11 @@ fn put_dayless_numbered(
 ) -> Result<(), AllocError>
     ensures { OnOk result (lines.new.items ≡ lines.old.items ++ spec.dayless_line taken name.now number count) }
 {
-    if taken.accepts(number) {
-        put_refused(lines, b" refused M4 ", number, count, name)
-    } else {
-        Ok(())
+    if !taken.accepts(number) {
+        return Ok(());
     }
+    put_refused(lines, b" refused M4 ", number, count, name)?;
+    Ok(())
 }
 
 fn put_dayless_among(

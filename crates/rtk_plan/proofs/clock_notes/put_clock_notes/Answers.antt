@@ -1,8 +1,9 @@
-use Rattle.rtk_plan.specs.ClockNotes.{undated_clock_line, falling_clock_line}
+use Rattle.rtk_plan.specs.ClockNotes.{undated_clock_line, falling_clock_line, clock_notes}
 use Rattle.rtk_survey.proofs.PublicLaws.{then-put}
 use Rattle.rtk_plan.proofs.clock_notes.put_clock_notes.Goals as goal
 
 pub returns : goal.returns
+unfolding clock_notes
 returns c =
     let taken = c.args.taken in
     let takes = c.args.takes_1012 in
