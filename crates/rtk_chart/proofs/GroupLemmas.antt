@@ -10,7 +10,7 @@ use Rattle.rtk_rinex.specs.MixedForm.{FormView}
 use Rattle.rtk_rinex.specs.MixedRecords.{MixedRecordsView, MixedRowsView, AreMixedLeft, AreRowsLeft, IsRecordOf, IsNextRecordOf, IsNextRowOf}
 use Rattle.rtk_rinex.specs.MixedTable.{IsMixedEpoch, IsMixedRow}
 use Rattle.rtk_rinex.specs.Record.{EpochTableView, IsSatelliteRow, IsStrengthOrNone}
-use Rattle.rtk_rinex.specs.Table.{IsObserved}
+use Rattle.rtk_rinex.specs.Table.{IsObservedIn}
 use Rattle.rtk_rinex.specs.declared.epoch_table.Observed.{Observed}
 use Rattle.rtk_rinex.specs.declared.epoch_table.SatelliteRow.{SatelliteRow}
 use Rattle.rtk_tracking.specs.Epochs.{epochs_onto, newest_first}
@@ -213,10 +213,15 @@ pub group-all : (choice : Choice) (g : Group) (e : EpochTableView) (rows : Mixed
 group-all choice g e rows own last so_far none =
     sym (append-nil own) ∙ ap (λ xs. own ++ filter_map (group_row choice g) xs) (sym (none so_far.left so_far.are_left)) ∙ so_far.are
 
+-- what a code shows has a strength of a message, with Doppler shifts or without them
+strength-of : (doppler : Bool) (o : Observed) → IsObservedIn doppler o → IsStrengthOrNone o.strength_millidbhz
+strength-of false o is = is.strength
+strength-of true o is = is.strength
+
 -- a row at a place of a grid
 pub placed-good : (f : FormView) (row : SatelliteRow) (place : ℕ) → IsMixedRow f row → IsInRange 1 32 place → IsSatelliteRow (record { satellite = place; observed = row.observed })
 placed-good f row place good range =
-    record { satellite = range; strengths = λ i d lt. (good.observed i d lt).strength }
+    record { satellite = range; strengths = λ i d lt. strength-of f.doppler (get_or row.observed.items i d) (good.observed i d lt) }
 
 -- ---- rows of chosen satellites
 

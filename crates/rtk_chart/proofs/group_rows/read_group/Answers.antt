@@ -2,8 +2,8 @@ use Rattle.std.proofs.Common.{◌≡◌, ◌++◌, ◌∷◌, [], ℕ, List, sym
 use Rattle.rtk_rinex.specs.declared.epoch_table.Observed.{Observed}
 use Rattle.rtk_rinex.specs.declared.epoch_table.SatelliteRow.{SatelliteRow}
 use Rattle.rtk_rinex.specs.MixedRecords.{AreRowsLeft, IsNextRowOf}
-use Rattle.rtk_rinex.specs.Record.{EpochTableView}
-use Rattle.rtk_chart.proofs.GroupLemmas.{group-more, group-past, group-not}
+use Rattle.rtk_rinex.specs.Record.{EpochTableView, IsSatelliteRow}
+use Rattle.rtk_chart.proofs.GroupLemmas.{group-more, group-past, group-not, placed-good}
 use Rattle.rtk_chart.proofs.group_rows.read_group.Goals as goal
 
 pub loop-satellite-preserved-in_default-group_place : goal.loop-satellite-preserved-in_default-group_place
@@ -44,3 +44,10 @@ loop-satellite-preserved c =
       group = group-more c.args.choice.now c.args.group c.args.read.now l.rows c.next_row.new.self l.own.rows c.push_row.new.self.rows row l.last place l.invariant.group next
           (sym c.in-Some-group_place.ensures.value) (omega (arith, c.if-place-last.false)) c.in-Some-group_place.ensures.inside.1 pushed;
     }
+
+pub push_row-requires-clause-good : goal.push_row-requires-clause-good
+push_row-requires-clause-good c =
+    let row : SatelliteRow = record { satellite = c.in-Some.satellite; observed = c.next_row.new.observed } in
+    let place : ℕ = c.in-Some-group_place.place in
+    subst (λ (xs : List Observed). IsSatelliteRow (record { satellite = place; observed = record { items = xs } })) (sym c.as_slice.ensures.value)
+    (placed-good c.loop-satellite.rows.form row place c.in-Some.ensures.row c.in-Some-group_place.ensures.inside)
