@@ -20,7 +20,7 @@ ends_with_placed e None = e
 ends_with_placed e (Some p) = ends_with_moment (ends_with_moment e p.from) p.until
 
 -- those of the 1012 of a capture too
-unfoldable pub ends_with_capture : ClockDating → Ends → CaptureSurvey → Option Placed → Ends
+abbrev pub ends_with_capture : ClockDating → Ends → CaptureSurvey → Option Placed → Ends
 ends_with_capture way e s p = ends_with_placed e (clock_placed way GlonassDay s p)
 
 -- those of captures of a station, which are placed so

@@ -48,7 +48,6 @@ fn ends_with_placed(ends: Ends, placed: Option<Placed>) -> Ends
 }
 
 // Those of the 1012 of a capture too.
-#[tactic(auto, unfolding(crate::specs::Near1012::ends_with_capture))]
 fn ends_with_capture(
     way: &ClockDating,
     ends: Ends,
