@@ -79,7 +79,7 @@ RECORD
 } >seven.rnx
 python3 "$here/framed.py" $G05_5X $R10_2P $E11_8X $C41_1P $J01_1X $S58_5I $I14_5A >seven.rtcm
 { printf 'other-channel -\nno-channel -\n'; report 7 0 0 0 7 0 0 0 1; } >seven.report
-# pins: header_of, head_at, cells_by, entries_with_doppler, observations_with_doppler
+# pins: header_of, head_at, cells_by, observations_with_doppler
 convert $seven_codes --msm 7 --channels 10:-5 --doppler seven.rtcm
 leaves seven_systems 0 seven.rnx seven.report
 # Without the option nothing of it is there.
@@ -112,7 +112,7 @@ refused() {
     name=$1 letter=$2
     shift 2
     convert "$@" --doppler nowhere
-    # pins: rates_line, lacks_rates, first_without_rates
+    # pins: rates_line, first_without_rates
     expect "without_rates_$name" 2 '' "rtcm2rinex: --doppler needs MSM5 or MSM7 of $letter"
 }
 refused of_one_system G 1C
@@ -145,7 +145,7 @@ $(report 7 0 0 0 7 0 0 0 1)
  from $near until $near by --near
  no-position: the header has zeros, as no 1005 or 1006 came in time, or the first one has zeros
 LINES
-# pins: words_of_doppler, doppler_lines_unless
+# pins: doppler_lines_unless
 leaves auto_of_seven_systems 0 seven.rnx want_err
 python3 "$here/framed.py" $(more $G05_5X) $E36_7Q >two_kinds.rtcm
 run auto --near $near --made $made --marker BASE --doppler two_kinds.rtcm
@@ -193,14 +193,12 @@ run chart gps.rnx; sed -n "s/.*class='system'.*>\(.*\)<.*/\1/p" out >told; echo 
 run compare seven.rnx seven.rnx
 expect same 0 'lost 0 changed 0 explained 0' ''
 run compare seven.rnx plain.rnx
-# pins: shifts_line
 expect all_shifts_lost 3 'lost 1 changed 0 explained 0
 lost doppler' ''
 run compare plain.rnx seven.rnx
 expect shifts_that_come 0 'lost 0 changed 0 explained 0' ''
 sed 's/1244.632/        /' seven.rnx >without.rnx
 run compare seven.rnx without.rnx
-# pins: shift_lines
 expect a_shift_lost 3 'lost 1 changed 0 explained 0
 lost doppler 2024-05-17 12:00:00.000 R10 2P' ''
 run compare without.rnx seven.rnx
