@@ -9,11 +9,11 @@ from typing import Iterable, NamedTuple, Optional
 import stages
 from chains import Date, Offsets, is_wrong, offset_lines, offsets_of, signed, told_offset, unchecked
 from channels import Slots, slots_of, told_by, told_by_orbits
-from clocks import LEAP_ROWS, leap_seconds_at
+from clocks import DAY_MS, LEAP_ROWS, glonass_parts, leap_seconds_at
 from msm import LEGACY, LEGACY_GLONASS, letter_of
 from systems import BY_LETTER, GLONASS, GPS, KINDS, LETTERS, SBAS, number_of
 from valued import NAMES, letter_of_name, names_in, shown_in
-from wire import Message
+from wire import WEEK_MS, Message
 
 DEFAULT_KIND = 4
 MOST_LEAP_SECONDS = 99
@@ -99,9 +99,17 @@ def numbers_of(kinds: dict[str, int], with_1012: bool) -> set[int]:
 # ---------------------------------------------------------------- kinds and codes
 
 
+def told_time(message: Message) -> int:
+    """The time of week that a clock tells. In GLONASS the unknown day is Sunday, and a leap second is the first one of the next day."""
+    if letter_of(message) != GLONASS.letter:
+        return message.header["tow"]
+    day, time_of_day = glonass_parts(message.header["tow"])
+    return (DAY_MS * day + time_of_day) % WEEK_MS
+
+
 def epochs_with_value(messages: Iterable[Message], number: int) -> int:
     """How many epochs of a number have a value, where its time changes."""
-    return len(list(groupby(it.header["tow"] for it in messages if it.header["number"] == number and names_in(it))))
+    return len(list(groupby(told_time(it) for it in messages if it.header["number"] == number and names_in(it))))
 
 
 def kind_of(links: list[list[Message]], letter: str) -> int | None:

@@ -10,7 +10,7 @@ from itertools import groupby
 
 from chains import TIMING, Date, clock_lines, is_wrong, offsets_of, week_lines
 from channels import LAST_CHANNEL, most_told, told_by
-from choosing import DEFAULT_KIND, has_value_of_1012, kind_of, names_shown, numbers_of, slots_shown
+from choosing import DEFAULT_KIND, has_value_of_1012, kind_of, names_shown, numbers_of, slots_shown, told_time
 from equipment import Told, equipment_lines, equipment_of
 from finding import FIRST_DAY, date_of
 from messages import CODES, Refusal, cells_of, frames_of
@@ -126,8 +126,8 @@ def station_lines(name: str, station: int, messages: list[Message], dated: list[
 
 
 def epoch_lines(others: list[Message]) -> list[str]:
-    """How many runs of messages of one clock there are, of those of each number that have a value."""
-    valued = [(it.header["number"], it.header["tow"]) for it in others if shown_in(it)]
+    """How many runs of messages of one time there are, of those of each number that have a value."""
+    valued = [(it.header["number"], told_time(it)) for it in others if shown_in(it)]
     clocks = {number: [clock for its, clock in valued if its == number] for number in sorted({LEGACY_GLONASS, *BESIDE_GPS})}
     return [f" epochs {number} {len(list(groupby(its)))}" for number, its in clocks.items() if its]
 
@@ -185,7 +185,8 @@ def command_words(messages: list[Message], near: int | None, times: list[int]) -
         return words
     told = told_by(messages)
     slots = sorted({*slots_shown(messages, numbers_of(kinds, with_1012), NAMES)})
-    channels = ",".join(f"{slot}:{most_told(told[slot])}" for slot in slots if slot in told) or "none"
+    found = {slot: most_told(told[slot]) for slot in slots if slot in told}
+    channels = ",".join(f"{slot}:{channel}" for slot, channel in found.items() if channel is not None) or "none"
     return f"{words} --channels {channels}{' --with-1012' * with_1012}"
 
 

@@ -373,7 +373,7 @@ python3 "$here/framed.py" 446001714BE8000000001C000000000000040000807E8C8C8C320C
 convert E1X,E5X few.rtcm; cp out few.rnx
 # pins: few_phases_line_if, has_few_phases
 finds few_phases few.rnx 'E1X,E5X --window 4096 few.rtcm' '1 0 0 0 1 0 0 0 1' \
-    ' unchecked E\n few-phases E5X: its satellites have more than twice as many in another code\n' few.rtcm
+    ' few-phases E5X: its satellites have more than twice as many in another code\n' few.rtcm
 # A message that tells no channel leaves the slot without one.
 R09_1C=43C001ACDECCC000000040000000000000200000005112C0961F6817CAF0
 python3 "$here/framed.py" $(more $G05_5X) $R09_1C >no_channel.rtcm
