@@ -1,4 +1,5 @@
-use Rattle.std.proofs.Common.{◌≡◌, ◌+◌, ◌<◌, ◌^◌, ◌∙◌, ℕ, List, ap, arith, bit_or, length, length-map, map, slice_range, subst, sym}
+use Rattle.std.proofs.Common.{◌≡◌, ◌+◌, ◌<◌, ◌^◌, ◌∙◌, ℕ, List, ap, arith, bit_or, length, map, slice_range, subst, sym}
+use Rattle.std.proofs.lemmas.List.{length-map}
 use Rattle.rtk_obs.specs.SignalCells.{IsSignalInRange}
 use Rattle.rtk_obs.specs.declared.signal_cells.SignalEntry.{SignalEntry}
 use Rattle.rtk_convert.specs.Steps.ShownCells.{IsSetOfCodes}

@@ -1,4 +1,4 @@
-use Rattle.std.proofs.Common.{◌≡◌, ◌<◌, ◌≤◌, ◌++◌, ◌∙◌, ℕ, List, absurd, ap, arith, map, not, slice_range, subst, sym}
+use Rattle.std.proofs.Common.{◌++◌, ◌∙◌, List, ap, arith, map, not, slice_range, subst, sym}
 use Rattle.std.proofs.lemmas.List.{append-nil}
 use Rattle.rtk_obs.specs.declared.signal_cells.SignalEntry.{SignalEntry}
 use Rattle.rtk_convert.specs.Steps.ShownCells.{IsSetOfCodes, MayStep, ShowsRow}

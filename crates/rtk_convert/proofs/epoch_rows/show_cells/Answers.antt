@@ -1,4 +1,4 @@
-use Rattle.std.proofs.Common.{◌≡◌, ◌^◌, ◌∙◌, ℕ, ap, bit_and, map, refl, sym, subst}
+use Rattle.std.proofs.Common.{◌≡◌, ◌^◌, ◌∙◌, ℕ, ap, bit_and, refl, sym, subst}
 use Rattle.rtk_obs.specs.AnyCode.{place_of}
 use Rattle.rtk_obs.specs.declared.signal_cells.SignalEntry.{SignalEntry}
 use Rattle.rtk_convert.proofs.CellOrderLemmas.{place-after}
