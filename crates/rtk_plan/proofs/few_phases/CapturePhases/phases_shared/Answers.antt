@@ -21,9 +21,8 @@ loop-bit-preserved c =
           let has : ℕ → Bool = λ k. (code_count own.surveys.now own.station own.from k code).has_value in
           let f : ℕ → ℕ = phases_of own.surveys.now own.station own.from code c.args.other in
           let had = c.loop-bit.invariant.1 code marked in
-          let one : c.marked_phases.result ≡ f bit =
-          c.marked_phases.ensures
-          ∙ ap (λ (b : Bool). phases_if b (code_count own.surveys.now own.station own.from bit c.args.other).phases) (mark-at has c.args.marks.now 64 bit c.from.result _ c.from.ensures within marked) in
+          let is = mark-at has c.args.marks.now 64 bit c.from.result _ c.from.ensures within marked in
+          let one : c.marked_phases.result ≡ f bit = c.marked_phases.ensures ∙ ap (λ (b : Bool). phases_if b (code_count own.surveys.now own.station own.from bit c.args.other).phases) is in
           let more = sum-more f 1 n bit ((bit + 1) - 1) at next in
           omega (arith, had, one, same, more),
     )
