@@ -38,7 +38,7 @@ pub(crate) fn take_message(
     let station = stations
         .entry(message.station())?
         .or_insert_with(|| StationSurvey::new(alloc));
-    station.take_message(alloc, message, entries, codes, signals)
+    station.take_message(message, entries, codes, signals)
 }
 
 /// A 1013 or a 1029 more.
