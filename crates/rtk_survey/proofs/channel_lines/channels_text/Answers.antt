@@ -8,6 +8,9 @@ use Rattle.rtk_survey.proofs.ChannelLineLemmas.{channel-named, channel-passed}
 use Rattle.rtk_survey.proofs.channel_lines.channels_text.Goals.{then-is_counted+in_ok-push+in_ok-put_told_channel, else-is_counted}
 use Rattle.rtk_survey.proofs.channel_lines.channels_text.Goals as goal
 
+pub loop-place-init : goal.loop-place-init
+loop-place-init c = ap (λ (t : List ℕ). t ++ joined_channels 32 (filter (place_is_counted c.args.counts.now) (range_with_len 21 567))) c.new-text.ensures.items
+
 pub loop-place-preserved : goal.loop-place-preserved
 loop-place-preserved c =
     let told : ℕ → Bool = place_is_counted c.args.counts.now in
