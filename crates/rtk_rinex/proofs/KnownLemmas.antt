@@ -142,17 +142,17 @@ has-pair : (n : ℕ) → n < 100 → HasPair n
 has-pair n h =
     elim (leb_tells 10 n) [
       | inl two ↦ record {
-          tens = 48 + n / 10;
-          units = 48 + n % 10;
-          text = rw (decimal-pair n two.1 h) refl;
-          value = omega (arith, h);
-        }
+        tens = 48 + n / 10;
+        units = 48 + n % 10;
+        text = rw (decimal-pair n two.1 h) refl;
+        value = omega (arith, h);
+      }
       | inr one ↦ record {
-          tens = 32;
-          units = 48 + n;
-          text = rw (decimal_digit n (omega (arith, one.1))) refl;
-          value = omega (arith, one.1);
-        }
+        tens = 32;
+        units = 48 + n;
+        text = rw (decimal_digit n (omega (arith, one.1))) refl;
+        value = omega (arith, one.1);
+      }
     ]
 
 -- the strength that columns show, digit by digit

@@ -14,32 +14,13 @@ use crate::columns::{CODE_COLUMNS, code_columns};
 use crate::digits::columns_at;
 use crate::epoch_table::{Observed, SatelliteRow};
 use crate::records_check::satellite_of_form;
-use crate::satellite_line_check::{padded, padded_with_doppler, shown_cell};
+use crate::satellite_line_check::{padded, padded_with_doppler};
 use crate::value_read::{read_observed, read_with_doppler};
 use arrayvec::ArrayVec;
 
-/// Reads what `code_count` codes show in their columns, one after another. Blanks at the end may be missing.
-// It is inlined, since each row of a file calls it.
-#[inline(always)]
-pub(crate) fn read_cells(columns: &[u8], code_count: usize, observed: &mut ArrayVec<Observed, 16>)
-    requires code_count { code_count ≤ 16 }
-    requires few { length columns.now ≤ 48 * code_count }
-    requires cells { ∥ AreCells code_count columns.now ∥₁ }
-    ensures observed { All IsObserved observed.new.items }
-    ensures code_count { length observed.new.items ≡ code_count }
-    ensures text { left (48 * code_count) columns.now ≡ flat_map observations observed.new.items }
-{
-    observed.clear();
-    for k in 0..code_count {
-        let Some(shown) = shown_cell(columns_at(columns, CODE_COLUMNS * k, CODE_COLUMNS)) else {
-            unreachable!();
-        };
-        observed.push(shown);
-    }
-}
-
 // The columns up to the end of a strength, after which a code has two blanks.
 const STRENGTH_END: usize = 46;
+
 const STRENGTH_END_WITH_DOPPLER: usize = 62;
 
 // Reads what the columns of a code show, of which blanks at the end may be missing.
@@ -77,6 +58,24 @@ fn read_cell_in(doppler: bool, columns: &[u8]) -> Observed
         read_doppler_cell(columns)
     } else {
         read_cell(columns)
+    }
+}
+
+/// Reads what `code_count` codes show in their columns, one after another. Blanks at the end may be missing.
+// It is inlined, since each row of a file calls it.
+#[inline(always)]
+pub(crate) fn read_cells(columns: &[u8], code_count: usize, observed: &mut ArrayVec<Observed, 16>)
+    requires code_count { code_count ≤ 16 }
+    requires few { length columns.now ≤ 48 * code_count }
+    requires cells { ∥ AreCells code_count columns.now ∥₁ }
+    ensures observed { All IsObserved observed.new.items }
+    ensures code_count { length observed.new.items ≡ code_count }
+    ensures text { left (48 * code_count) columns.now ≡ flat_map observations observed.new.items }
+{
+    observed.clear();
+    for k in 0..code_count {
+        let cell = columns_at(columns, CODE_COLUMNS * k, CODE_COLUMNS);
+        observed.push(read_cell_in(false, cell));
     }
 }
 
