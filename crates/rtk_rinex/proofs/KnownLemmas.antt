@@ -16,7 +16,7 @@ use Rattle.rtk_rinex.specs.Steps.Digits.{padded_digits_from, number_in}
 use Rattle.rtk_rinex.proofs.ColumnsLemmas.{decimal-pair}
 use Rattle.rtk_rinex.proofs.DigitsLemmas.{number_of-fixed_3, length-right, take-exact, drop-exact, piece}
 use Rattle.rtk_rinex.proofs.FieldLemmas.{whole_text, fixed-is, length-whole_text}
-use Rattle.rtk_rinex.proofs.ValuesLemmas.{written-limits, written-magnitude, length-fixed, length-observation, IsValue-strength}
+use Rattle.rtk_rinex.proofs.ValuesLemmas.{same_observed, written-limits, written-magnitude, length-fixed, length-observation, IsValue-strength}
 use Rattle.rtk_rinex.proofs.CellLemmas.{HasColumns, has-columns, drop_more}
 use Rattle.rtk_rinex.proofs.RecordsLemmas.{below}
 
@@ -111,7 +111,8 @@ long-value columns (pos n) first second h e c b a =
     let limits = written-limits (pos n) h in
     let whole : padded_digits_from 0 (take 10 columns) ≡ n / 1000 = ap (padded_digits_from 0) d.whole ∙ padded-right 10 (n / 1000) (omega (arith, ints, limits)) in
     let decimals : padded_digits_from 0 (take 3 (drop 11 columns)) ≡ n % 1000 = ap (padded_digits_from 0) d.decimals ∙ padded-last_3 n in
-    ap pos (omega (arith, whole, decimals))
+    let sum : padded_digits_from 0 (take 10 columns) * 1000 + padded_digits_from 0 (take 3 (drop 11 columns)) ≡ n = omega (arith, whole, decimals) in
+    ap (λ (m : ℕ). pos m) sum
 long-value columns (negsuc n) first second h e c b a =
     let d = observation-digits columns (negsuc n) first second h e in
     let digits : List ℕ = decimal (suc n / 1000) in
@@ -176,7 +177,8 @@ short-strength columns s p d =
 strength-digits : (columns : List ℕ) (s : ℕ) → IsStrengthOrNone (Some s) → take 14 columns ≡ take 14 (observation (strength_value (Some s)) 32 32) → HasDigits columns (pos s)
 strength-digits columns s h e =
     let written : is_written (pos s) ≡ true = IsValue-strength (Some s) h in
-    let field : take 14 columns ≡ fixed 3 14 (pos s) = (rw written at e) ∙ take-exact 14 (fixed 3 14 (pos s)) (32 ∷ 32 ∷ []) (length-fixed (pos s) written) in
+    let cut : take 14 columns ≡ take 14 (fixed 3 14 (pos s) ++ 32 ∷ 32 ∷ []) = rw written at e in
+    let field : take 14 columns ≡ fixed 3 14 (pos s) = cut ∙ take-exact 14 (fixed 3 14 (pos s)) (32 ∷ 32 ∷ []) (length-fixed (pos s) written) in
     has-digits columns (drop 14 columns) (pos s) written (sym (take-append-drop 14 columns) ∙ ap (λ (t : List ℕ). t ++ drop 14 columns) field)
 
 pub no-strength : (columns : List ℕ) (s : Option ℕ) → IsStrengthOrNone s → take 14 columns ≡ take 14 (observation (strength_value s) 32 32) → get_or columns 13 0 ≡ 32 → None ≡ s
@@ -197,7 +199,8 @@ some-strength columns (Some s) h e solid = ap Some (short-strength columns s (ha
 
 pub same_fields : (a b : Observed) → a.range_mm ≡ b.range_mm → a.phase_millicycles ≡ b.phase_millicycles → a.doppler_millihertz ≡ b.doppler_millihertz
     → a.strength_millidbhz ≡ b.strength_millidbhz → a.slip ≡ b.slip → a.half ≡ b.half → a ≡ b
-same_fields a b e₁ e₂ e₃ e₄ e₅ e₆ = cc
+same_fields a b e₁ e₂ e₃ e₄ e₅ e₆ =
+    same_observed a.range_mm a.phase_millicycles a.doppler_millihertz a.strength_millidbhz a.slip a.half b.range_mm b.phase_millicycles b.doppler_millihertz b.strength_millidbhz b.slip b.half e₁ e₂ e₃ e₄ e₅ e₆
 
 drop-front : (n : ℕ) (xs ys : List ℕ) → n ≤ length xs → drop n (xs ++ ys) ≡ drop n xs ++ ys
 drop-front zero xs ys h = refl
