@@ -1,6 +1,7 @@
-use Rattle.std.proofs.Common.{◌≡◌, ◌∙◌, ◌+◌, ◌*◌, ap, sym, take, drop, pos, ℤ, Some}
-use Rattle.rtk_rinex.specs.Steps.Digits.{padded_digits_from}
+use Rattle.std.proofs.Common.{◌≡◌, ◌∙◌, ap, sym, arith, to_z, of_z, w64, Some}
+use Rattle.std.proofs.lemmas.Int.{ints}
 use Rattle.rtk_rinex.proofs.CellLemmas.{has-value}
+use Rattle.rtk_rinex.proofs.ValuesLemmas.{written-limits}
 use Rattle.rtk_rinex.proofs.KnownLemmas.{no-value, has-written, long-value, told-value}
 use Rattle.rtk_rinex.proofs.value_read.read_value.Goals as goal
 
@@ -18,6 +19,9 @@ returns c = λ v first second h e.
     let columns = c.args.columns.now in
     let w = has-written columns v first second h e c.if-columns-eq32.false in
     let plain = c.is_long_without_sign.ensures c.if-not-is_long_without_sign.false in
-    let value : pos (padded_digits_from 0 (take 10 columns) * 1000 + padded_digits_from 0 (take 3 (drop 11 columns))) ≡ w.value =
-    long-value columns w.value first second w.written w.text plain.0 plain.1 plain.2 in
-    rw (c.without_sign.ensures, c.number_of_padded_digits-whole.ensures.value, c.number_of_padded_digits-decimals.ensures.value) (ap Some value ∙ sym w.is)
+    let value = c.without_sign.result in
+    let is : value ≡ w.value = c.without_sign.ensures
+    ∙ (rw (c.number_of_padded_digits-whole.ensures.value, c.number_of_padded_digits-decimals.ensures.value) (long-value columns w.value first second w.written w.text plain.0 plain.1 plain.2)) in
+    let limits = written-limits w.value w.written in
+    let same : to_z w64 (of_z w64 value) ≡ value = omega (arith, ints, limits, is) in
+    rw same (ap Some is ∙ sym w.is)
