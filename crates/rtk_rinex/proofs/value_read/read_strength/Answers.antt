@@ -5,4 +5,5 @@ pub returns-then-columns-eq32 : goal.returns-then-columns-eq32
 returns-then-columns-eq32 c = λ s h e. no-strength c.args.columns.now s h e c.if-columns-eq32.true
 
 pub returns : goal.returns
-returns c = λ s h e. some-strength c.args.columns.now s h e c.if-columns-eq32.false
+returns c = λ s h e.
+    rw (c.from.ensures, c.from-2.ensures, c.from-3.ensures, c.from-4.ensures, c.from-5.ensures) (some-strength c.args.columns.now s h e c.if-columns-eq32.false)

@@ -12,7 +12,7 @@ returns c = λ o h e.
     let phase = c.split_at-2.ensures.front ∙ ap (λ (xs : List ℕ). take 16 xs) c.split_at.ensures.back ∙ p.phase in
     let shift = c.split_at-3.ensures.front ∙ ap (λ (xs : List ℕ). take 16 xs) last ∙ p.shift in
     let strength = ap (λ (xs : List ℕ). take 14 xs) (c.split_at-3.ensures.back ∙ ap (λ (xs : List ℕ). drop 16 xs) last) ∙ p.strength in
-    let lock = c.read_lock.ensures o.slip o.half (lock-digit c.split_at-2.result.0.now o.phase_millicycles o.slip o.half digit h.phase h.lock phase) in
+    let lock = c.read_lock-slip.ensures o.slip o.half (lock-digit c.split_at-2.result.0.now o.phase_millicycles o.slip o.half digit h.phase h.lock phase) in
     same_fields _ o
     (c.read_value-range_mm.ensures o.range_mm 32 digit h.range (c.split_at.ensures.front ∙ p.range))
     (c.read_value-phase_millicycles.ensures o.phase_millicycles (lli_digit o.slip o.half) digit h.phase phase)
