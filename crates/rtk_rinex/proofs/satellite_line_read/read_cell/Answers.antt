@@ -7,4 +7,4 @@ use Rattle.rtk_rinex.proofs.satellite_line_read.read_cell.Goals as goal
 pub returns : goal.returns
 returns c = λ o h e.
     let columns = c.args.columns.now in
-    c.read_observed-2.ensures o h (ap (left 48) c.padded.ensures.value ∙ left-full 48 (left 48 columns) (length-left 48 columns c.requires) ∙ e)
+    c.read_observed-2.ensures o h (ap (left 48) (c.as_slice.ensures.value ∙ c.padded.ensures.value) ∙ left-full 48 (left 48 columns) (length-left 48 columns c.requires) ∙ e)

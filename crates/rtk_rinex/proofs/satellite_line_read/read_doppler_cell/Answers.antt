@@ -7,4 +7,4 @@ use Rattle.rtk_rinex.proofs.satellite_line_read.read_doppler_cell.Goals as goal
 pub returns : goal.returns
 returns c = λ o h e.
     let columns = c.args.columns.now in
-    c.read_with_doppler-2.ensures o h (ap (left 64) c.padded_with_doppler.ensures.value ∙ left-full 64 (left 64 columns) (length-left 64 columns c.requires) ∙ e)
+    c.read_with_doppler-2.ensures o h (ap (left 64) (c.as_slice.ensures.value ∙ c.padded_with_doppler.ensures.value) ∙ left-full 64 (left 64 columns) (length-left 64 columns c.requires) ∙ e)
