@@ -1,7 +1,6 @@
 -- What columns show that are known to show something.
-use Rattle.std.proofs.Common.{◌≡◌, ◌≢◌, ℕ, zero, suc, ◌+◌, ◌-◌, ◌*◌, ◌/◌, ◌%◌, ◌^◌, ◌<◌, ◌≤◌, [], ◌∷◌, ◌++◌, List, length, replicate, decimal, take, drop, get_or, ap, arith, refl, sym, ◌∙◌, true, false, Bool, length-append, length-drop, append_assoc, ℤ, pos, negsuc, unsigned_abs, Option, Some, None, inl, inr, subst}
+use Rattle.std.proofs.Common.{◌≡◌, ◌≢◌, ℕ, zero, suc, ◌+◌, ◌-◌, ◌*◌, ◌/◌, ◌%◌, ◌^◌, ◌<◌, ◌≤◌, [], ◌∷◌, ◌++◌, List, length, replicate, decimal, take, drop, get_or, ap, arith, refl, sym, ◌∙◌, true, false, Bool, length-drop, append_assoc, ℤ, pos, negsuc, unsigned_abs, Option, Some, None, inl, inr, subst}
 use Rattle.std.specs.Prelude.{IsTrue, MatchOption}
-use Rattle.std.specs.Int.{IsInRange}
 use Rattle.std.proofs.lemmas.Bool.Decides.{leb_tells}
 use Rattle.std.proofs.lemmas.Fmt.{decimal_by_steps, decimal_digit}
 use Rattle.std.proofs.lemmas.Grind.{not_there}
@@ -14,10 +13,10 @@ use Rattle.rtk_rinex.specs.Record.{is_written, observation, observations, observ
 use Rattle.rtk_rinex.specs.Table.{IsAbsentOrWritten, IsLock, IsObserved, IsObservedWithDoppler, IsObservedIn}
 use Rattle.rtk_rinex.specs.Steps.Digits.{padded_digits_from, number_in}
 use Rattle.rtk_rinex.proofs.ColumnsLemmas.{decimal-pair}
-use Rattle.rtk_rinex.proofs.DigitsLemmas.{number_of-fixed_3, length-right, take-exact, drop-exact, piece}
+use Rattle.rtk_rinex.proofs.DigitsLemmas.{number_of-fixed_3, length-right, take-exact, drop-exact}
 use Rattle.rtk_rinex.proofs.FieldLemmas.{whole_text, fixed-is, length-whole_text}
 use Rattle.rtk_rinex.proofs.ValuesLemmas.{same_observed, written-limits, written-magnitude, length-fixed, length-observation, IsValue-strength}
-use Rattle.rtk_rinex.proofs.CellLemmas.{HasColumns, has-columns, drop_more}
+use Rattle.rtk_rinex.proofs.CellLemmas.{has-columns, drop_more}
 use Rattle.rtk_rinex.proofs.RecordsLemmas.{below}
 
 -- ---- blanks and digits

@@ -1,4 +1,4 @@
-use Rattle.std.proofs.Common.{◌∙◌, ap, arith}
+use Rattle.std.proofs.Common.{◌∙◌, ap}
 use Rattle.rtk_rinex.specs.Columns.{left}
 use Rattle.rtk_rinex.proofs.DigitsLemmas.{length-left}
 use Rattle.rtk_rinex.proofs.MixedCodeLemmas.{left-full}

@@ -1,4 +1,4 @@
-use Rattle.std.proofs.Common.{◌≡◌, arith, refl, take}
+use Rattle.std.proofs.Common.{arith, refl, take}
 use Rattle.std.proofs.lemmas.Grind.{take_at_read}
 use Rattle.rtk_rinex.specs.Steps.Digits.{padded_digits_from}
 use Rattle.rtk_rinex.proofs.DigitsLemmas.{pow-le, pow-more}

@@ -1,4 +1,4 @@
-use Rattle.std.proofs.Common.{◌∙◌, ap, sym, ℕ, List, take, drop}
+use Rattle.std.proofs.Common.{◌∙◌, ap, ℕ, List, take, drop}
 use Rattle.rtk_rinex.specs.Record.{strength_digit, lli_digit}
 use Rattle.rtk_rinex.proofs.CellLemmas.{lock-digit}
 use Rattle.rtk_rinex.proofs.KnownLemmas.{same_fields, shows-four}
