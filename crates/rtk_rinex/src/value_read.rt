@@ -35,7 +35,7 @@ fn number_of_padded_digits(text: &[u8]) -> u64
     value
 }
 
-// Returns whether a value that is written in these columns has seven digits or more before the point, and no sign.
+// Returns whether a value that is written in these columns has eight digits or more before the point, and no sign.
 // Ranges and phases of satellites are such.
 fn is_long_without_sign(columns: &[u8]) -> bool
     requires { length columns.now ≡ 16 }
