@@ -20,7 +20,7 @@ pub struct ClockMarks {
 }
 
 /// A moment that is kept as a number.
-pub(crate) fn opened_moment(ms: u64) -> GpsMs
+pub fn opened_moment(ms: u64) -> GpsMs
     ensures { result ≡ spec.opened_moment ms }
 {
     let Some(moment) = GpsMs::new(ms.min(LAST_MS)) else {
@@ -92,7 +92,7 @@ fn own_marks(now: GpsMs, station: u16, messages: &[DateMessage]) -> Option<Clock
 }
 
 /// The epochs of a station in a capture, or before the first of them the dates that wait for it.
-pub fn marks_in(now: GpsMs, station: u16, capture: &CaptureDates) -> Option<ClockMarks>
+pub(crate) fn marks_in(now: GpsMs, station: u16, capture: &CaptureDates) -> Option<ClockMarks>
     ensures { result ≡ spec.marks_in now station capture.now }
 {
     match &capture.span {

@@ -250,8 +250,8 @@ fn take_phases(
     Ok(())
 }
 
-// The epochs of a station, or before the first of them the dates that it names, if no other station is known.
-fn marks_if_known(now: GpsMs, dates: &TargetDates, station: u16) -> Option<ClockMarks>
+/// The epochs of a station, or before the first of them the dates that it names, if no other station is known.
+pub fn marks_if_known(now: GpsMs, dates: &TargetDates, station: u16) -> Option<ClockMarks>
     ensures { result ≡ spec.marks_if_known now station dates.now }
 {
     if dates.station.unwrap_or(station) == station {
