@@ -516,7 +516,6 @@ def find(texts: list[bytes], now: int, wanted: Wanted = Wanted()) -> Found:
     if any(not -HALF_WEEK_MS <= it - near < HALF_WEEK_MS for of in epochs for it in of):
         raise Stopped("give them in parts")
     by = min(dating, default=None, key=lambda it: it.first)
-    links = links_of(epochs, wanted.as_given)
     every = [it for of in epochs for it in of]
     span, sent = (min(every), max(every)), [it.sent(number) for it in captures]
     leap = leap_of(sent, span, near, wanted)
@@ -526,6 +525,9 @@ def find(texts: list[bytes], now: int, wanted: Wanted = Wanted()) -> Found:
     owns = [None if of else named_moment(now, capture, number) for capture, of in zip(captures, epochs)]
     named = [None if own is None else in_week_of(wanted.near, own.first) for own in owns]
     half = sum(span) // 2
+    leap_now = leap_seconds_at(near)
+    alone = [[at for it, its in of.items() for at in placed(it, its, own, half, leap_now)] for of, own in zip(clocks, named)]
+    links = links_of([of or other for of, other in zip(epochs, alone)], wanted.as_given)
     moments = [{it: placed(it, its, own, half, seconds) for it, its in of.items()} for of, own in zip(clocks, named)]
     middle = near_with_1012(every, clocks, moments) if stages.TAKES_1012 else None
     orbits = [it for capture in everything for it in capture.orbits]
@@ -599,7 +601,7 @@ def stop_if_far(near: int, letters: str, clocks: list[dict[str, Going]], moments
 
 def links_of(epochs: list[list[int]], as_given: bool = False) -> list[list[int]]:
     """The captures by links, each by its place: the earlier ones first, and each behind the first link that has ended when it
-    begins. Those without epochs come before all of the first link."""
+    begins, by their epochs, or else by their clocks. Those without either come before all of the first link."""
     if as_given:
         return [[at] for at in range(len(epochs))]
     order = sorted((min(of), max(of), at) for at, of in enumerate(epochs) if of)

@@ -356,8 +356,8 @@ fn placed_with_clocks(
     reach_with(with_glonass, placed_if_taken(taken.beidou, beidou))
 }
 
-// The epochs of the capture at a place.
-fn placed_at(placed: &[Option<Placed>], at: usize) -> Option<Placed>
+/// The epochs of the capture at a place.
+pub(crate) fn placed_at(placed: &[Option<Placed>], at: usize) -> Option<Placed>
     ensures { result ≡ spec.placed_or_none (slice_get placed.now at) }
 {
     match placed.get(at) {
