@@ -20,7 +20,7 @@ use rtk_obs::{GpsMs, LAST_MS, WEEK_MS};
 use rtk_setup::{LeapSeconds, Reference, Setup};
 use rtk_survey::{
     CaptureSurvey, ClockMarks, ClockSpan, FollowedClock, Placed, Span, StationClocks, TargetSurvey,
-    Told, clock_moment, clocks_by_station, dated, is_dated_near, marks_if_known, opened_moment,
+    Told, clock_moment, clocks_by_station, is_dated_near, marks_if_known, opened_moment,
 };
 use std::alloc::{AllocError, Global};
 
@@ -140,7 +140,10 @@ fn week_by(given: Option<GpsMs>, moment: GpsMs) -> u64
     ensures bound { result < 2 ^ 61 }
 {
     match given {
-        Some(near) => dated(near, (moment.ms() % WEEK_MS) as u32),
+        Some(near) => {
+            let tow = (moment.ms() % WEEK_MS) as u32;
+            clock_moment(FollowedClock::GlonassWeek, near, tow)
+        }
         None => moment.ms(),
     }
 }
