@@ -94,7 +94,7 @@ pub use beside_gps::{is_beside_gps, told_time};
 pub use capture_dates::CaptureDates;
 pub use channels::count_of_field;
 pub use clock_chains::{ChainClock, ClockOffset, ClockOffsets, ClockSurvey, ClockTold, DayOffset};
-pub use clock_lines::{compared_clocks, put_clock_line, told_offset};
+pub use clock_lines::{compared_clocks, put_clock_line, table_seconds_at, told_offset};
 pub use contents::{Contents, others_numbered};
 pub use date_laws::{dates_are_nearest, told_moments_are_nearest};
 pub use date_message::{DateMessage, EphemerisDate, UtcDate, date_in};
