@@ -1,0 +1,27 @@
+from sl import *
+Q=dict(recs=2)
+D0=gms(2024,5,17)
+hh=lambda a,b,st=1: [D0+k*H for k in range(a,b,st)]
+go('--near D0; A GPS 0..3h, B 1012-only 13..16h own 1013',{'a':[S,d13(D0),[g(t) for t in hh(0,4)]],'b':[d13(D0+13*H),[m12(t) for t in hh(13,17)]]},['--near',iso(D0)],keep='near_afternoon',**Q)
+go('--near D0; A GPS 0..23h, B 1012-only 13..16h own 1013',{'a':[S,d13(D0),[g(t) for t in hh(0,24)]],'b':[d13(D0+13*H),[m12(t) for t in hh(13,17)]]},['--near',iso(D0)],keep='near_afternoon2',**Q)
+go('no near; A GPS 0..23h, B 1012-only 13..16h undated',{'a':[S,d13(D0),[g(t) for t in hh(0,24)]],'b':[[m12(t) for t in hh(13,17)]]},**Q)
+go('no near; A GPS 0..3h undated, B 1012-only 13..16h own 1013, c date',{'a':[S,[g(t) for t in hh(0,4)]],'b':[d13(D0+13*H),[m12(t) for t in hh(13,17)]]},**Q)
+go('--near D0; A GPS+1087 0..23h, B 1012+1087 13..16h own 1013',{'a':[S,d13(D0),[g(t,sync=1)+R(t) for t in hh(0,4)]],'b':[d13(D0+13*H),[m12(t,sync=1)+R(t) for t in hh(13,17)]]},['--near',iso(D0)],keep='near_afternoon3',**Q)
+# R clock: GPS only beside R in another capture
+go('--codes with clock off lists R',{'a':[S,d13(T),[g(t,sync=1)+R(t,off=1) for t in ep]]},['--codes','1C,R1C'],**Q)
+go('other-channel given for absent slot',{'a':[S,d13(T),[g(t,sync=1)+R(t) for t in ep]]},['--channels','7:2,5:3'],**Q)
+go('--channels for slot, 1012 of another link tells other; only 1020',{'a':[S,d13(T),[frame(m1020(5,2)),frame(m1020(9,1))],[g(t,sync=1)+R(t,kind=4) for t in ep]]},['--channels','5:6'],**Q)
+go('R04..: few-phases of GLONASS no channel',{'a':[S,d13(T),[g(t,sync=1)+R(t,kind=4,codes=('1C','2C')) for t in ep]]},**Q)
+go('two MSM kinds on two links; E4 20 ep in a; E7 10 ep in b with 5X',{'a':[S,d13(T),[g(t,sync=1)+g(t,sys='E') for t in E(T,20)]],'b':[d13(T),[g(t,sync=1)+g(t,sys='E',kind=7,codes=('1C','5X')) for t in E(T,10)]]},**Q)
+go('MSM kinds: E4 in hour 1, E7 in hour 2 (receiver changed)',{'a':[S,d13(T),[g(t,sync=1)+g(t,sys='E') for t in E(T,20)]],'b':[d13(T+H),[g(t,sync=1)+g(t,sys='E',kind=7,codes=('1C','5X')) for t in E(T+H,15)]]},**Q)
+go('GPS 1004 hour 1, 1077 hour 2',{'a':[S,d13(T),[s4(t) for t in E(T,20)]],'b':[d13(T+H),[g(t,kind=7) for t in E(T+H,15)]]},**Q)
+go('1004 with values only in the foreign... 1004 empty list',{'a':[S,d13(T),[s4(t,()) for t in ep]],'b':[d13(T+5000),[g(t) for t in E(T+5000)]]},**Q)
+go('capture ends in mid frame, next begins with the rest, same epoch (5X only in it) 2 captures 3rd',{'a':[S,d13(T),[g(t) for t in ep]]},**Q)
+go('gap exactly 60 s at 1 Hz',{'a':[S,d13(T),[g(t) for t in ep],[g(t) for t in E(T+63000)]]},recs=1)
+go('gap 61 s at 1 Hz',{'a':[S,d13(T),[g(t) for t in ep],[g(t) for t in E(T+64000)]]},recs=1)
+go('gap 300 s at 30 s',{'a':[S,d13(T),[g(t) for t in E(T,4,30000)],[g(t) for t in E(T+390000,4,30000)]]},recs=1)
+go('12 gaps',{'a':[S,d13(T),[[g(t) for t in E(T+k*100000+(k*k)*100)] for k in range(13)]]},recs=1,show=False)
+go('stdin',{'a':[S,d13(T)]},recs=1)
+for q in (['auto','stdin'],['auto','.'],['auto','nofile'],['auto','a','-o','a'],['auto','a','-o','./a'],['auto','a','-o','nodir/x'],['auto','a','--doppler','--codes','R1C'],['auto'],['auto','a','--window','1'],['auto','a','--msm','8'],['auto','a','--station','4096'],['auto','a','--near','2024-05-17'],['auto','a','--systems','X'],['auto','a','--systems',''],['auto','a','--codes','G1C'],['auto','a','--codes','1C','--systems','G'],['auto','a','--label']):
+    open(D+'/a','wb').write(cat(S,d13(T),[g(t) for t in ep]))
+    r=subprocess.run([PROG]+q,capture_output=True,text=True,env=ENV,cwd=D); print(q,r.returncode,r.stderr.strip().split('\n')[-1][:120])

@@ -1,0 +1,27 @@
+from sl import *
+def rc(t,sync=0,cells=None,kind=7,ext=None,sys='R',clock=None):
+    return frame(msm(sys,kind,7,(gloclock(t) if sys=='R' else t%WEEK) if clock is None else clock,cells,ext or {},sync)[0])
+X=21e6
+go('R2C has phases alone (MSM7)',{'a':[S,d13(T),[g(t,sync=1)+rc(t,cells={(5,'1C'):(X,X+.01,40,0),(5,'2C'):(None,X+.02,None,0)},ext={5:8}) for t in ep]]},keep='r_phase_only')
+go('R has phases alone in all (MSM7)',{'a':[S,d13(T),[g(t,sync=1)+rc(t,cells={(5,'1C'):(None,X+.01,None,0)},ext={5:8}) for t in ep]]},keep='r_phase_only2')
+go('E5X phases alone',{'a':[S,d13(T),[g(t,sync=1)+rc(t,sys='E',cells={(5,'1C'):(X,X+.01,40,0),(5,'5X'):(None,X+.02,None,0)}) for t in ep]]})
+go('R2C phase only on one sat, slot w/o channel',{'a':[S,d13(T),[g(t,sync=1)+rc(t,kind=4,cells={(5,'1C'):(X,X+.01,40,0),(5,'2C'):(None,X+.02,None,0)}) for t in ep]]})
+go('R2C phase only (MSM4)+1020',{'a':[S,d13(T),frame(m1020(5,1)),[g(t,sync=1)+rc(t,kind=4,cells={(5,'1C'):(X,X+.01,40,0),(5,'2C'):(None,X+.02,None,0)}) for t in ep]]})
+go('R07 phases alone of a listed code',{'a':[S,d13(T),[g(t,sync=1)+rc(t,cells={(5,'1C'):(X,X+.01,40,0),(7,'1C'):(None,X+.02,None,0)},ext={5:8}) for t in ep]]},keep='r_phase_nochan')
+go('E all Doppler alone --doppler',{'a':[S,d13(T),[g(t,sync=1,kind=7)+rc(t,sys='E',cells={(5,'1C'):(X,X+.01,40,0),(5,'5X'):(None,None,None,0)}) for t in ep]]},['--doppler'],keep='dopp_only')
+go('G sat with Doppler alone --doppler',{'a':[S,d13(T),[g(t,sync=1,kind=7)+rc(t,sys='E',cells={(5,'1C'):(X,X+.01,40,0),(6,'1C'):(None,None,None,0)}) for t in ep]]},['--doppler'])
+go('E system with Doppler alone --doppler',{'a':[S,d13(T),[g(t,sync=1,kind=7)+rc(t,sys='E',cells={(6,'1C'):(None,None,None,0)}) for t in ep]]},['--doppler'])
+go('half the epochs E has only Doppler',{'a':[S,d13(T),[rc(t,sys='E',cells={(6,'1C'):(None,None,None,0) if k%2 else (X,X,40,0)}) for k,t in enumerate(E(T,8))]]},['--doppler'])
+go('Doppler only epochs give epochs?',{'a':[S,d13(T),[rc(t,sys='E',cells={(6,'1C'):(None,None,None,0)}) for k,t in enumerate(E(T,8))]]},['--doppler','--codes','E1C'])
+go('--doppler with MSM5 in a and MSM7 in b',{'a':[S,d13(T),[g(t,kind=5) for t in ep]],'b':[d13(T+10000),[g(t,kind=7) for t in E(T+10000,5)]]},['--doppler'])
+go('--doppler with 1004 beside 1077',{'a':[S,d13(T),[s4(t,sync=1)+g(t,kind=7) for t in ep]]},['--doppler'])
+go('--doppler with 1012 beside 1087',{'a':[S,d13(T),[s4(t,sync=1)+g(t,kind=7,sync=1)+m12(t,sync=1)+R(t) for t in ep]]},['--doppler'])
+go('--doppler with 1012 alone',{'a':[S,d13(T),[g(t,kind=7,sync=1)+m12(t) for t in ep]]},['--doppler'])
+go('--doppler with SBAS of 1004',{'a':[S,d13(T),[s4(t,(5,43),sync=1)+g(t,kind=7) for t in ep]]},['--doppler'])
+go('--doppler --systems G, E of MSM4',{'a':[S,d13(T),[g(t,kind=7,sync=1)+g(t,sys='E') for t in ep]]},['--doppler','--systems','G'])
+go('--doppler, E of MSM4 clock off',{'a':[S,d13(T),[g(t,kind=7,sync=1)+g(t,sys='E',off=5) for t in ep]]},['--doppler'])
+# labels again
+def m33(ant,rx='RX',fw='1',aser='S1',rser='99',setup=1,st=7): return frame(m1033(st,ant,setup,aser,rx,fw,rser))
+go('label long',{'a':[S,d13(T),m33('TRM55971.00     NONEX',rx='X'*31,fw='1\x01'),[g(t) for t in ep]]},['--label'],recs=0,hand=0)
+go('leap seconds other',{'a':[S,d13(T),[g(t,sync=1)+R(t) for t in ep]]},['--leap-seconds','17'])
+go('leap 17 by clocks with E,R only in other capture',{'a':[S,e19(T),[g(t,sync=1)+g(t,sys='E') for t in ep]],'b':[e19(T),[g(t,sync=1)+R(t,off=1) for t in E(T+10000)]],'c':[e19(T+20000),[R(t) for t in E(T+20000)]]})

@@ -1,0 +1,27 @@
+from sl import *
+Q=dict(recs=2)
+D0=gms(2024,5,17)
+hh=lambda a,b,st=1: [D0+k*H for k in range(a,b,st)]
+go('1012+1087-only B 06..20h, 1013 at end; A GPS 20:30',{'a':[S,d13(D0+20*H+1800000),[g(t) for t in E(D0+20*H+1800000)]],'b':[[m12(t,sync=1)+R(t) for t in hh(6,21)],d13(D0+20*H)]},keep='r1012_1087_1013end',**Q)
+go('1087+1012-only (other order)',{'a':[S,d13(D0+20*H+1800000),[g(t) for t in E(D0+20*H+1800000)]],'b':[[R(t,sync=1)+m12(t) for t in hh(6,21)],d13(D0+20*H)]},**Q)
+go('same w/ 1029 at end of 15h, A GPS 00..15h -> ?',{'a':[S,d13(D0),[g(t) for t in hh(0,10)]],'b':[[m12(t) for t in hh(0,14)],d29(D0+13*H+5000)]},**Q)
+go('B 1012-only 14 h, 1029 at 13h; A GPS 13:30-14:30',{'a':[S,d13(D0+13*H+1800000),[g(t) for t in E(D0+13*H+1800000,60,60000)]],'b':[[m12(t) for t in hh(0,14)],d29(D0+13*H)]},keep='r1012_1029late',**Q)
+go('C-only B, 1013 3.6 days after begin at end; ',{'a':[S,d13(T),[g(t) for t in ep]],'b':[[g(t,sys='C') for t in E(T-3*DAY-14*H,8,12*H)],d13(T)]},**Q)
+go('SBAS of 1004: only SBAS in epochs; --systems S',{'a':[S,d13(T),[s4(t,(43,)) for t in ep]]},['--systems','S'],**Q)
+go('--systems G, 1004 only SBAS',{'a':[S,d13(T),[s4(t,(43,)) for t in ep]]},['--systems','G'],**Q)
+go('1004 S + 1104 MSM same sat',{'a':[S,d13(T),[s4(t,(43,),sync=1)+g(t,sys='S',n=(4,)) for t in ep]]},**Q)
+go('16 dates',{'a':[S,d13(T),[g(t) for t in ep]],'b':[d13(T+10000),[d13(T+k*7*DAY,8) for k in range(-20,0)],[g(t+10000) for t in ep]]},recs=1)
+go('16 dates: own other-day dates after 16 others',{'a':[S,d13(T),[g(t) for t in ep]],'b':[[d13(T+k*7*DAY,8) for k in range(-20,0)],[g(t+10000) for t in ep],d13(T+14*DAY)]},keep='moredates',recs=1)
+go('single capture: 20 foreign dates then own date',{'b':[S,[d13(T+k*7*DAY,8) for k in range(-20,0)],[g(t+10000) for t in ep],d13(T)]},keep='moredates2',recs=1)
+go('single capture: 20 1019 weeks then own date',{'b':[S,[e19(T,dw=-k) for k in range(1,21)],[g(t+10000) for t in ep],d13(T)]},recs=1)
+go('1013 sod 100000',{'a':[S,frame(m1013(7,mjdsod(T)[0],100000,18)),[g(t) for t in ep]]},recs=1)
+go('1013 mjd 0 own, + 1019',{'a':[S,frame(m1013(7,0,0,18)),e19(T),[g(t) for t in ep]]},recs=1)
+go('1013 1980-01-06 own + 1019',{'a':[S,frame(m1013(7,44244,0,18)),e19(T),[g(t) for t in ep]]},recs=1)
+go('1013 1980-01-20 own + 1019 (receiver without time)',{'a':[S,frame(m1013(7,44258,0,18)),e19(T),[g(t) for t in ep]]},recs=1)
+go('1013 13 h beside',{'a':[S,d13(T+13*H),[g(t) for t in ep]]},recs=1)
+go('1013 11 h beside, and 1012',{'a':[S,d13(T+11*H),[g(t,sync=1)+m12(t) for t in ep]]},recs=1)
+go('1013 11.9 h late at end of a 1012-only 6 h',{'a':[S,d13(T),[g(t) for t in E(T,7,H)]],'b':[[m12(t) for t in E(T,7,H)],d13(T+6*H+5*H)]},recs=1)
+for sde in ('','0','1','-5',' 1700000000','1e9','1700000000','99999999999999999999','315964799','315964800','4133980799','4133980800'):
+    open(D+'/a','wb').write(cat(S,e19(T),[g(t) for t in ep])); 
+    if os.path.exists(D+'/o.rnx'): os.remove(D+'/o.rnx')
+    r=subprocess.run([PROG,'auto','a','-o','o.rnx'],capture_output=True,text=True,env=dict(ENV,SOURCE_DATE_EPOCH=sde),cwd=D); print(repr(sde),r.returncode,r.stderr.strip().split('\n')[-1][:100],[l for l in r.stderr.split('\n') if l.startswith(' from')])
