@@ -94,20 +94,34 @@ def moment_of(date: Sequence[object], second: int | None) -> int | None:
     return time if minute >= FIRST_DAY and minute.year <= 2100 else None
 
 
+def want_line(lines: Lines, label: str, text: str) -> None:
+    want(lines.header(label) == f"{text:60}", HEADER_LINE)
+
+
 def read_header(lines: Lines) -> tuple[int, int]:
     """The number of codes and the time of the first observation."""
+    want_line(lines, "RINEX VERSION / TYPE", f"{'3.05':>9}{'':11}{'OBSERVATION DATA':20}G")
+    read_station(lines)
+    codes = read_types(lines)
+    want_line(lines, "SIGNAL STRENGTH UNIT", "DBHZ")
+    columns = lines.header("TIME OF FIRST OBS")
+    date = [whole_in(columns[at : at + 6]) for at in range(0, 30, 6)]
+    first = moment_of(date, number_in(columns[30:43], 7))
+    want(first is not None and columns[43:] == f"{'     GPS':17}", HEADER_LINE)
+    want_line(lines, "SYS / PHASE SHIFT", "G")
+    want_line(lines, "END OF HEADER", "")
+    return codes, first
 
-    def want_line(label: str, text: str) -> None:
-        want(lines.header(label) == f"{text:60}", HEADER_LINE)
 
-    want_line("RINEX VERSION / TYPE", f"{'3.05':>9}{'':11}{'OBSERVATION DATA':20}G")
+def read_station(lines: Lines) -> None:
+    """The second line to the ninth one."""
     columns = lines.header("PGM / RUN BY / DATE")
     made = re.fullmatch(f"{'rtcm2rinex':40}{FOUR}{TWO}{TWO} {TWO}{TWO}{TWO} UTC ", columns)
     want(made and moment_of(made.groups()[:5], 10_000_000 * int(made[6])) is not None, HEADER_LINE)
     want(re.fullmatch("[!-~][ -~]*", lines.header("MARKER NAME")), HEADER_LINE)
-    want_line("MARKER TYPE", "GEODETIC")
+    want_line(lines, "MARKER TYPE", "GEODETIC")
     for label in ("OBSERVER / AGENCY", "REC # / TYPE / VERS", "ANT # / TYPE"):
-        want_line(label, "")
+        want_line(lines, label, "")
     columns = lines.header("APPROX POSITION XYZ")
     position = [number_in(columns[at : at + 14], 4) for at in (0, 14, 28)]
     want(all(it is not None and -(2**37) <= it < 2**37 for it in position), HEADER_LINE)
@@ -116,15 +130,6 @@ def read_header(lines: Lines) -> tuple[int, int]:
     height = number_in(columns[:14], 4)
     want(height is not None and 0 <= height < 2**16, HEADER_LINE)
     want(columns[14:] == f"{'0.0000':>14}{'0.0000':>14}{'':18}", HEADER_LINE)
-    codes = read_types(lines)
-    want_line("SIGNAL STRENGTH UNIT", "DBHZ")
-    columns = lines.header("TIME OF FIRST OBS")
-    date = [whole_in(columns[at : at + 6]) for at in range(0, 30, 6)]
-    first = moment_of(date, number_in(columns[30:43], 7))
-    want(first is not None and columns[43:] == f"{'     GPS':17}", HEADER_LINE)
-    want_line("SYS / PHASE SHIFT", "G")
-    want_line("END OF HEADER", "")
-    return codes, first
 
 
 def read_types(lines: Lines) -> int:

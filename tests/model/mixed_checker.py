@@ -10,7 +10,9 @@ from __future__ import annotations
 import re
 from typing import NamedTuple
 
-from checker import COLUMNS, FOUR, HEADER_LINE, ORDER, TWO, VALUE, Lines, Wrong, is_shown, moment_of, number_in, want, whole_in
+from checker import (
+    COLUMNS, FOUR, HEADER_LINE, ORDER, TWO, VALUE, Lines, Wrong, is_shown, moment_of, number_in, read_station, want, want_line, whole_in,
+)
 from mixed_files import SLOTS_IN_A_LINE, TYPES_IN_A_LINE, header_line, slots_lines, types_lines
 from model import observation
 from systems import BY_LETTER, GLONASS, INDEX, LETTERS, SATELLITES
@@ -47,10 +49,6 @@ def header_fault(text: bytes) -> tuple[int, str] | Heading:
         return lines.number, str(wrong)
 
 
-def want_line(lines: Lines, label: str, text: str) -> None:
-    want(lines.next() == header_line(text, label), HEADER_LINE)
-
-
 def read_header(lines: Lines) -> Heading:
     columns = lines.header("RINEX VERSION / TYPE")
     begin = f"{'3.05':>9}{'':11}{'OBSERVATION DATA':20}"
@@ -68,25 +66,6 @@ def read_header(lines: Lines) -> Heading:
     channels, leap = read_glonass(lines) if GLONASS.letter in codes else ({}, None)
     want_line(lines, "END OF HEADER", "")
     return Heading(codes, channels, first, leap, doppler)
-
-
-def read_station(lines: Lines) -> None:
-    """The second line to the ninth one."""
-    columns = lines.header("PGM / RUN BY / DATE")
-    made = re.fullmatch(f"{'rtcm2rinex':40}{FOUR}{TWO}{TWO} {TWO}{TWO}{TWO} UTC ", columns)
-    want(made and moment_of(made.groups()[:5], 10_000_000 * int(made[6])) is not None, HEADER_LINE)
-    want(re.fullmatch("[!-~][ -~]*", lines.header("MARKER NAME")), HEADER_LINE)
-    want_line(lines, "MARKER TYPE", "GEODETIC")
-    for label in ("OBSERVER / AGENCY", "REC # / TYPE / VERS", "ANT # / TYPE"):
-        want_line(lines, label, "")
-    columns = lines.header("APPROX POSITION XYZ")
-    position = [number_in(columns[at : at + 14], 4) for at in (0, 14, 28)]
-    want(all(it is not None and -(2**37) <= it < 2**37 for it in position), HEADER_LINE)
-    want(columns[42:] == " " * 18, HEADER_LINE)
-    columns = lines.header("ANTENNA: DELTA H/E/N")
-    height = number_in(columns[:14], 4)
-    want(height is not None and 0 <= height < 2**16, HEADER_LINE)
-    want(columns[14:] == f"{'0.0000':>14}{'0.0000':>14}{'':18}", HEADER_LINE)
 
 
 def read_all_types(lines: Lines, letter: str) -> tuple[dict[str, tuple[str, ...]], bool]:

@@ -1,17 +1,7 @@
 #!/bin/sh
 # Runs `convert` and `auto` with all systems as a user does. The program is $1. The payloads and their values were worked out by
 # hand from the tables of RTCM 10403.3.
-. "$(dirname "$(readlink -f "$0")")/common"
-here=$root/tests/program
-near=2024-05-17T12:00:00
-made=2024-05-17T13:00:00
-
-# convert CODES WORD..: of station 1 near noon, marker BASE
-convert() {
-    codes=$1
-    shift
-    run convert --station 1 --near $near --made $made --marker BASE --codes "$codes" "$@"
-}
+. "$(dirname "$(readlink -f "$0")")/converting"
 
 # bad_words NAME LINE [MORE]: nothing is out, and standard error has this fault line, and one line more
 bad_words() {
@@ -143,10 +133,6 @@ S58_5I=453001714BE80000000000000001000000000002006083FFFB5200006000006C00020190
 I14_5A=471001714BE800000000020000000000000000020052C12CFB5000FA0001F40145000190
 seven="$G05_5X $R10_2P $E11_8X $C41_1P $J01_1X $S58_5I $I14_5A"
 
-# lines: each `TEXT|LABEL` as a line of a header, whose label begins in column 61
-lines() {
-    while IFS='|' read -r text label; do printf '%-60s%-20s\n' "$text" "$label"; done
-}
 # begins LETTER: the lines up to the antenna's height
 begins() {
     lines <<LINES
@@ -323,10 +309,6 @@ convert R2P --channels 10:-5 nothing;                            leaves an_empty
 
 # ---- `auto`
 
-# The messages of an epoch follow each other, and the bit of DF393 is 1 in all but the last.
-more() {
-    for payload; do echo "$payload" | sed 's/^\(.............\)0/\12/'; done
-}
 python3 "$here/framed.py" $(more $G05_5X $R10_2P $E11_8X $C41_1P $J01_1X $S58_5I) $I14_5A >chained.rtcm
 no_position=' no-position: the header has zeros, as no 1005 or 1006 came in time, or the first one has zeros'
 # finds NAME FILE OPTIONS COUNTS LINES WORD..: `auto` writes FILE, as the command that it says does, and tells these lines
