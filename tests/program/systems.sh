@@ -446,6 +446,22 @@ python3 "$here/framed.py" $G05_1004 $ABOVE_1012 >above.rtcm; run summary above.r
 python3 "$here/framed.py" $G05_1004 $R12_1012 >within.rtcm; run summary within.rtcm; grep '^ channels' out >told; echo ' channels 12:-1' >want; same summary_of_a_channel told want
 # A lone 1012 before the first epoch counts too: a second before it, and not nearly a day after it.
 legacy with_a_lone_1012 2020-01-25T02:16:02 '1C,R1C,R2P --window 4096 --channels 12:-1 --with-1012' $R12_1012 $G05_3_S
+# A capture of 1012 alone is of the day of the 1013 in it, wherever this stands, and also beside --near: here of 14:30:00 UTC.
+R12_LATER=3F40017829B800818318EAEE800097221CA7FACFF289C97E
+AT_1430=3F5001E5F965F40048
+python3 "$here/framed.py" $G05_1004 >of_gps.rtcm; python3 "$here/framed.py" $R12_LATER $AT_1430 >of_1012.rtcm
+for near_ in '' '--near 2020-01-25T00:00:00'; do
+    run auto $near_ --made $made --marker BASE of_gps.rtcm of_1012.rtcm; grep '^>' out | cut -c 1-29 >told
+    printf '> 2020 01 25 02 16  0.0000000\n> 2020 01 25 14 30 18.0000000\n' >want; same "auto_1012_alone${near_% *}" told want
+done
+# A line names the message that tells the day of 1012, if it is none of the station: here the same 1013 of another station.
+python3 "$here/framed.py" $R12_LATER 3F5002E5F965F40048 >of_other.rtcm
+# pins: day_line
+for capture in of_1012 of_other; do run auto --made $made --marker BASE of_gps.rtcm $capture.rtcm; grep '^ day-of-1012' err; done >told
+echo ' day-of-1012 2020-01-25T14:30:00 by 1013 of station 2 in of_other.rtcm' >want; same auto_day_of_1012 told want
+# No word tells the day of 1012: --near tells the week.
+python3 "$here/framed.py" $R12_LATER >of_none.rtcm; run auto --near 2020-01-25T00:00:00 --made $made --marker BASE of_gps.rtcm of_none.rtcm
+grep '^ undated' err >told; echo ' undated of_none.rtcm: dated near the others' >want; same auto_1012_of_no_day told want
 # `summary` says the word where the times lie near the date of a 1013: of the same day, and not of half a day later.
 next_of() { python3 "$here/framed.py" "$@" >dated.rtcm; run summary dated.rtcm; sed -n 's/^ next .* --codes //p' out >told; }
 # pins: is_time_near, words_with_1012

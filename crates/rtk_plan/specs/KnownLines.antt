@@ -33,7 +33,7 @@ use Rattle.rtk_captures.specs.Positions.{no_position_line}
 use Rattle.rtk_plan.specs.Reported.{late_of}
 use Rattle.rtk_plan.specs.SaidCommand.{said_code}
 use Rattle.rtk_captures.specs.SpanLine.{span_line}
-use Rattle.rtk_captures.specs.StationCaptures.{dates_in, weeks_passed_over, others_passed_over, to_come_told}
+use Rattle.rtk_captures.specs.StationCaptures.{dates_in, weeks_passed_over, others_passed_over, system_weeks_passed_over, to_come_told}
 use Rattle.rtk_captures.specs.WaitingDates.{dates_without_epoch}
 use Rattle.rtk_plan.specs.OtherEquipment.{equipment_notes}
 use Rattle.rtk_systems.specs.ToldChannels.{told_channel_lines}
@@ -71,7 +71,7 @@ is_full ts = nat_le 16 (length ts)
 
 -- of the messages that date, and of those whose dates are told beside them
 abbrev pub may_have_more : Tellings → Bool
-may_have_more t = (is_full (counting t) || is_full t.weeks.items) || is_full t.others.items
+may_have_more t = (is_full (counting t) || is_full t.weeks.items) || (is_full t.others.items || is_full t.system_weeks.items)
 
 -- formula
 abbrev pub more_dates_line : List ℕ → Tellings → List ℕ
@@ -82,7 +82,7 @@ more_dates_line name t = if may_have_more t then name_line (codes " more-dates i
 unfoldable pub other_dates : ℕ → Span → List ℕ → Tellings → List ℕ
 other_dates near s name t =
     other_date_lines near s name (counting t) ++ other_date_lines near s name (weeks_passed_over t) ++ other_date_lines near s name (others_passed_over t)
-    ++ more_dates_line name t
+    ++ other_date_lines near s name (system_weeks_passed_over t) ++ more_dates_line name t
 
 abbrev pub other_dates_if_any : ℕ → List ℕ → Tellings → Option Span → List ℕ
 other_dates_if_any near name t None = []
@@ -154,9 +154,13 @@ clock_lines_of names ss plan =
     told_clock_lines plan.asked ss plan.setup.station plan.leap_seconds ++ unchecked_system_lines plan.setup.head.listed ss plan.setup.station
     ++ leap_lines names ss plan
 
+-- GLONASS is asked for and a 1012 of the station has a value, but there is no moment near which 1012 are dated right
+abbrev pub leaves_long : List CaptureSurvey → Plan → Bool
+leaves_long ss plan = plan.asked.glonass && (not plan.has_near_1012 && is_1012_given ss plan.setup.station)
+
 -- the captures that are dated near the others, or whose clocks fall
 abbrev pub undated_notes : List (Bor (List ℕ)) → List CaptureSurvey → Plan → List ℕ
-undated_notes names ss plan = undated_lines plan.span.source names plan.captures.items ++ all_clock_notes names plan.span.source plan.setup ss
+undated_notes names ss plan = undated_lines plan.span.source names plan.captures.items ++ all_clock_notes names plan.span.source (leaves_long ss plan) plan.setup ss
 
 -- everything before the line of late messages
 unfoldable pub lines_before_late : List (Bor (List ℕ)) → List CaptureSurvey → Plan → Equipment → List ℕ
@@ -220,10 +224,6 @@ unfoldable pub not_taken_by : Accepted → Bool → Bool → Bool → Bool → L
 not_taken_by taken has_1004 has_sbas has_doppler is_long ss station =
     obs_1004_line has_1004 ss station ++ msm_lines taken ss station ++ doppler_lines_unless has_doppler taken ss station ++ sbas_line has_sbas ss station
     ++ all_unread is_long taken ss
-
--- GLONASS is asked for and a 1012 of the station has a value, but there is no moment near which 1012 are dated right
-abbrev pub leaves_long : List CaptureSurvey → Plan → Bool
-leaves_long ss plan = plan.asked.glonass && (not plan.has_near_1012 && is_1012_given ss plan.setup.station)
 
 -- those that a conversion does not take; 1012 may be left out since they can't be dated
 abbrev pub not_taken : List CaptureSurvey → Bool → SetupView → List ℕ

@@ -22,7 +22,6 @@ use Rattle.rtk_survey.specs.declared.station.StationSurvey.{StationSurvey}
 use Rattle.rtk_survey.specs.Tracing.{times_of_week, newest_time, oldest_time}
 use Rattle.rtk_survey.specs.declared.system_msm.SystemMsm.{SystemMsm}
 use Rattle.rtk_survey.specs.declared.times_of_week.Times.{Times}
-use Rattle.rtk_survey.proofs.ChannelLineLemmas.{counted-as}
 use Rattle.rtk_survey.proofs.SystemLemmas.{any-codes-marked, epochs-beside-are}
 
 -- ---- codes
@@ -50,18 +49,18 @@ taken-is date s ms has clocks times =
 
 -- ---- channels
 
-slot-of-part : (o : Option SystemMsm) (own : List AnyMessage) (slot : ℕ) → slot < 28 → IsMsmKept own o → slot_in_part o slot ≡ has_index (cells_beside own) (32 + slot)
-slot-of-part None own slot within nothing = ap (λ (ms : List AnyMessage). has_index (cells_beside ms) (32 + slot)) (sym nothing)
-slot-of-part (Some p) own slot within is = is.signals.satellites (32 + slot) (let size = is.signals.satellites_size in omega (arith, within, size))
+slot-of-part : (o : Option SystemMsm) (own : List AnyMessage) (slot : ℕ) → IsMsmKept own o → slot_in_part o slot ≡ has_index (cells_beside own) (32 + slot)
+slot-of-part None own slot nothing = ap (λ (ms : List AnyMessage). has_index (cells_beside ms) (32 + slot)) (sym nothing)
+slot-of-part (Some p) own slot is = is.signals.satellites (32 + slot)
 
-slot-is : (s : StationSurvey) (ms : List AnyMessage) (slot n : ℕ) → slot < 28 → HasSystems s.system_msm ms → slot_held s slot n ≡ slot_numbered ms slot n
-slot-is s ms slot n within has = slot-of-part (get nat_cmp s.system_msm n) (messages_beside n ms) slot within (has n)
+slot-is : (s : StationSurvey) (ms : List AnyMessage) (slot n : ℕ) → HasSystems s.system_msm ms → slot_held s slot n ≡ slot_numbered ms slot n
+slot-is s ms slot n has = slot-of-part (get nat_cmp s.system_msm n) (messages_beside n ms) slot (has n)
 
-slots-are : (legacy : Bool) (s : StationSurvey) (ms : List AnyMessage) (slot : ℕ) → slot < 28 → HasSystems s.system_msm ms → slots_held legacy s slot ≡ slots_beside legacy ms slot
-slots-are legacy s ms slot within has =
+slots-are : (legacy : Bool) (s : StationSurvey) (ms : List AnyMessage) (slot : ℕ) → HasSystems s.system_msm ms → slots_held legacy s slot ≡ slots_beside legacy ms slot
+slots-are legacy s ms slot has =
     ap (λ (e : ℕ → ℕ). slot_held s slot (number_by e Glonass) || (legacy && slot_held s slot 1012)) (epochs-beside-are s ms has)
-    ∙ ap (λ (b : Bool). b || (legacy && slot_held s slot 1012)) (slot-is s ms slot (number_by (epochs_beside ms) Glonass) within has)
-    ∙ ap (λ (b : Bool). slot_numbered ms slot (number_by (epochs_beside ms) Glonass) || (legacy && b)) (slot-is s ms slot 1012 within has)
+    ∙ ap (λ (b : Bool). b || (legacy && slot_held s slot 1012)) (slot-is s ms slot (number_by (epochs_beside ms) Glonass) has)
+    ∙ ap (λ (b : Bool). slot_numbered ms slot (number_by (epochs_beside ms) Glonass) || (legacy && b)) (slot-is s ms slot 1012 has)
 
 same-some : (a b : ℕ) → Some a ≡ Some b → a ≡ b
 same-some a b same = cc
@@ -110,18 +109,18 @@ items-agree f g a (suc n) agree =
     items-agree f g (a + 1) n (λ k from lt. let below : a ≤ k = omega (arith, from) in let further : k < a + suc n = omega (arith, lt) in agree k below further) in
     ap (λ (t : List ℕ). t ++ flat_map f (range_with_len (a + 1) n)) (agree a low here) ∙ ap (λ (t : List ℕ). g a ++ t) rest
 
-items-are : (legacy : Bool) (s : StationSurvey) (ms : List AnyMessage) → HasSystems s.system_msm ms → CountsChannels s.channels.items ms
+items-are : (legacy : Bool) (s : StationSurvey) (ms : List AnyMessage) → HasSystems s.system_msm ms → CountsChannels s.channels ms
     → slot_items (slots_held legacy s) (fields_held s) ≡ slot_items (slots_beside legacy ms) (fields_told ms)
 unfolding slot_items
 items-are legacy s ms has counts =
     items-agree (slot_item (slots_held legacy s) (fields_held s)) (slot_item (slots_beside legacy ms) (fields_told ms)) 1 27
     (λ slot from lt.
     let within : slot < 28 = omega (arith, lt) in
-    item-agree (slots_held legacy s) (slots_beside legacy ms) (fields_held s) (fields_told ms) slot (slots-are legacy s ms slot within has)
-    (λ field few. counted-as s.channels.items ms slot field (record { first = from; last = within; few = omega (arith, few) }) counts))
+    item-agree (slots_held legacy s) (slots_beside legacy ms) (fields_held s) (fields_told ms) slot (slots-are legacy s ms slot has)
+    (λ field few. counts slot field (record { first = from; last = within; few = omega (arith, few) })))
 
 -- the options of GLONASS by what is held are those by the messages
-pub glonass-is : (date : Option UtcDate) (s : StationSurvey) (ms : List AnyMessage) → HasSystems s.system_msm ms → CountsChannels s.channels.items ms → s.times ≡ times_of (times_of_week ms)
+pub glonass-is : (date : Option UtcDate) (s : StationSurvey) (ms : List AnyMessage) → HasSystems s.system_msm ms → CountsChannels s.channels ms → s.times ≡ times_of (times_of_week ms)
     → glonass_held date s ≡ glonass_beside date ms
 glonass-is date s ms has counts times =
     ap (λ (b : Bool). glonass_options (slot_items (slots_held b s) (fields_held s)) b) (legacy-is date s ms has times)

@@ -1,8 +1,10 @@
 pub mod BesideGps
+pub mod BitMarks
 pub mod CaptureDates
 pub mod Chains
 pub mod Channels
 pub mod ClockLines
+pub mod ClockMarks
 pub mod ClockSpans
 pub mod Contents
 pub mod Counting
@@ -23,6 +25,7 @@ pub mod Nameless
 pub mod NextCommand
 pub mod NumberLaws
 pub mod Parting
+pub mod PhaseChannels
 pub mod Phases
 pub mod Placing
 pub mod Points

@@ -1,13 +1,11 @@
 //! What the frames of a capture hold, as far as they were read.
 
-ghost use Rattle.std.specs.Prelude.{◌≡◌, ◌+◌, ◌∷◌, [], List, ℕ, Option, Ok, Err, OnOk};
+ghost use Rattle.std.specs.Prelude.{◌≡◌, ◌+◌, ◌∷◌, [], List, Option, Ok, Err, OnOk};
 ghost use Rattle.std.specs.List.{cons_option};
 ghost use Rattle.rtk_bits.specs.Bits.{bits};
-ghost use Rattle.rtk_message.specs.AnyDecoded.{IsValid};
 ghost use Rattle.rtk_message.specs.declared.any_message.AnyMessage.{AnyMessage};
 ghost use Rattle.rtk_survey.specs.BesideGps.{cells_beside_gps};
 ghost use Rattle.rtk_survey.specs.Contents.{AreStations, CountsBeside, CountsWeeks, HasSystemTellings, HoldsFrames, others_held};
-ghost use Rattle.rtk_survey.specs.Counting.{shown_count};
 ghost use Rattle.rtk_survey.specs.DateMessages.{date_in};
 ghost use Rattle.rtk_survey.specs.EquipmentMessages.{equipment_in};
 ghost use Rattle.rtk_survey.specs.ReadFrames.{ReadFrame, read_frame};
@@ -112,16 +110,12 @@ fn take_equipment_in(
 }
 
 // Takes what a payload tells of weeks, channels or leap seconds, if it is such a message.
-fn take_tellings_in(
-    alloc: Global,
-    tellings: &mut SystemTellings,
-    payload: &[u8],
-) -> Result<(), AllocError>
+fn take_tellings_in(tellings: &mut SystemTellings, payload: &[u8]) -> Result<(), AllocError>
     ensures { OnOk result ((ts : List SystemMessage) → HasSystemTellings tellings.old ts
         → HasSystemTellings tellings.new (cons_option (system_message_in (bits payload.now)) ts)) }
 {
     match system_message_in(payload) {
-        Some(message) => tellings.take(alloc, &message),
+        Some(message) => tellings.take(&message),
         None => Ok(()),
     }
 }
@@ -175,7 +169,6 @@ impl Contents {
         entries: &[CellEntry],
         signals: &[SignalEntry],
     ) -> Result<(), AllocError>
-        requires valid { IsValid message.now }
         requires entries { entries.now ≡ entries_of_message message.now }
         requires signals { signals.now ≡ cells_beside_gps message.now }
         ensures { OnOk result ((q : Option Target) (before : List ReadFrame) → HoldsFrames q before self.old
@@ -210,7 +203,7 @@ impl Contents {
         self.unread.count_fault(fault)?;
         take_target_fault(&mut self.target, payload, frame);
         take_dates_in(alloc, &mut self.stations, &mut self.weeks, payload)?;
-        take_tellings_in(alloc, &mut self.system_tellings, payload)?;
+        take_tellings_in(&mut self.system_tellings, payload)?;
         take_equipment_in(alloc, &mut self.stations, payload)
     }
 }

@@ -37,11 +37,13 @@
 #![tactic(auto)]
 
 mod beside_gps;
+mod bit_marks;
 mod capture_dates;
 mod channel_lines;
 mod channels;
 mod clock_chains;
 mod clock_lines;
+mod clock_marks;
 mod clock_spans;
 mod contents;
 mod counting;
@@ -65,6 +67,7 @@ mod msm_parts;
 mod nameless;
 mod next_command;
 mod parting;
+mod phase_channels;
 mod phases;
 mod placing;
 mod points;
@@ -98,6 +101,7 @@ mod wrong_clocks;
 
 pub use beside_gps::is_beside_gps;
 pub use beside_gps::told_time;
+pub use bit_marks::BitMarks;
 pub use capture_dates::CaptureDates;
 pub use channel_lines::put_field_channel;
 pub use channels::count_of_field;
@@ -109,7 +113,10 @@ pub use clock_chains::ClockTold;
 pub use clock_chains::DayOffset;
 pub use clock_lines::compared_clocks;
 pub use clock_lines::put_clock_line;
+pub use clock_lines::table_seconds_at;
 pub use clock_lines::told_offset;
+pub use clock_marks::ClockMarks;
+pub use clock_marks::opened_moment;
 pub use clock_spans::ClockSpan;
 pub use clock_spans::FollowedClock;
 pub use clock_spans::FollowedSpan;
@@ -196,6 +203,7 @@ pub use target::EquipmentTimes;
 pub use target::Target;
 pub use target::TargetDates;
 pub use target::TargetSurvey;
+pub use target::marks_if_known;
 pub use telling::dated;
 pub use telling::is_date;
 pub use telling::moment_of;

@@ -39,7 +39,7 @@ LEAST_BESIDE, MOST_BESIDE = 98_000, 103_000
 # the stations and one kind of messages.
 LEAST_OF_SUMMARY, MOST_OF_SUMMARY = 88_000, 93_000
 LEAST_OF_AUTO, MOST_OF_AUTO = -10_000, 2_000
-CAPTURE = 3_300 + 14_000 + 8_500
+CAPTURE = 2_500 + 15_000 + 8_500
 
 # The sizes of an input: a vector that doubles has just the room that it needs. A file of as many
 # records has a picture of 1,440 columns, of 11 seconds or of 22.

@@ -1,8 +1,0 @@
-use Rattle.std.proofs.Common.{◌≡◌, ◌<◌, ℕ}
-use Rattle.rtk_obs.specs.Carriers.{IsSlot, channel_at}
-use Rattle.rtk_survey.specs.SystemPhases.{phase_channel}
-use Rattle.rtk_survey.proofs.system_phases.phase_channels.Given as goal
-
--- the slots before this one have their channels
-abbrev pub invariant-loop-slot : goal.invariant-loop-slot
-invariant-loop-slot l = (s : ℕ) → IsSlot s → s < l.slot → channel_at l.channels s ≡ phase_channel l.message s
