@@ -71,11 +71,24 @@ def is_given_leap_seconds(found: Found) -> bool:
     return found.chosen.leap is not None
 
 
+def names_the_day_of_1012(found: Found) -> bool:
+    return found.days != {}
+
+
+def has_clocks_without_a_date(found: Found) -> bool:
+    return found.unnamed != []
+
+
+def puts_a_capture_without_epochs_behind_another(found: Found) -> bool:
+    return any(at in found.without for link in found.links for at in link[1:])
+
+
 MARKS = (
     has_three_systems, leaves_a_wrong_clock_out, keeps_a_clock_that_is_off, tells_a_clock_of_glonass, takes_kinds_that_differ,
     takes_several_links_of_several_systems, takes_channels, takes_a_channel_of_1020, lacks_some_channels, has_no_channel,
     is_told_several_channels_of_a_slot, is_told_a_channel_that_no_file_has, is_told_channels_alike, is_told_another_channel_than_is_given,
-    is_given_leap_seconds,
+    is_given_leap_seconds, names_the_day_of_1012, has_clocks_without_a_date,
+    puts_a_capture_without_epochs_behind_another,
 )  # fmt: skip
 
 

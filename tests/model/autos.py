@@ -10,18 +10,31 @@ from auto_lines import Asked, auto_text, name_of, refusal_pattern
 from captures import LAST_MADE
 from choosing import Wanted
 from finding import Found, Stopped, find
+from messages import frames_of
 from mixed_captures import names_of, some_letters
 from mixed_model import Options, convert_mixed
 from model import Setup
+from msm import LEGACY_GLONASS
 from program import Ended
 from properties import HOLDS, Answer, Case, ends_with, pieces_of, with_dates
 from systems import KINDS, LETTERS
 from wire import WEEK_MS
 
 
+# The messages of GLONASS and BeiDou, which give no epoch.
+WITHOUT_EPOCH = {LEGACY_GLONASS, *range(1081, 1088), *range(1121, 1128)}
+
+
+def gives_no_epoch(piece: bytes) -> bool:
+    return any(int.from_bytes(it.payload[:2], "big") >> 4 in WITHOUT_EPOCH for it in frames_of(piece))
+
+
 def parts_of(rng: Random, text: bytes) -> list[bytes]:
-    """One part, or up to three, cut behind frames."""
+    """One part, or up to three, cut behind frames; or one of the messages that give no epoch, and one of the others."""
     pieces = pieces_of(text)
+    alone = [it for it in pieces if gives_no_epoch(it)]
+    if alone and len(alone) < len(pieces) and rng.random() < 0.3:
+        return [b"".join(alone), b"".join(it for it in pieces if it not in alone)]
     cuts = sorted(rng.choices(range(len(pieces)), k=rng.choice((0, 0, 1, 2))))
     return [b"".join(pieces[at:end]) for at, end in zip([0, *cuts], [*cuts, len(pieces)])]
 

@@ -459,6 +459,21 @@ python3 "$here/framed.py" $R12_LATER 3F5002E5F965F40048 >of_other.rtcm
 # pins: day_line
 for capture in of_1012 of_other; do run auto --made $made --marker BASE of_gps.rtcm $capture.rtcm; grep '^ day-of-1012' err; done >told
 echo ' day-of-1012 2020-01-25T14:30:00 by 1013 of station 2 in of_other.rtcm' >want; same auto_day_of_1012 told want
+# With --near the week of both is that of the words, whatever week the message names, which the line tells as it is.
+run auto --near 2015-06-06T00:00:00 --made $made --marker BASE of_gps.rtcm of_other.rtcm; grep '^>' out | cut -c 1-29 >told; grep '^ day-of-1012' err >>told
+printf '> 2015 06 06 02 16  0.0000000\n> 2015 06 06 14 30 16.0000000\n' >want
+echo ' day-of-1012 2020-01-25T14:30:00 by 1013 of station 2 in of_other.rtcm' >>want; same auto_day_of_1012_in_another_week told want
+# Without a date the middle of the 1012 is near the middle of the epochs, here of 02:16 and 14:00. One 1012 of 14:30:00 UTC is of
+# the same day, though that is more than half a day behind the first epoch. One of 02:15:42 behind it makes it one of the day before.
+G05_14_H=3EC001879CCC0210141E848000000291AC08002000000000
+python3 "$here/framed.py" 3F5001E5F90FE70048 $G05_1004 $G05_14_H >of_hours.rtcm
+# pins: midway, middle_of_span, placed_in_middle
+for more in '' $R12_1012; do
+    python3 "$here/framed.py" $R12_LATER $more >of_middle.rtcm
+    run auto --made $made --marker BASE of_hours.rtcm of_middle.rtcm; grep '^>' out | cut -c 1-29
+done >told
+printf '> 2020 01 %s.0000000\n' '25 02 16  0' '25 14 00  0' '25 14 30 18' '24 14 30 18' '25 02 16  0' '25 14 00  0' >want
+same auto_1012_in_the_middle told want
 # No word tells the day of 1012: --near tells the week.
 python3 "$here/framed.py" $R12_LATER >of_none.rtcm; run auto --near 2020-01-25T00:00:00 --made $made --marker BASE of_gps.rtcm of_none.rtcm
 grep '^ undated' err >told; echo ' undated of_none.rtcm: dated near the others' >want; same auto_1012_of_no_day told want
