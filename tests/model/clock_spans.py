@@ -20,8 +20,16 @@ DAY = "day"  # the clock of GLONASS without a day
 CLOCKS = (GLONASS.letter, BEIDOU.letter, DAY)
 
 
+class Marked(NamedTuple):
+    """A message, with the moment of the epoch that it gives if it gives one; or a date that the station names."""
+
+    message: Message | None
+    epoch: int | None = None
+    date: int | None = None
+
+
 class Going(NamedTuple):
-    """The moments of the messages of a clock with values, in their order, and whether an epoch came before the last of them."""
+    """The moments of the messages of a clock with values, in their order, and whether epochs or dates of the station date them."""
 
     moments: list[int]
     is_dated: bool
@@ -64,16 +72,21 @@ def moved(moments: list[int], last: int) -> list[int]:
     return [it + last - moments[-1] for it in moments]
 
 
-def going(clock: str, messages: Iterable[tuple[Message, int | None]]) -> Going:
-    """How a clock goes in the messages of a station, which come with the moment of the epoch that they give, if they give one."""
+# pins: marks_with_date, is_marked_by
+def going(clock: str, entries: Iterable[Marked]) -> Going:
+    """How a clock goes in the messages of a station, between its epochs, or before the first of them between its dates."""
     moments: list[int] = []
     first = last = seen = None
-    for message, epoch in messages:
-        if epoch is not None:
-            first, last = epoch if first is None else first, epoch
+    has_epoch = False
+    for message, epoch, date in entries:
+        mark = epoch if epoch is not None else None if has_epoch else date
+        if epoch is not None and not has_epoch:
+            has_epoch, first, seen = True, epoch, None
+        if mark is not None:
+            first, last = mark if first is None else first, mark
             continue
-        told = clock_of_message(message)
-        if told is None or told[0] != clock or not names_in(message):
+        told = None if message is None else clock_of_message(message)
+        if message is None or told is None or told[0] != clock or not names_in(message):
             continue
         if moments and seen is None and first is not None:
             moments = moved(moments, nearest(clock, first, moments[-1]))
@@ -87,8 +100,12 @@ def going(clock: str, messages: Iterable[tuple[Message, int | None]]) -> Going:
     return Going(moments, seen is not None)
 
 
-# pins: clock_lead, placed_clock_span
-def placed(clock: str, it: Going, near: int, seconds: int) -> list[int]:
-    """The moments of a clock; those that no epoch dates are dated near this moment."""
-    moments = it.moments if it.is_dated else moved(it.moments, it.moments[-1] + nearest(clock, near, it.moments[0]) - it.moments[0])
+# pins: clock_lead, placed_clock_span, placed_in_middle
+def placed(clock: str, it: Going, told: int | None, middle: int, seconds: int) -> list[int]:
+    """The moments of a clock. If nothing dates them, the first is near the moment that another message tells, or else their middle is
+    near that of the epochs."""
+    moments, half = it.moments, (min(it.moments) + max(it.moments)) // 2
+    if not it.is_dated:
+        steps = nearest(clock, middle, half) - half if told is None else nearest(clock, told, moments[0]) - moments[0]
+        moments = [at + steps for at in moments]
     return [at + 1000 * seconds * (clock != BEIDOU.letter) for at in moments]

@@ -19,7 +19,7 @@ from typing import NamedTuple
 import stages
 from channels import orbit_of, phase_channels
 from choosing import Allowed, Chosen, Sent, Wanted, choose, has_value_of_1012, leap_of
-from clock_spans import CLOCKS, DAY, Going, going, placed
+from clock_spans import CLOCKS, DAY, Going, Marked, going, placed
 from clocks import leap_seconds_at, near_of_span
 from equipment import equipment_of
 from messages import Refusal, frames_of
@@ -516,14 +516,19 @@ def find(texts: list[bytes], now: int, wanted: Wanted = Wanted()) -> Found:
     if any(not -HALF_WEEK_MS <= it - near < HALF_WEEK_MS for of in epochs for it in of):
         raise Stopped("give them in parts")
     by = min(dating, default=None, key=lambda it: it.first)
-    links = links_of(epochs, wanted.as_given)
     every = [it for of in epochs for it in of]
     span, sent = (min(every), max(every)), [it.sent(number) for it in captures]
     leap = leap_of(sent, span, near, wanted)
     seconds = leap_seconds_at(near) if leap is None else leap
-    clocks = [clocks_in(capture, number, of) for capture, of in zip(captures, epochs)]
-    owns = [None if wanted.near is not None or of else named_moment(now, capture, number) for capture, of in zip(captures, epochs)]
-    moments = [{it: placed(it, its, near if own is None else own.first, seconds) for it, its in of.items()} for of, own in zip(clocks, owns)]
+    dates = [own_dates(now, capture, number, wanted.near) for capture in captures]
+    clocks = [clocks_in(capture, number, of, own) for capture, of, own in zip(captures, epochs, dates)]
+    owns = [None if of else named_moment(now, capture, number) for capture, of in zip(captures, epochs)]
+    named = [None if own is None else in_week_of(wanted.near, own.first) for own in owns]
+    half = sum(span) // 2
+    leap_now = leap_seconds_at(near)
+    alone = [[at for it, its in of.items() for at in placed(it, its, own, half, leap_now)] for of, own in zip(clocks, named)]
+    links = links_of([of or other for of, other in zip(epochs, alone)], wanted.as_given)
+    moments = [{it: placed(it, its, own, half, seconds) for it, its in of.items()} for of, own in zip(clocks, named)]
     middle = near_with_1012(every, clocks, moments) if stages.TAKES_1012 else None
     orbits = [it for capture in everything for it in capture.orbits]
     allowed = Allowed(span, near, middle is not None)
@@ -539,20 +544,40 @@ def find(texts: list[bytes], now: int, wanted: Wanted = Wanted()) -> Found:
     messages = [it for capture in captures for it in capture.of_station(number)]
     letters = {*chosen.letters, *[DAY] * chosen.with_1012}
     taken = [{it: its for it, its in of.items() if it in letters} for of in clocks]
+    leaves_1012 = middle is None and GLONASS.letter in wanted.letters and any(has_value_of_1012(it) for it in messages)
+    undated = [own is None and not of and bool(it or leaves_1012 and DAY in clock) for own, of, it, clock in zip(owns, epochs, taken, clocks)]
     return Found(
         number, chosen, near, None if by is None else by.fields, [[places[at] for at in link] for link in links], epochs,
         [places[at] for at, of in enumerate(epochs) if not of], skipped, few_phases(captures, number, wanted.station, chosen), stray_of(epochs, places),
-        middle is None and GLONASS.letter in wanted.letters and any(has_value_of_1012(it) for it in messages),
-        [] if wanted.near is not None else [at for at, own, of, it in zip(places, owns, epochs, taken) if it and own is None and not of],
+        leaves_1012, [at for at, is_undated in zip(places, undated) if is_undated and wanted.near is None],
         [at for at, of, it in zip(places, epochs, taken) if any(its.falls for its in it.values()) and of == sorted(of)],
     )
 
 
-def clocks_in(capture: Capture, station: int, epochs: list[int]) -> dict[str, Going]:
+def in_week_of(near: int | None, at: int) -> int:
+    """The moment, or if one is given the moment with its time of week near that."""
+    return at if near is None else dated(near, at % WEEK_MS)
+
+
+# pins: own_reference, week_by
+def own_dates(now: int, capture: Capture, station: int, near: int | None) -> dict[int, int]:
+    """The moments that 1013 and 1029 of the station name, by their places. If a moment is given, it tells the week of the first."""
+    named = {at: moment_named(now, it) for at, it in waiting_in(capture) if it.get("station") == station}
+    dates = {at: it for at, it in named.items() if it is not None and FIRST_NEAR <= it <= LAST_NEAR}
+    steps = [in_week_of(near, it) - it for it in dates.values()]
+    return {at: it + steps[0] for at, it in dates.items()}
+
+
+def clocks_in(capture: Capture, station: int, epochs: list[int], dates: dict[int, int]) -> dict[str, Going]:
     """How the clocks of GLONASS and BeiDou of the station go that have a message with a value."""
     dated_by = iter(epochs)
-    messages = [(it, next(dated_by) if capture.observes(station, it) else None) for it in capture.of_station(station)]
-    goings = {clock: going(clock, messages) for clock in CLOCKS}
+    entries = []
+    for at, it in enumerate(capture.read):
+        if at in dates:
+            entries.append(Marked(None, date=dates[at]))
+        elif isinstance(it, Message) and it.header["station"] == station:
+            entries.append(Marked(it, next(dated_by) if capture.observes(station, it) else None))
+    goings = {clock: going(clock, entries) for clock in CLOCKS}
     return {clock: it for clock, it in goings.items() if it.moments}
 
 
@@ -576,7 +601,7 @@ def stop_if_far(near: int, letters: str, clocks: list[dict[str, Going]], moments
 
 def links_of(epochs: list[list[int]], as_given: bool = False) -> list[list[int]]:
     """The captures by links, each by its place: the earlier ones first, and each behind the first link that has ended when it
-    begins. Those without epochs come before all of the first link."""
+    begins, by their epochs, or else by their clocks. Those without either come before all of the first link."""
     if as_given:
         return [[at] for at in range(len(epochs))]
     order = sorted((min(of), max(of), at) for at, of in enumerate(epochs) if of)

@@ -386,14 +386,14 @@ position=$no_position
 # seen, but what follows it seems to come before.
 of_glonass=" unchecked R\n no-channel R03: give --channels, as a header's GLONASS SLOT / FRQ # of the same days has them\n"
 glonass_command="$(command $noon 1C,2W,R1C) --channels none"
-finds 'glonass one' "$two 1013" "cat glonass one | $glonass_command stdin" '5 1 0 0 4 0 0 0 2' 0 '' \
+finds 'glonass one' "$two 1013" "$glonass_command glonass one" '5 1 0 0 4 0 0 0 2' 0 '' \
     " undated glonass: dated near the others\n$of_glonass no-epoch glonass"
-finds '--near 2024-05-17T12:00:00 glonass one' "$two --near" "cat glonass one | $glonass_command stdin" '5 1 0 0 4 0 0 0 2' 0 '' "$of_glonass no-epoch glonass"
-finds 'glonass_2_days one' "$noon until 2024-05-19T12:00:00 by 1013" "cat glonass_2_days one | $glonass_command stdin" '5 2 0 0 3 0 0 0 3' 0 '' \
+finds '--near 2024-05-17T12:00:00 glonass one' "$two --near" "$glonass_command glonass one" '5 1 0 0 4 0 0 0 2' 0 '' "$of_glonass no-epoch glonass"
+finds 'glonass_2_days one' "$noon until 2024-05-19T12:00:00 by 1013" "cat one glonass_2_days | $glonass_command stdin" '5 2 0 0 3 0 0 0 3' 0 '' \
     " gap 2024-05-17T12:00:01 until 2024-05-19T12:00:00\n$of_glonass no-epoch glonass_2_days"
 finds '--near 2024-05-17T12:00:00 glonass_4_days one' "2024-05-14T12:00:00 until 2024-05-17T12:00:01 by --near" "cat glonass_4_days one | $glonass_command stdin" '6 2 0 0 4 0 0 0 4' 0 '' \
     " gap 2024-05-14T12:00:01 until 2024-05-17T12:00:00\n other-date 2024-05-24T12:00:00 by 1013 of station 2003 in glonass_4_days\n$of_glonass no-epoch glonass_4_days"
-finds '--systems G glonass_4_days one' "$two 1013" "cat glonass_4_days one | $one_command stdin" '6 4 0 0 2 0 0 0 2' 0 '' \
+finds '--systems G glonass_4_days one' "$two 1013" "cat one glonass_4_days | $one_command stdin" '6 4 0 0 2 0 0 0 2' 0 '' \
     ' other-date 2024-05-24T12:00:00 by 1013 of station 2003 in glonass_4_days\n no-epoch glonass_4_days\n not in the file: GLONASS 1084, 2 messages'
 finds glonass_on "$noon until 2024-05-20T23:59:59 by 1013" "$glonass_command glonass_on" '6 1 0 0 5 0 0 0 4' 0 '' \
     " gap 2024-05-17T12:00:01 until 2024-05-19T12:00:00\n gap 2024-05-19T12:00:00 until 2024-05-20T23:59:59\n${of_glonass%\\n}"

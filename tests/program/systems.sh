@@ -446,6 +446,15 @@ python3 "$here/framed.py" $G05_1004 $ABOVE_1012 >above.rtcm; run summary above.r
 python3 "$here/framed.py" $G05_1004 $R12_1012 >within.rtcm; run summary within.rtcm; grep '^ channels' out >told; echo ' channels 12:-1' >want; same summary_of_a_channel told want
 # A lone 1012 before the first epoch counts too: a second before it, and not nearly a day after it.
 legacy with_a_lone_1012 2020-01-25T02:16:02 '1C,R1C,R2P --window 4096 --channels 12:-1 --with-1012' $R12_1012 $G05_3_S
+# A capture of 1012 alone is of the day of the 1013 in it, wherever this stands, and also beside --near: here of 14:30:00 UTC.
+R12_LATER=3F40017829B800818318EAEE800097221CA7FACFF289C97E
+AT_1430=3F5001E5F965F40048
+python3 "$here/framed.py" $G05_1004 >of_gps.rtcm; python3 "$here/framed.py" $R12_LATER $AT_1430 >of_1012.rtcm
+# pins: own_reference, week_by
+for near_ in '' '--near 2020-01-25T00:00:00'; do
+    run auto $near_ --made $made --marker BASE of_gps.rtcm of_1012.rtcm; grep '^>' out | cut -c 1-29 >told
+    printf '> 2020 01 25 02 16  0.0000000\n> 2020 01 25 14 30 18.0000000\n' >want; same "auto_1012_alone${near_% *}" told want
+done
 # `summary` says the word where the times lie near the date of a 1013: of the same day, and not of half a day later.
 next_of() { python3 "$here/framed.py" "$@" >dated.rtcm; run summary dated.rtcm; sed -n 's/^ next .* --codes //p' out >told; }
 # pins: is_time_near, words_with_1012

@@ -1,13 +1,12 @@
 -- How the captures of the station are grouped in links (this project's rule). A link is the list of the
 -- places of its captures.
-use Rattle.std.specs.Prelude.{◌≡◌, ℕ, ◌-◌, ◌==◌, slice_get, Bool, true, false, not, List, [], ◌∷◌, length, map, filter, flat_map, Option, None, Some, if◌then◌else◌}
+use Rattle.std.specs.Prelude.{ℕ, ◌-◌, ◌==◌, slice_get, Bool, true, false, not, List, [], ◌∷◌, length, map, filter, flat_map, Option, None, Some, if◌then◌else◌}
 use Rattle.std.specs.List.{range_with_len}
 use Rattle.rtk_survey.specs.declared.placing.Placed.{Placed}
 use Rattle.rtk_captures.specs.Joining.{in_order, links_of}
 use Rattle.rtk_captures.specs.declared.station_capture.StationCapture.{StationCapture}
 use Rattle.rtk_captures.specs.declared.joining.Ordered.{Ordered}
 use Rattle.rtk_captures.specs.Kept.{is_heard_at, kept_captures}
-use Rattle.rtk_captures.specs.Dating.{ArePlaced}
 
 -- ---- captures that follow one another are joined
 
@@ -55,10 +54,3 @@ one_place place = place ∷ []
 
 abbrev pub links_as_given : List StationCapture → List (List ℕ)
 links_as_given cs = map one_place (kept_captures cs)
-
--- ---- the links of a plan
-
--- the links of captures that are dated near this moment, or by what they tell; or each capture is a link
-abbrev pub AreLinksOf : Bool → Option ℕ → List StationCapture → List (List ℕ) → Type 0
-AreLinksOf true given cs links = links ≡ links_as_given cs
-AreLinksOf false given cs links = (placed : List (Option Placed)) × ArePlaced given cs placed × (links ≡ links_found cs placed)

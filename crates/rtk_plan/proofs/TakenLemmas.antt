@@ -11,9 +11,14 @@ use Rattle.rtk_captures.specs.Kept.{is_heard, is_heard_at, places_from, kept_cap
 use Rattle.rtk_plan.specs.LeftOut.{left_out_lines}
 use Rattle.rtk_plan.specs.KnownLines.{leaves_long, skipped_line, skipped_lines, epochs_lines, not_taken, lines_behind_late, late_count_line, known_lines}
 use Rattle.rtk_survey.specs.Surveys.{places_of}
-use Rattle.rtk_captures.specs.Linking.{kept_in_order, captures_of_link, is_nonempty, joined_links, links_found, one_place, links_as_given, AreLinksOf}
+use Rattle.rtk_captures.specs.Linking.{kept_in_order, captures_of_link, is_nonempty, joined_links, links_found, one_place, links_as_given}
+use Rattle.rtk_plan.specs.LinkPlaces.{places_among_links, AreLinksOf}
+use Rattle.rtk_plan.specs.ClockReach.{middle_of, clock_dating}
+use Rattle.rtk_plan.specs.declared.clock_reach.ClockDating.{ClockDating}
+use Rattle.rtk_survey.specs.declared.survey.CaptureSurvey.{CaptureSurvey}
+use Rattle.rtk_captures.specs.Dating.{captures_of}
+use Rattle.rtk_captures.specs.StationCaptures.{capture_of}
 use Rattle.rtk_plan.specs.Laws.{times, own_places, times_taken, IsInText, EachIsTakenOnce, EachIsLeftOutOnce, LeftOutIsTold}
-use Rattle.rtk_captures.specs.Reach.{placed_if_any}
 use Rattle.rtk_captures.specs.declared.joining.Ordered.{Ordered}
 use Rattle.rtk_survey.specs.declared.placing.Placed.{Placed}
 use Rattle.rtk_captures.specs.declared.station_capture.StationCapture.{StationCapture}
@@ -284,18 +289,23 @@ other-way (c ∷ cs) (suc k) lt = other-way cs k (omega (arith, lt))
 pub empty-take : (cs : List StationCapture) (p : ℕ) → p < length cs → times p (empty_captures cs) ≡ (if is_heard_at cs p then 0 else 1)
 empty-take cs p lt = places-at (λ c. not (is_heard c)) 0 p p cs (omega arith) lt ∙ other-way cs p lt
 
+as-many-places : (way : ClockDating) (ps : List (Option Placed)) (at : ℕ) (ss : List CaptureSurvey) → length (places_among_links way ps at ss) ≡ length ss
+as-many-places way ps at [] = refl
+as-many-places way ps at (s ∷ ss) = ap suc (as-many-places way ps (at + 1) ss)
+
 -- the links of a plan
-links-take : (as_given : Bool) (given : Option ℕ) (cs : List StationCapture) (links : List (List ℕ)) → AreLinksOf as_given given cs links
-    → (p : ℕ) → p < length cs → times_taken p links ≡ (if is_heard_at cs p then 1 else 0)
-links-take true given cs links is p lt = ap (λ (ls : List (List ℕ)). times_taken p ls) is ∙ as-given-take cs p lt
-links-take false given cs links is p lt =
-    let placed = is.0 in
-    let base = is.1.0 in
-    let each : length placed ≡ length cs = ap (λ (ps : List (Option Placed)). length ps) is.1.2 ∙ length-map cs (placed_if_any base) in
-    ap (λ (ls : List (List ℕ)). times_taken p ls) is.2 ∙ found-take cs placed p each lt
+links-take : (as_given : Bool) (given : Option ℕ) (ss : List CaptureSurvey) (station : ℕ) (links : List (List ℕ)) → AreLinksOf as_given given ss station links
+    → (p : ℕ) → p < length (captures_of ss station) → times_taken p links ≡ (if is_heard_at (captures_of ss station) p then 1 else 0)
+links-take true given ss station links is p lt = ap (λ (ls : List (List ℕ)). times_taken p ls) is ∙ as-given-take (captures_of ss station) p lt
+links-take false given ss station links is p lt =
+    let cs : List StationCapture = captures_of ss station in
+    let way : ClockDating = clock_dating given station is.2.2.2.0 (middle_of is.2.0.from is.2.0.until) in
+    let places : List (Option Placed) = places_among_links way is.0 0 ss in
+    let each : length places ≡ length cs = as-many-places way is.0 0 ss ∙ sym (length-map ss (capture_of station)) in
+    ap (λ (ls : List (List ℕ)). times_taken p ls) is.2.2.2.2 ∙ found-take cs places p each lt
 
 pub each-taken-once : EachIsTakenOnce
-each-taken-once as_given given cs links is place lt = links-take as_given given cs links is place lt
+each-taken-once as_given given ss station links is place lt = links-take as_given given ss station links is place lt
 
 pub each-left-out-once : EachIsLeftOutOnce
 each-left-out-once cs place lt = empty-take cs place lt

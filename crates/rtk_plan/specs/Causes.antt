@@ -10,7 +10,7 @@ use Rattle.rtk_setup.specs.Setup.{SetupView}
 use Rattle.rtk_setup.specs.declared.system_kinds.SystemKinds.{SystemKinds}
 use Rattle.rtk_survey.specs.declared.survey.CaptureSurvey.{CaptureSurvey}
 use Rattle.rtk_captures.specs.declared.station_capture.StationCapture.{StationCapture}
-use Rattle.rtk_captures.specs.Linking.{AreLinksOf}
+use Rattle.rtk_plan.specs.LinkPlaces.{AreLinksOf}
 use Rattle.rtk_plan.specs.Plan.{IsChosenStation, kinds_found, AreSystemsTaken, AreCodesChosen, AreLeapSecondsOf, IsNear1012, HaveFarClocks, IsSetupFor, codes_taken_from}
 use Rattle.rtk_captures.specs.Dating.{captures_of, IsNearOf}
 use Rattle.rtk_captures.specs.Positions.{some_are_far}
@@ -82,12 +82,12 @@ AreClocksFar ss w station =
 abbrev pub IsCaptureCause : List CaptureSurvey → Wanted → Bool → Bool → ℕ → List StationCapture → Refusal → Type 0
 IsCaptureCause ss w skip_empty as_given station cs (Empty n) = IsEmptyCause station cs skip_empty (Empty n)
 IsCaptureCause ss w skip_empty as_given station cs NoCode =
-    (links : List (List ℕ)) × AreLinksOf as_given w.near cs links × HasNoCodeNear ss links w station cs
+    (links : List (List ℕ)) × AreLinksOf as_given w.near ss station links × HasNoCodeNear ss links w station cs
 IsCaptureCause ss w skip_empty as_given station cs (NoRates letter) =
-    (links : List (List ℕ)) × AreLinksOf as_given w.near cs links × HasNoRatesNear ss links w station letter cs
+    (links : List (List ℕ)) × AreLinksOf as_given w.near ss station links × HasNoRatesNear ss links w station letter cs
 IsCaptureCause ss w skip_empty as_given station cs TooLong = IsDatingCause w.near cs TooLong ⊎ AreClocksFar ss w station
 IsCaptureCause ss w skip_empty as_given station cs TooManyLinks =
-    (links : List (List ℕ)) × AreLinksOf as_given w.near cs links × (16 < length links)
+    (links : List (List ℕ)) × AreLinksOf as_given w.near ss station links × (16 < length links)
 IsCaptureCause ss w skip_empty as_given station cs PositionsDiffer = (as_given ≡ false) × (some_are_far cs ≡ true)
 IsCaptureCause ss w skip_empty as_given station cs refusal = IsDatingCause w.near cs refusal
 

@@ -41,10 +41,14 @@ is_by_words (OtherEphemerides number) = false
 abbrev pub tells_no_date : DateSource → StationCapture → Bool
 tells_no_date source c = not (is_by_words source) && (is_none c.span && is_none c.moment)
 
--- such a capture has clocks that are converted
-abbrev pub undated_clock_line : DateSource → TakenClocks → Bool → StationCapture → StationClocks → List ℕ → List ℕ
-undated_clock_line source taken takes_1012 c s name =
-    if tells_no_date source c && has_taken_clock taken takes_1012 s then undated_line name else []
+-- a clock that is converted has messages with values, or one of 1012 that are left out since they can't be dated
+abbrev pub has_noted_clock : TakenClocks → Bool → Bool → StationClocks → Bool
+has_noted_clock taken takes_1012 leaves_1012 s = has_taken_clock taken takes_1012 s || (leaves_1012 && is_some s.glonass_day)
+
+-- such a capture has such clocks
+abbrev pub undated_clock_line : DateSource → TakenClocks → Bool → Bool → StationCapture → StationClocks → List ℕ → List ℕ
+undated_clock_line source taken takes_1012 leaves_1012 c s name =
+    if tells_no_date source c && has_noted_clock taken takes_1012 leaves_1012 s then undated_line name else []
 
 abbrev pub epochs_fall : Option Span → Bool
 epochs_fall None = false
@@ -57,14 +61,14 @@ falling_clock_line taken takes_1012 c s name =
     if taken_clock_falls taken takes_1012 s && not (epochs_fall c.span) then name_line (codes " time-falls ") name else []
 
 -- both lines of a capture
-unfoldable pub clock_notes : DateSource → TakenClocks → Bool → StationCapture → StationClocks → List ℕ → List ℕ
-clock_notes source taken takes_1012 c s name =
-    undated_clock_line source taken takes_1012 c s name ++ falling_clock_line taken takes_1012 c s name
+unfoldable pub clock_notes : DateSource → TakenClocks → Bool → Bool → StationCapture → StationClocks → List ℕ → List ℕ
+clock_notes source taken takes_1012 leaves_1012 c s name =
+    undated_clock_line source taken takes_1012 leaves_1012 c s name ++ falling_clock_line taken takes_1012 c s name
 
-abbrev pub clock_notes_in : ℕ → DateSource → TakenClocks → Bool → CaptureSurvey → List ℕ → List ℕ
-clock_notes_in station source taken takes_1012 s name = clock_notes source taken takes_1012 (capture_of station s) (clocks_in_survey station s) name
+abbrev pub clock_notes_in : ℕ → DateSource → TakenClocks → Bool → Bool → CaptureSurvey → List ℕ → List ℕ
+clock_notes_in station source taken takes_1012 leaves_1012 s name = clock_notes source taken takes_1012 leaves_1012 (capture_of station s) (clocks_in_survey station s) name
 
 -- those of all captures, by the setup of their conversion
-abbrev pub all_clock_notes : List (Bor (List ℕ)) → DateSource → SetupView → List CaptureSurvey → List ℕ
-all_clock_notes names source s ss =
-    lines_by (λ at survey. clock_notes_in s.station source (clocks_taken s.head.listed) s.takes_1012 survey (capture_name names at)) 0 ss
+abbrev pub all_clock_notes : List (Bor (List ℕ)) → DateSource → Bool → SetupView → List CaptureSurvey → List ℕ
+all_clock_notes names source leaves_1012 s ss =
+    lines_by (λ at survey. clock_notes_in s.station source (clocks_taken s.head.listed) s.takes_1012 leaves_1012 survey (capture_name names at)) 0 ss

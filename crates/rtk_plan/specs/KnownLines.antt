@@ -154,9 +154,13 @@ clock_lines_of names ss plan =
     told_clock_lines plan.asked ss plan.setup.station plan.leap_seconds ++ unchecked_system_lines plan.setup.head.listed ss plan.setup.station
     ++ leap_lines names ss plan
 
+-- GLONASS is asked for and a 1012 of the station has a value, but there is no moment near which 1012 are dated right
+abbrev pub leaves_long : List CaptureSurvey → Plan → Bool
+leaves_long ss plan = plan.asked.glonass && (not plan.has_near_1012 && is_1012_given ss plan.setup.station)
+
 -- the captures that are dated near the others, or whose clocks fall
 abbrev pub undated_notes : List (Bor (List ℕ)) → List CaptureSurvey → Plan → List ℕ
-undated_notes names ss plan = undated_lines plan.span.source names plan.captures.items ++ all_clock_notes names plan.span.source plan.setup ss
+undated_notes names ss plan = undated_lines plan.span.source names plan.captures.items ++ all_clock_notes names plan.span.source (leaves_long ss plan) plan.setup ss
 
 -- everything before the line of late messages
 unfoldable pub lines_before_late : List (Bor (List ℕ)) → List CaptureSurvey → Plan → Equipment → List ℕ
@@ -220,10 +224,6 @@ unfoldable pub not_taken_by : Accepted → Bool → Bool → Bool → Bool → L
 not_taken_by taken has_1004 has_sbas has_doppler is_long ss station =
     obs_1004_line has_1004 ss station ++ msm_lines taken ss station ++ doppler_lines_unless has_doppler taken ss station ++ sbas_line has_sbas ss station
     ++ all_unread is_long taken ss
-
--- GLONASS is asked for and a 1012 of the station has a value, but there is no moment near which 1012 are dated right
-abbrev pub leaves_long : List CaptureSurvey → Plan → Bool
-leaves_long ss plan = plan.asked.glonass && (not plan.has_near_1012 && is_1012_given ss plan.setup.station)
 
 -- those that a conversion does not take; 1012 may be left out since they can't be dated
 abbrev pub not_taken : List CaptureSurvey → Bool → SetupView → List ℕ

@@ -5,7 +5,7 @@ use Rattle.rtk_setup.specs.Setup.{SetupView}
 use Rattle.rtk_survey.specs.declared.survey.CaptureSurvey.{CaptureSurvey}
 use Rattle.rtk_plan.specs.KnownLines.{skipped_line, lines_behind_late, known_lines}
 use Rattle.rtk_captures.specs.Kept.{is_heard_at, empty_captures}
-use Rattle.rtk_captures.specs.Linking.{AreLinksOf}
+use Rattle.rtk_plan.specs.LinkPlaces.{AreLinksOf}
 use Rattle.rtk_captures.specs.Dating.{captures_of, AreStrays}
 use Rattle.rtk_plan.specs.Plan.{IsSetupFor}
 use Rattle.rtk_plan.specs.declared.known_lines.Known.{Known}
@@ -18,7 +18,7 @@ use Rattle.rtk_plan.specs.declared.wanted.Wanted.{Wanted}
 -- the parts of a plan: its setup, its links, the captures that are left out, and those with a stray epoch
 pub record IsPlanOf (ss : List CaptureSurvey) (w : Wanted) (made : ℕ) (as_given : Bool) (s : SetupView) (chosen : List (List ℕ)) (left strayed : List ℕ) : Type 0 where
   pub setup : IsSetupFor ss chosen w made s
-  pub links : AreLinksOf as_given w.near (captures_of ss s.station) chosen
+  pub links : AreLinksOf as_given w.near ss s.station chosen
   pub skipped : left ≡ empty_captures (captures_of ss s.station)
   pub strays : AreStrays w.near (captures_of ss s.station) strayed
 
@@ -48,8 +48,8 @@ times_taken place links = times place (flat_map own_places links)
 
 -- a capture that has something of the station is taken once, on one link; no other is taken
 abbrev pub EachIsTakenOnce : Type 0
-EachIsTakenOnce = (as_given : Bool) (given : Option ℕ) (cs : List StationCapture) (links : List (List ℕ)) → AreLinksOf as_given given cs links
-    → (place : ℕ) → place < length cs → times_taken place links ≡ (if is_heard_at cs place then 1 else 0)
+EachIsTakenOnce = (as_given : Bool) (given : Option ℕ) (ss : List CaptureSurvey) (station : ℕ) (links : List (List ℕ)) → AreLinksOf as_given given ss station links
+    → (place : ℕ) → place < length (captures_of ss station) → times_taken place links ≡ (if is_heard_at (captures_of ss station) place then 1 else 0)
 
 -- a capture that has nothing of the station is left out; no other is
 abbrev pub EachIsLeftOutOnce : Type 0

@@ -7,6 +7,7 @@ pub mod LabelCommand
 pub mod Laws
 pub mod LeapLines
 pub mod LeftOut
+pub mod LinkPlaces
 pub mod Near1012
 pub mod OtherEquipment
 pub mod Plan

@@ -69,20 +69,33 @@ fn epochs_fall(epochs: &Option<Span>) -> bool
     }
 }
 
-// Appends the line of such a capture, if it has clocks that are converted.
+// Has such a clock messages with values, or one of 1012 that are left out since they can't be dated?
+fn has_noted_clock(
+    taken: TakenClocks,
+    takes_1012: bool,
+    leaves_1012: bool,
+    clocks: &StationClocks,
+) -> bool
+    ensures { result ≡ spec.has_noted_clock taken takes_1012 leaves_1012 clocks.now }
+{
+    has_taken_clock(taken, takes_1012, clocks) || (leaves_1012 && clocks.glonass_day.is_some())
+}
+
+// Appends the line of such a capture, if it has such clocks.
 fn put_undated_clock(
     lines: &mut Vec<u8>,
     source: DateSource,
     taken: TakenClocks,
     takes_1012: bool,
+    leaves_1012: bool,
     capture: &StationCapture,
     clocks: &StationClocks,
     name: &str,
 ) -> Result<(), AllocError>
     ensures { OnOk result (lines.new.items ≡ lines.old.items
-        ++ spec.undated_clock_line source taken takes_1012 capture.now clocks.now name.now) }
+        ++ spec.undated_clock_line source taken takes_1012 leaves_1012 capture.now clocks.now name.now) }
 {
-    if tells_no_date(source, capture) && has_taken_clock(taken, takes_1012, clocks) {
+    if tells_no_date(source, capture) && has_noted_clock(taken, takes_1012, leaves_1012, clocks) {
         put_undated_line(lines, name)
     } else {
         Ok(())
@@ -114,13 +127,23 @@ fn put_clock_notes(
     source: DateSource,
     taken: TakenClocks,
     takes_1012: bool,
+    leaves_1012: bool,
     capture: &StationCapture,
     clocks: &StationClocks,
     name: &str,
 ) -> Result<(), AllocError>
-    ensures { OnOk result (lines.new.items ≡ lines.old.items ++ spec.clock_notes source taken takes_1012 capture.now clocks.now name.now) }
+    ensures { OnOk result (lines.new.items ≡ lines.old.items ++ spec.clock_notes source taken takes_1012 leaves_1012 capture.now clocks.now name.now) }
 {
-    put_undated_clock(lines, source, taken, takes_1012, capture, clocks, name)?;
+    put_undated_clock(
+        lines,
+        source,
+        taken,
+        takes_1012,
+        leaves_1012,
+        capture,
+        clocks,
+        name,
+    )?;
     put_falling_clock(lines, taken, takes_1012, capture, clocks, name)?;
     Ok(())
 }
@@ -128,11 +151,12 @@ fn put_clock_notes(
 fn put_clock_notes_in(
     lines: &mut Vec<u8>,
     plan: &Plan,
+    leaves_1012: bool,
     survey: &CaptureSurvey,
     name: &str,
 ) -> Result<(), AllocError>
     ensures { OnOk result (lines.new.items ≡ lines.old.items
-        ++ spec.clock_notes_in plan.now.setup.station plan.now.span.source (clocks_taken plan.now.setup.head.listed) plan.now.setup.takes_1012 survey.now name.now) }
+        ++ spec.clock_notes_in plan.now.setup.station plan.now.span.source (clocks_taken plan.now.setup.head.listed) plan.now.setup.takes_1012 leaves_1012 survey.now name.now) }
 {
     let setup = &plan.setup;
     let station = setup.station();
@@ -145,23 +169,25 @@ fn put_clock_notes_in(
         source,
         taken,
         setup.takes_1012(),
+        leaves_1012,
         &capture,
         &clocks,
         name,
     )
 }
 
-/// Appends the lines of all captures.
+/// Appends the lines of all captures; 1012 may be left out since they can't be dated.
 pub(crate) fn put_all_clock_notes(
     lines: &mut Vec<u8>,
     captures: &Captures<'_, '_>,
     plan: &Plan,
+    leaves_1012: bool,
 ) -> Result<(), AllocError>
     ensures { OnOk result (lines.new.items ≡ lines.old.items
-        ++ spec.all_clock_notes captures.now.names.now plan.now.span.source plan.now.setup captures.now.surveys.now) }
+        ++ spec.all_clock_notes captures.now.names.now plan.now.span.source leaves_1012 plan.now.setup captures.now.surveys.now) }
 {
     for (at, survey) in captures.surveys.iter().enumerate() {
-        put_clock_notes_in(lines, plan, survey, captures.name(at))?;
+        put_clock_notes_in(lines, plan, leaves_1012, survey, captures.name(at))?;
     }
     Ok(())
 }

@@ -1,24 +1,26 @@
 //! When the clocks of GLONASS and BeiDou of captures go, which give no epoch.
 
-ghost use Rattle.std.specs.Prelude.{◌≡◌, ◌<◌, ◌^◌, slice_get, IfOk, IfErr, OnOk, true, false};
+ghost use Rattle.std.specs.Prelude.{◌≡◌, ◌<◌, ◌≤◌, ◌^◌, slice_get, IfOk, IfErr, OnOk, true, false};
 ghost use Rattle.std.specs.List.{list_any};
 ghost use Rattle.rtk_captures.specs.CaptureCauses.{IfRefused};
-ghost use Rattle.rtk_captures.specs.Dating.{ArePlaced, IsNearOf, captures_of};
+ghost use Rattle.rtk_captures.specs.Dating.{ArePlaced, IsNearOf, IsSpanOf, captures_of};
 ghost use Rattle.rtk_captures.specs.Reach.{is_far_if_any};
 ghost use Rattle.rtk_captures.specs.declared.refusal.Refusal.{Refusal};
+ghost use Rattle.rtk_obs.specs.declared.time.TheConstants.{LAST_MS};
 ghost use Rattle.rtk_plan.specs.ClockReach as spec;
 ghost use Rattle.rtk_plan.specs.Plan.{HaveFarClocks};
 
 use crate::setup_seconds::seconds_chosen;
 use rtk_captures::{
-    Dating, PlanFault, Refusal, StationCapture, StationCaptures, capture_of, reach_with, refused,
+    DatedSpan, Dating, PlanFault, Refusal, StationCapture, StationCaptures, capture_of, reach_with,
+    refused,
 };
 use rtk_message::System;
 use rtk_obs::{GpsMs, LAST_MS, WEEK_MS};
 use rtk_setup::{LeapSeconds, Reference, Setup};
 use rtk_survey::{
-    CaptureSurvey, ClockSpan, FollowedClock, Placed, Span, StationClocks, TargetSurvey, Told,
-    clock_moment, clocks_by_station, is_dated_near,
+    CaptureSurvey, ClockMarks, ClockSpan, FollowedClock, Placed, Span, StationClocks, TargetSurvey,
+    Told, clock_moment, clocks_by_station, is_dated_near, marks_if_known, opened_moment,
 };
 use std::alloc::{AllocError, Global};
 
@@ -28,10 +30,10 @@ pub struct ClockDating {
     pub station: u16,
     /// The leap seconds that date GLONASS.
     pub seconds: u8,
-    /// Words give the moment.
-    pub is_given: bool,
-    /// The moment near which captures are dated that have no epoch and name no moment.
-    pub near: GpsMs,
+    /// The moment that words give. It decides the week of what captures name.
+    pub given: Option<GpsMs>,
+    /// The middle of the epochs, near which captures are dated that have no epoch and name no moment.
+    pub middle: GpsMs,
 }
 
 /// Which clocks are converted.
@@ -59,6 +61,22 @@ pub(crate) fn clocks_in_survey(station: u16, survey: &CaptureSurvey) -> StationC
     clocks_for(station, &survey.contents.target)
 }
 
+fn marks_for(station: u16, target: &Option<TargetSurvey>) -> Option<ClockMarks>
+    ensures { result ≡ spec.marks_for station target.now }
+{
+    match target {
+        Some(target) => marks_if_known(target.present, &target.dates, station),
+        None => None,
+    }
+}
+
+// The epochs of a station in a capture, or if it has none the dates that the station names.
+fn marks_in_survey(station: u16, survey: &CaptureSurvey) -> Option<ClockMarks>
+    ensures { result ≡ spec.marks_in_survey station survey.now }
+{
+    marks_for(station, &survey.contents.target)
+}
+
 fn span_of_clock(clock: FollowedClock, clocks: &StationClocks) -> Option<ClockSpan>
     ensures { result ≡ spec.span_of_clock clock clocks.now }
 {
@@ -71,27 +89,70 @@ fn span_of_clock(clock: FollowedClock, clocks: &StationClocks) -> Option<ClockSp
 
 // ---- one clock
 
-fn moment_told_or(near: GpsMs, told: Option<Told>) -> GpsMs
-    ensures { result ≡ spec.moment_told_or near told }
+fn middle_of(from: GpsMs, until: GpsMs) -> u64
+    ensures value { result ≡ spec.middle_of from until }
+    ensures bound { result ≤ LAST_MS }
 {
-    let Some(told) = told else {
-        return near;
+    (from.ms() + until.ms()) / 2
+}
+
+// The middle of the epochs.
+fn middle_of_epochs(epochs: &DatedSpan) -> GpsMs
+    ensures { result ≡ spec.middle_of epochs.now.from epochs.now.until }
+{
+    let Some(middle) = GpsMs::new(middle_of(epochs.from, epochs.until)) else {
+        unreachable!();
     };
-    match GpsMs::new(told.first) {
-        Some(moment) => moment,
-        None => near,
+    middle
+}
+
+fn moment_given(given: Option<Reference>) -> Option<GpsMs>
+    ensures { result ≡ given }
+{
+    match given {
+        Some(given) => Some(given.moment()),
+        None => None,
     }
 }
 
-// The moment near which the clocks of a capture without epochs are dated.
-fn clock_near(way: &ClockDating, capture: &StationCapture) -> GpsMs
-    ensures { result ≡ spec.clock_near way.now capture.now }
-{
-    if way.is_given {
-        way.near
-    } else {
-        moment_told_or(way.near, capture.moment)
+impl ClockDating {
+    /// How the clocks of a station are dated beside these epochs.
+    pub(crate) fn of_station(
+        station: u16,
+        seconds: u8,
+        given: Option<Reference>,
+        epochs: &DatedSpan,
+    ) -> ClockDating
+        ensures { result ≡ spec.clock_dating given station seconds (spec.middle_of epochs.now.from epochs.now.until) }
+    {
+        ClockDating {
+            station,
+            seconds,
+            given: moment_given(given),
+            middle: middle_of_epochs(epochs),
+        }
     }
+}
+
+// A moment that a capture names; if one is given, its time of week near that one.
+fn week_by(given: Option<GpsMs>, moment: GpsMs) -> u64
+    ensures value { result ≡ spec.week_by given moment }
+    ensures bound { result < 2 ^ 61 }
+{
+    match given {
+        Some(near) => {
+            let tow = (moment.ms() % WEEK_MS) as u32;
+            clock_moment(FollowedClock::GlonassWeek, near, tow)
+        }
+        None => moment.ms(),
+    }
+}
+
+// The moment near which the clocks of a capture without epochs are dated that names this one.
+fn named_near(way: &ClockDating, told: &Told) -> GpsMs
+    ensures { result ≡ spec.named_near way.now told.now }
+{
+    opened_moment(week_by(way.given, opened_moment(told.first)))
 }
 
 // By how much GPS time is ahead of what a survey has of a clock.
@@ -133,7 +194,7 @@ fn placed_by_epochs(
     ensures { result ≡ spec.placed_by_epochs way.now clock epochs.now placed.now known.now }
 {
     let opened = known.opened();
-    let anchored = opened.anchored(clock, epochs);
+    let anchored = opened.anchored(clock, &ClockMarks::of_epochs(epochs));
     let lead = clock_lead(clock, way.seconds);
     placed_clock_span(
         lead,
@@ -143,14 +204,31 @@ fn placed_by_epochs(
     )
 }
 
+// Near the dates that the station names.
+fn placed_by_dates(
+    way: &ClockDating,
+    clock: FollowedClock,
+    dates: &ClockMarks,
+    known: &ClockSpan,
+) -> Placed
+    ensures { result ≡ spec.placed_by_dates way.now clock dates.now known.now }
+{
+    let opened = known.opened();
+    let anchored = opened.anchored(clock, dates);
+    let lead = clock_lead(clock, way.seconds);
+    let first = week_by(way.given, dates.first);
+    placed_clock_span(lead, first, dates.first.ms(), &anchored.span)
+}
+
 fn first_ms(span: &Span) -> u64
     ensures { result ≡ span.now.first }
 {
     span.first.ms()
 }
 
-fn placed_alone(way: &ClockDating, clock: FollowedClock, near: GpsMs, known: &ClockSpan) -> Placed
-    ensures { result ≡ spec.placed_alone way.now clock near known.now }
+// With the first message near a moment.
+fn placed_near(way: &ClockDating, clock: FollowedClock, near: GpsMs, known: &ClockSpan) -> Placed
+    ensures { result ≡ spec.placed_near way.now clock near known.now }
 {
     let opened = known.opened();
     let undated = first_ms(&opened.span);
@@ -159,22 +237,69 @@ fn placed_alone(way: &ClockDating, clock: FollowedClock, near: GpsMs, known: &Cl
     placed_clock_span(lead, first, undated, &opened.span)
 }
 
+fn middle_of_span(span: &Span) -> u64
+    ensures { result ≡ spec.middle_of_span span.now }
+{
+    middle_of(span.least, span.greatest)
+}
+
+// With the middle of its moments near the middle of the epochs of the others.
+fn placed_in_middle(way: &ClockDating, clock: FollowedClock, known: &ClockSpan) -> Placed
+    ensures { result ≡ spec.placed_in_middle way.now clock known.now }
+{
+    let opened = known.opened();
+    let undated = middle_of_span(&opened.span);
+    let first = clock_moment(clock, way.middle, (undated % WEEK_MS) as u32);
+    let lead = clock_lead(clock, way.seconds);
+    placed_clock_span(lead, first, undated, &opened.span)
+}
+
+fn placed_by_moment(
+    way: &ClockDating,
+    clock: FollowedClock,
+    told: &Option<Told>,
+    known: &ClockSpan,
+) -> Placed
+    ensures { result ≡ spec.placed_by_moment way.now clock told.now known.now }
+{
+    match told {
+        Some(told) => placed_near(way, clock, named_near(way, told), known),
+        None => placed_in_middle(way, clock, known),
+    }
+}
+
+fn placed_alone(
+    way: &ClockDating,
+    clock: FollowedClock,
+    dates: &Option<ClockMarks>,
+    told: &Option<Told>,
+    known: &ClockSpan,
+) -> Placed
+    ensures { result ≡ spec.placed_alone way.now clock dates.now told.now known.now }
+{
+    match dates {
+        Some(dates) => placed_by_dates(way, clock, dates, known),
+        None => placed_by_moment(way, clock, told, known),
+    }
+}
+
 fn placed_clock(
     way: &ClockDating,
     clock: FollowedClock,
-    near: GpsMs,
+    capture: &StationCapture,
+    marks: &Option<ClockMarks>,
     epochs: &Option<Span>,
     placed: &Option<Placed>,
     known: &ClockSpan,
 ) -> Placed
-    ensures { result ≡ spec.placed_clock way.now clock near epochs.now placed.now known.now }
+    ensures { result ≡ spec.placed_clock way.now clock capture.now marks.now epochs.now placed.now known.now }
 {
     match epochs {
         Some(epochs) => match placed {
             Some(placed) => placed_by_epochs(way, clock, epochs, placed, known),
-            None => placed_alone(way, clock, near, known),
+            None => placed_alone(way, clock, marks, &capture.moment, known),
         },
-        None => placed_alone(way, clock, near, known),
+        None => placed_alone(way, clock, marks, &capture.moment, known),
     }
 }
 
@@ -182,20 +307,14 @@ fn placed_if_followed(
     way: &ClockDating,
     clock: FollowedClock,
     capture: &StationCapture,
+    marks: &Option<ClockMarks>,
     placed: &Option<Placed>,
     known: &Option<ClockSpan>,
 ) -> Option<Placed>
-    ensures { result ≡ spec.placed_if_followed way.now clock capture.now placed.now known.now }
+    ensures { result ≡ spec.placed_if_followed way.now clock capture.now marks.now placed.now known.now }
 {
     match known {
-        Some(known) => Some(placed_clock(
-            way,
-            clock,
-            clock_near(way, capture),
-            &capture.span,
-            placed,
-            known,
-        )),
+        Some(known) => Some(placed_clock(way, clock, capture, marks, &capture.span, placed, known)),
         None => None,
     }
 }
@@ -213,7 +332,8 @@ pub(crate) fn clock_placed(
     let capture = capture_of(way.station, survey);
     let clocks = clocks_in_survey(way.station, survey);
     let known = span_of_clock(clock, &clocks);
-    placed_if_followed(way, clock, &capture, placed, &known)
+    let marks = marks_in_survey(way.station, survey);
+    placed_if_followed(way, clock, &capture, &marks, placed, &known)
 }
 
 // ---- all captures
@@ -239,8 +359,8 @@ fn placed_with_clocks(
     reach_with(with_glonass, placed_if_taken(taken.beidou, beidou))
 }
 
-// The epochs of the capture at a place.
-fn placed_at(placed: &[Option<Placed>], at: usize) -> Option<Placed>
+/// The epochs of the capture at a place.
+pub(crate) fn placed_at(placed: &[Option<Placed>], at: usize) -> Option<Placed>
     ensures { result ≡ spec.placed_or_none (slice_get placed.now at) }
 {
     match placed.get(at) {
@@ -325,17 +445,14 @@ pub(crate) fn demand_near_clocks(
     requires captures { captured.now.captures.now ≡ captures_of captured.now.all.surveys.now captured.now.station }
     requires near { IsNearOf given captured.now.captures.now dating.now.near }
     requires placed { ArePlaced given captured.now.captures.now dating.now.placed.items }
+    requires span { IsSpanOf given captured.now.captures.now captured.now.station dating.now.span }
     requires seconds { setup.now.leap_seconds ≡ seconds.now }
     ensures near { OnOk result (HaveFarClocks captured.now.all.surveys.now given captured.now.station setup.now false) }
     ensures refused { IfErr result (IfRefused (λ refusal. (refusal ≡ Refusal.TooLong)
         × HaveFarClocks captured.now.all.surveys.now given captured.now.station setup.now true)) }
 {
-    let way = ClockDating {
-        station: captured.station,
-        seconds: seconds_chosen(seconds, dating.near),
-        is_given: given.is_some(),
-        near: dating.near,
-    };
+    let chosen = seconds_chosen(seconds, dating.near);
+    let way = ClockDating::of_station(captured.station, chosen, given, &dating.span);
     let taken = clocks_taken(setup);
     demand_near(
         alloc,

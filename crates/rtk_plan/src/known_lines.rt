@@ -169,6 +169,13 @@ fn put_channels_in(
     Ok(())
 }
 
+// Are 1012 of the station left out, since there is no moment near which they are dated right?
+fn leaves_long(surveys: &[CaptureSurvey], plan: &Plan) -> bool
+    ensures { result ≡ spec.leaves_long surveys.now plan.now }
+{
+    plan.asked.glonass && (!plan.has_near_1012 && is_1012_given(surveys, plan.setup.station()))
+}
+
 // Appends the captures that are dated near the others, or whose clocks fall.
 fn put_undated_notes(
     lines: &mut Vec<u8>,
@@ -179,7 +186,8 @@ fn put_undated_notes(
         ++ spec.undated_notes captures.now.names.now captures.now.surveys.now plan.now) }
 {
     put_undated(lines, captures, plan)?;
-    put_all_clock_notes(lines, captures, plan)?;
+    let leaves_1012 = leaves_long(captures.surveys, plan);
+    put_all_clock_notes(lines, captures, plan, leaves_1012)?;
     Ok(())
 }
 
@@ -225,13 +233,6 @@ fn put_not_taken(
     put_sbas(lines, surveys, station, has_sbas)?;
     put_unread(lines, surveys, is_long, taken)?;
     Ok(())
-}
-
-// Are 1012 of the station left out, since there is no moment near which they are dated right?
-fn leaves_long(surveys: &[CaptureSurvey], plan: &Plan) -> bool
-    ensures { result ≡ spec.leaves_long surveys.now plan.now }
-{
-    plan.asked.glonass && (!plan.has_near_1012 && is_1012_given(surveys, plan.setup.station()))
 }
 
 // Appends the observations that a conversion does not take; 1012 may be left out since they can't be dated.

@@ -84,6 +84,7 @@ mod label_command;
 mod laws;
 mod leap_lines;
 mod left_out;
+mod link_places;
 mod near_1012;
 mod other_equipment;
 mod phase_lines;

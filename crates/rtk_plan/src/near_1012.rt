@@ -201,11 +201,7 @@ pub(crate) fn near_of_1012(
     ensures near { IsNear1012 captured.now.all.surveys.now given captured.now.station seconds.now dating.now.near result }
     ensures in_reach { IfSome result (IsInReach given captured.now.captures.now) }
 {
-    let way = ClockDating {
-        station: captured.station,
-        seconds: seconds_chosen(seconds, dating.near),
-        is_given: given.is_some(),
-        near: dating.near,
-    };
+    let chosen = seconds_chosen(seconds, dating.near);
+    let way = ClockDating::of_station(captured.station, chosen, given, &dating.span);
     near_with(captured, &way, dating.placed.as_slice(), &dating.span)
 }

@@ -6,13 +6,14 @@ ghost use Rattle.rtk_captures.specs.CaptureCauses.{IfRefused, IsStationCause, Is
 ghost use Rattle.rtk_plan.specs.Causes.{IsCaptureCause, IsCauseOf, has_frames};
 ghost use Rattle.rtk_captures.specs.Kept.{empty_captures};
 ghost use Rattle.rtk_survey.specs.Surveys.{places_of};
-ghost use Rattle.rtk_captures.specs.Linking.{AreLinksOf};
+ghost use Rattle.rtk_plan.specs.LinkPlaces.{AreLinksOf};
 ghost use Rattle.rtk_captures.specs.Positions.{some_are_far};
 ghost use Rattle.rtk_plan.specs.Plan.{IsChosenStation, AreSecondsCompared, HasNear1012, HaveFarClocks, IsSetupFor, seconds_are_found, systems_asked, taken_messages};
-ghost use Rattle.rtk_captures.specs.Dating.{captures_of, ArePlaced, AreStrays, IsSpanOf, IsInReach};
+ghost use Rattle.rtk_captures.specs.Dating.{captures_of, AreStrays, IsSpanOf, IsInReach};
 ghost use Rattle.rtk_systems.specs.SlotChannels.{AreOwnChannels};
 
 use crate::clock_reach::demand_near_clocks;
+use crate::link_places::links_of_station;
 use crate::near_1012::near_of_1012;
 use crate::setup_seconds::{seconds_are_found, seconds_compared, seconds_of_setup};
 use crate::station_setup::{own_channels_in, setup_near, systems_asked};
@@ -20,12 +21,12 @@ use crate::wanted::Wanted;
 use rtk_captures::{
     Captures, DatedSpan, OnlyStation, PlanFault, Refusal, StationCapture, StationCaptures,
     agree_on_position, captures_of, date_captures, empty_captures, is_observed, limit_links,
-    links_as_given, links_found, only_station, refused,
+    only_station, refused,
 };
 use rtk_obs::Channels;
 use rtk_rinex::CreationTime;
-use rtk_setup::{Reference, Setup, Station};
-use rtk_survey::{CaptureSurvey, Placed};
+use rtk_setup::{Setup, Station};
+use rtk_survey::CaptureSurvey;
 use rtk_systems::{ClockSeconds, SystemFlags, list_held};
 use std::alloc::{AllocError, Global};
 
@@ -134,24 +135,6 @@ fn captures_to_skip(
     Ok(empty)
 }
 
-// The links of the captures, however many.
-fn links_of_captures(
-    alloc: Global,
-    captures: &[StationCapture],
-    near: Option<Reference>,
-    placed: &[Option<Placed>],
-    as_given: bool,
-) -> Result<Vec<Vec<usize>>, AllocError>
-    requires { ArePlaced near captures.now placed.now }
-    ensures { IfOk result (λ links. AreLinksOf as_given near captures.now (places_of links.items)) }
-{
-    if as_given {
-        links_as_given(alloc, captures)
-    } else {
-        links_found(alloc, captures, placed)
-    }
-}
-
 // The captures agree on the position of the station, unless they are taken as they are given.
 fn agree_unless(
     alloc: Global,
@@ -189,7 +172,7 @@ fn plan_of_station(
     ensures setup { IfOk result (λ plan. IsSetupFor captured.now.all.surveys.now (places_of plan.links.items) wanted.now made plan.setup) }
     ensures station { IfOk result (λ plan. plan.setup.station ≡ captured.now.station) }
     ensures in_reach { IfOk result (λ plan. IsInReach wanted.now.near captured.now.captures.now plan.setup.near) }
-    ensures links { IfOk result (λ plan. AreLinksOf as_given wanted.now.near captured.now.captures.now (places_of plan.links.items)) }
+    ensures links { IfOk result (λ plan. AreLinksOf as_given wanted.now.near captured.now.all.surveys.now captured.now.station (places_of plan.links.items)) }
     ensures few_links { IfOk result (λ plan. length plan.links.items ≤ 16) }
     ensures one_position { as_given ≡ false → IfOk result (λ plan. some_are_far captured.now.captures.now ≡ false) }
     ensures skipped { IfOk result (λ plan. plan.skipped.items ≡ empty_captures captured.now.captures.now) }
@@ -205,13 +188,7 @@ fn plan_of_station(
     let surveys = captured.all.surveys;
     let skipped = captures_to_skip(alloc, captured, skip_empty)?;
     let dating = date_captures(alloc, captured, wanted.near)?;
-    let links = links_of_captures(
-        alloc,
-        captured.captures,
-        wanted.near,
-        dating.placed.as_slice(),
-        as_given,
-    )?;
+    let links = links_of_station(alloc, captured, wanted.near, &dating, as_given)?;
     let (station, near, span) = (captured.station, dating.near, &dating.span);
     let seconds = seconds_of_setup(alloc, surveys, station, wanted, near, span)?;
     let other = near_of_1012(captured, wanted.near, &dating, &seconds);
@@ -260,7 +237,7 @@ pub fn plan_of(
     ensures has_near_1012 { IfOk result (λ plan. HasNear1012 captures.now.surveys.now wanted.now.near plan.setup.station plan.setup.leap_seconds plan.has_near_1012) }
     ensures clocks { IfOk result (λ plan. HaveFarClocks captures.now.surveys.now wanted.now.near plan.setup.station plan.setup false) }
     ensures in_reach { IfOk result (λ plan. IsInReach wanted.now.near plan.captures.items plan.setup.near) }
-    ensures links { IfOk result (λ plan. AreLinksOf as_given wanted.now.near plan.captures.items (places_of plan.links.items)) }
+    ensures links { IfOk result (λ plan. AreLinksOf as_given wanted.now.near captures.now.surveys.now plan.setup.station (places_of plan.links.items)) }
     ensures few_links { IfOk result (λ plan. length plan.links.items ≤ 16) }
     ensures one_position { as_given ≡ false → IfOk result (λ plan. some_are_far plan.captures.items ≡ false) }
     ensures skipped { IfOk result (λ plan. plan.skipped.items ≡ empty_captures plan.captures.items) }

@@ -6,9 +6,9 @@ use Rattle.std.specs.Map.{lookup}
 use Rattle.std.specs.Option.{unwrap_or}
 use Rattle.std.specs.Ordering.{nat_cmp}
 use Rattle.rtk_survey.specs.ClockSpans.{no_station_clocks, with_followed_time, clocks_by_station, with_time_for}
+use Rattle.rtk_survey.specs.declared.clock_marks.ClockMarks.{ClockMarks}
 use Rattle.rtk_survey.specs.declared.clock_spans.FollowedTime.{FollowedTime}
 use Rattle.rtk_survey.specs.declared.clock_spans.StationClocks.{StationClocks}
-use Rattle.rtk_survey.specs.declared.span.Span.{Span}
 use Rattle.rtk_survey.proofs.MapLemmas.{other-key}
 
 pub nothing-followed : (m : BTreeMap ℕ StationClocks) → m.entries ≡ [] → (n : ℕ) → clocks_by_station m n ≡ no_station_clocks
@@ -23,7 +23,7 @@ pub other-clocks : (old new : BTreeMap ℕ StationClocks) (k : ℕ) (s : Station
 other-clocks old new k s puts n other = ap (λ (o : Option StationClocks). unwrap_or o no_station_clocks) (puts.2 n (other-key k n other))
 
 -- a time more of one station
-pub time-more : (old new : BTreeMap ℕ StationClocks) (k : ℕ) (e : Option Span) (told : FollowedTime)
+pub time-more : (old new : BTreeMap ℕ StationClocks) (k : ℕ) (e : Option ClockMarks) (told : FollowedTime)
     → clocks_by_station new k ≡ with_followed_time e told (clocks_by_station old k) → ((n : ℕ) → n ≢ k → clocks_by_station new n ≡ clocks_by_station old n)
     → (n : ℕ) → clocks_by_station new n ≡ with_time_for n k e told (clocks_by_station old n)
 time-more old new k e told own others n = elim (cases_eq n k) [

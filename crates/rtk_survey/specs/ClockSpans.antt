@@ -1,8 +1,9 @@
 -- How far the clocks of GLONASS and BeiDou of a station go in a capture (this project's rule). They give no epoch, so each
 -- is followed by itself, from message to message: a message is dated near the last epoch, or near the last message of the same
--- clock if no epoch came since. All moments are as if the first epoch were in week 1,024, as those of epochs are.
+-- clock if no epoch came since. As long as no epoch came, the dates that 1013 and 1029 of the station name take their place.
+-- Beside epochs all moments are as if the first epoch were in week 1,024, as those of epochs are.
 -- Source: RTCM 10403.3, DF034, DF416 and DF427
-use Rattle.std.specs.Prelude.{ℕ, ◌+◌, ◌-◌, ◌%◌, ◌==◌, Bool, true, false, not, nat_le, min, Option, None, Some, unwrap_or, is_some, if◌then◌else◌}
+use Rattle.std.specs.Prelude.{ℕ, ◌+◌, ◌-◌, ◌%◌, ◌==◌, Bool, true, false, not, ◌&&◌, nat_le, min, Option, None, Some, unwrap_or, is_some, if◌then◌else◌}
 use Rattle.std.specs.BTreeMap.{BTreeMap, get}
 use Rattle.std.specs.Ordering.{nat_cmp}
 use Rattle.rtk_message.specs.declared.any_message.AnyMessage.{AnyMessage}
@@ -13,8 +14,10 @@ use Rattle.rtk_message.specs.Obs1012 as obs1012
 use Rattle.rtk_obs.specs.declared.time.TheConstants.{LAST_MS}
 use Rattle.rtk_survey.specs.BesideGps.{told_time, gives_value_beside}
 use Rattle.rtk_survey.specs.Chains.{tells_day}
+use Rattle.rtk_survey.specs.ClockMarks.{opened_moment}
 use Rattle.rtk_survey.specs.Epochs.{begun, is_followed, with_moment, last_time_of_week}
 use Rattle.rtk_survey.specs.Telling.{dated, day_ms}
+use Rattle.rtk_survey.specs.declared.clock_marks.ClockMarks.{ClockMarks}
 use Rattle.rtk_survey.specs.declared.clock_spans.ClockSpan.{ClockSpan}
 use Rattle.rtk_survey.specs.declared.clock_spans.FollowedClock.{FollowedClock}
 use Rattle.rtk_survey.specs.declared.clock_spans.FollowedClock.TheVariants.{GlonassWeek, BeidouWeek, GlonassDay}
@@ -107,12 +110,9 @@ kept_span k = record {
   next_greatest = k.span.next_greatest;
   falls = k.span.falls;
   is_wide = k.span.is_wide;
-  epoch = k.epoch;
+  mark = k.mark;
+  by_dates = k.by_dates;
 }
-
--- they are moments that can be written
-abbrev pub opened_moment : ℕ → ℕ
-opened_moment t = min t LAST_MS
 
 abbrev pub opened_if_any : Option ℕ → Option ℕ
 opened_if_any None = None
@@ -129,52 +129,67 @@ opened_span k = record {
     falls = k.falls;
     is_wide = k.is_wide;
   };
-  epoch = opened_if_any k.epoch;
+  mark = opened_if_any k.mark;
+  by_dates = k.by_dates;
 }
 
--- the first message of a clock, near the last epoch if one came
-abbrev pub clock_begun : FollowedClock → Option Span → ℕ → FollowedSpan
-clock_begun c None t = record { span = begun t; epoch = None }
-clock_begun c (Some e) t = record { span = span_at (moment_or (clock_moment c e.last t) e.last); epoch = Some e.last }
+-- the first message of a clock, near the last epoch or date if one came
+abbrev pub clock_begun : FollowedClock → Option ClockMarks → ℕ → FollowedSpan
+clock_begun c None t = record { span = begun t; mark = None; by_dates = false }
+clock_begun c (Some m) t =
+    record { span = span_at (moment_or (clock_moment c m.last t) m.last); mark = Some m.last; by_dates = m.are_dates }
 
--- if no epoch came before the messages, the last of them is set near the first epoch, and the others with it
-abbrev pub clock_anchored : FollowedClock → Span → FollowedSpan → FollowedSpan
-clock_anchored c e k =
-    if is_some k.epoch then k else
-    record { span = moved_span k.span.last (clock_moment c e.first (last_time_of_week k.span)) k.span; epoch = None }
+-- a clock is dated by epochs, or by dates
+abbrev pub is_marked_by : ClockMarks → FollowedSpan → Bool
+is_marked_by m k = is_some k.mark && (if k.by_dates then m.are_dates else not m.are_dates)
 
-abbrev pub clock_anchored_if_any : FollowedClock → Option Span → FollowedSpan → FollowedSpan
+-- if no epoch came before the messages, the last of them is set near the first epoch, and the others with it; so it is with
+-- dates, which epochs replace
+abbrev pub clock_anchored : FollowedClock → ClockMarks → FollowedSpan → FollowedSpan
+clock_anchored c m k =
+    if is_marked_by m k then k else
+    record { span = moved_span k.span.last (clock_moment c m.first (last_time_of_week k.span)) k.span; mark = None; by_dates = m.are_dates }
+
+abbrev pub clock_anchored_if_any : FollowedClock → Option ClockMarks → FollowedSpan → FollowedSpan
 clock_anchored_if_any c None k = k
-clock_anchored_if_any c (Some e) k = clock_anchored c e k
+clock_anchored_if_any c (Some m) k = clock_anchored c m k
 
--- the last epoch is not the one that was the last before
-abbrev pub is_new_epoch : Option ℕ → ℕ → Bool
-is_new_epoch None t = true
-is_new_epoch (Some before) t = not (before == t)
+-- the last epoch or date is not the one that was the last before
+abbrev pub is_new_mark : Option ℕ → ℕ → Bool
+is_new_mark None t = true
+is_new_mark (Some before) t = not (before == t)
 
--- the moment near which the next message is dated: the last epoch if it is new, else the last message
-abbrev pub clock_base : Option Span → FollowedSpan → ℕ
+-- the moment near which the next message is dated: the last epoch or date if it is new, else the last message
+abbrev pub clock_base : Option ClockMarks → FollowedSpan → ℕ
 clock_base None k = k.span.last
-clock_base (Some e) k = if is_new_epoch k.epoch e.last then e.last else k.span.last
+clock_base (Some m) k = if is_new_mark k.mark m.last then m.last else k.span.last
 
 -- a moment more; one that is more than a week from the first is not followed
 abbrev pub with_moment_near : Span → ℕ → Span
 with_moment_near s t = if is_followed s.first t then with_moment s t else record s { is_wide = true }
 
-abbrev pub last_epoch_of : Option Span → Option ℕ
-last_epoch_of None = None
-last_epoch_of (Some e) = Some e.last
+abbrev pub last_mark_of : Option ClockMarks → Option ℕ
+last_mark_of None = None
+last_mark_of (Some m) = Some m.last
 
--- a message more after these epochs, by the time that its clock tells
-abbrev pub with_clock_time : FollowedClock → Option Span → ℕ → FollowedSpan → FollowedSpan
-with_clock_time c e t k = record { span = with_moment_near k.span (clock_moment c (clock_base e k) t); epoch = last_epoch_of e }
+abbrev pub are_dates_if_any : Option ClockMarks → Bool
+are_dates_if_any None = false
+are_dates_if_any (Some m) = m.are_dates
 
-abbrev pub clock_with : FollowedClock → Option Span → ClockSpan → ℕ → FollowedSpan
-clock_with c e k t = with_clock_time c e t (clock_anchored_if_any c e (opened_span k))
+-- a message more after these epochs or dates, by the time that its clock tells
+abbrev pub with_clock_time : FollowedClock → Option ClockMarks → ℕ → FollowedSpan → FollowedSpan
+with_clock_time c m t k = record {
+  span = with_moment_near k.span (clock_moment c (clock_base m k) t);
+  mark = last_mark_of m;
+  by_dates = are_dates_if_any m;
+}
 
-abbrev pub clock_followed : FollowedClock → Option Span → Option ClockSpan → ℕ → ClockSpan
-clock_followed c e None t = kept_span (clock_begun c e t)
-clock_followed c e (Some k) t = kept_span (clock_with c e k t)
+abbrev pub clock_with : FollowedClock → Option ClockMarks → ClockSpan → ℕ → FollowedSpan
+clock_with c m k t = with_clock_time c m t (clock_anchored_if_any c m (opened_span k))
+
+abbrev pub clock_followed : FollowedClock → Option ClockMarks → Option ClockSpan → ℕ → ClockSpan
+clock_followed c m None t = kept_span (clock_begun c m t)
+clock_followed c m (Some k) t = kept_span (clock_with c m k t)
 
 -- ---- the clocks of a station
 
@@ -182,13 +197,13 @@ abbrev pub no_station_clocks : StationClocks
 no_station_clocks = record { glonass = None; beidou = None; glonass_day = None }
 
 -- table
--- a time more of a clock, after these epochs
-abbrev pub with_time_of_clock : FollowedClock → Option Span → ℕ → StationClocks → StationClocks
+-- a time more of a clock, after these epochs or dates
+abbrev pub with_time_of_clock : FollowedClock → Option ClockMarks → ℕ → StationClocks → StationClocks
 with_time_of_clock GlonassWeek e t s = record s { glonass = Some (clock_followed GlonassWeek e s.glonass t) }
 with_time_of_clock BeidouWeek e t s = record s { beidou = Some (clock_followed BeidouWeek e s.beidou t) }
 with_time_of_clock GlonassDay e t s = record s { glonass_day = Some (clock_followed GlonassDay e s.glonass_day t) }
 
-abbrev pub with_followed_time : Option Span → FollowedTime → StationClocks → StationClocks
+abbrev pub with_followed_time : Option ClockMarks → FollowedTime → StationClocks → StationClocks
 with_followed_time e told s = with_time_of_clock told.clock e told.time s
 
 -- the clocks of a station; of one without an entry no clock is followed
@@ -196,9 +211,9 @@ abbrev pub clocks_by_station : BTreeMap ℕ StationClocks → ℕ → StationClo
 clocks_by_station clocks n = unwrap_or (get nat_cmp clocks n) no_station_clocks
 
 -- the clocks of station n, after a time more of station k
-abbrev pub with_time_for : ℕ → ℕ → Option Span → FollowedTime → StationClocks → StationClocks
+abbrev pub with_time_for : ℕ → ℕ → Option ClockMarks → FollowedTime → StationClocks → StationClocks
 with_time_for n k e told s = if k == n then with_followed_time e told s else s
 
-abbrev pub with_time_for_if_any : ℕ → ℕ → Option Span → Option FollowedTime → StationClocks → StationClocks
+abbrev pub with_time_for_if_any : ℕ → ℕ → Option ClockMarks → Option FollowedTime → StationClocks → StationClocks
 with_time_for_if_any n k e None s = s
 with_time_for_if_any n k e (Some told) s = with_time_for n k e told s

@@ -3,6 +3,7 @@ pub mod CaptureDates
 pub mod Chains
 pub mod Channels
 pub mod ClockLines
+pub mod ClockMarks
 pub mod ClockSpans
 pub mod Contents
 pub mod Counting

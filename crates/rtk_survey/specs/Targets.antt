@@ -13,6 +13,7 @@ use Rattle.rtk_obs.specs.declared.any_code.AnyCode.{AnyCode}
 use Rattle.rtk_obs.specs.AnyCode.{system_of, number_of, all_any_codes}
 use Rattle.rtk_survey.specs.BesideGps.{gives_value_beside}
 use Rattle.rtk_survey.specs.CaptureDates.{no_dates, with_epoch_time, with_date, with_waiting}
+use Rattle.rtk_survey.specs.ClockMarks.{marks_in}
 use Rattle.rtk_survey.specs.ClockSpans.{followed_with_value, no_station_clocks, clocks_by_station, with_time_for_if_any}
 use Rattle.rtk_survey.specs.Counting.{shown_count}
 use Rattle.rtk_survey.specs.DateMessages.{date_in}
@@ -28,6 +29,7 @@ use Rattle.rtk_survey.specs.ToCome.{told_to_come}
 use Rattle.rtk_survey.specs.Tracing.{entries_of_message}
 use Rattle.rtk_survey.specs.declared.capture_dates.CaptureDates.{CaptureDates}
 use Rattle.rtk_survey.specs.declared.date_message.DateMessage.{DateMessage}
+use Rattle.rtk_survey.specs.declared.clock_marks.ClockMarks.{ClockMarks}
 use Rattle.rtk_survey.specs.declared.clock_spans.StationClocks.{StationClocks}
 use Rattle.rtk_survey.specs.declared.dating_systems.DatingSystems.{DatingSystems}
 use Rattle.rtk_survey.specs.declared.equipment_message.EquipmentMessage.{EquipmentMessage}
@@ -192,18 +194,18 @@ parting_of q (f ∷ before) =
 
 -- ---- the clocks that give no epoch
 
--- the epochs of a station, if it is the one that is known
-abbrev pub epochs_if_known : ℕ → TargetDates → Option Span
-epochs_if_known n d = if unwrap_or d.station n == n then d.capture.span else None
+-- the epochs of a station, or before the first of them the dates that it names, if no other station is known
+abbrev pub marks_if_known : ℕ → ℕ → TargetDates → Option ClockMarks
+marks_if_known now n d = if unwrap_or d.station n == n then marks_in now n d.capture else None
 
-abbrev pub clocks_with_reading : ℕ → TargetDates → StationClocks → Result AnyMessage AnyFault → StationClocks
-clocks_with_reading n d s (Ok m) = with_time_for_if_any n (station_of m) (epochs_if_known (station_of m) d) (followed_with_value m) s
-clocks_with_reading n d s (Err fault) = s
+abbrev pub clocks_with_reading : ℕ → ℕ → TargetDates → StationClocks → Result AnyMessage AnyFault → StationClocks
+clocks_with_reading now n d s (Ok m) = with_time_for_if_any n (station_of m) (marks_if_known now (station_of m) d) (followed_with_value m) s
+clocks_with_reading now n d s (Err fault) = s
 
 -- how far the clocks of GLONASS and BeiDou of a station go in these frames
 abbrev pub clocks_in : Target → List ReadFrame → ℕ → StationClocks
 clocks_in q [] n = no_station_clocks
-clocks_in q (f ∷ before) n = clocks_with_reading n (dates_of q before) (clocks_in q before n) f.reading
+clocks_in q (f ∷ before) n = clocks_with_reading q.present n (dates_of q before) (clocks_in q before n) f.reading
 
 -- ---- a date that is to come
 

@@ -1,7 +1,8 @@
 //! How far the clocks of GLONASS and BeiDou of a station go in a capture.
 //!
 //! They give no epoch. Each is followed by itself, near the epochs, so that it is known when its messages are more than a
-//! conversion can date. A clock of GLONASS that tells no day is followed apart from those that do.
+//! conversion can date. As long as no epoch came, the dates that the station names take their place. A clock of GLONASS that
+//! tells no day is followed apart from those that do.
 
 ghost use Rattle.std.specs.Prelude.{◌≡◌, ◌≢◌, ◌<◌, ◌^◌, ℕ, OnOk};
 ghost use Rattle.rtk_survey.specs.BesideGps.{cells_beside_gps};
@@ -10,6 +11,7 @@ ghost use Rattle.rtk_survey.specs.ClockSpans.{clocks_by_station, no_station_cloc
 
 use crate::beside_gps::told_time;
 use crate::clock_chains::tells_day;
+use crate::clock_marks::{ClockMarks, opened_moment};
 use crate::span::{Span, followed};
 use crate::system_msm::gives_value;
 use crate::telling::{DAY_MS, dated};
@@ -48,17 +50,21 @@ pub struct ClockSpan {
     pub next_greatest: Option<u64>,
     pub falls: bool,
     pub is_wide: bool,
-    /// The last epoch before the last of its messages; `None` if none came.
-    pub epoch: Option<u64>,
+    /// The last epoch or date before the last of its messages; `None` if none came.
+    pub mark: Option<u64>,
+    /// It is a date.
+    pub by_dates: bool,
 }
 
 /// How far a clock goes.
 #[derive(Clone, Copy, Debug, PartialEq, Eq)]
 pub struct FollowedSpan {
-    /// Its moments, as if the first epoch were in week 1,024. Those of GLONASS lack the leap seconds.
+    /// Its moments, as if the first epoch were in week 1,024, or by dates. Those of GLONASS lack the leap seconds.
     pub span: Span,
-    /// The last epoch before the last of its messages; `None` if none came. Then no epoch dates the moments.
-    pub epoch: Option<GpsMs>,
+    /// The last epoch or date before the last of its messages; `None` if none came. Then nothing dates the moments.
+    pub mark: Option<GpsMs>,
+    /// It is a date, and so are the moments.
+    pub by_dates: bool,
 }
 
 /// How far the clocks of a station go; `None` if no message of a clock has a value.
@@ -211,16 +217,6 @@ fn moved_span(from: GpsMs, to: u64, span: &Span) -> Span
 
 // ---- one clock
 
-// A moment that is kept.
-fn opened_moment(ms: u64) -> GpsMs
-    ensures { result ≡ spec.opened_moment ms }
-{
-    let Some(moment) = GpsMs::new(ms.min(LAST_MS)) else {
-        unreachable!();
-    };
-    moment
-}
-
 fn opened_if_any(ms: Option<u64>) -> Option<GpsMs>
     ensures { result ≡ spec.opened_if_any ms }
 {
@@ -254,33 +250,36 @@ impl ClockSpan {
                 falls: self.falls,
                 is_wide: self.is_wide,
             },
-            epoch: opened_if_any(self.epoch),
+            mark: opened_if_any(self.mark),
+            by_dates: self.by_dates,
         }
     }
 }
 
-// The first message of a clock, near the last epoch if one came.
-fn clock_begun(clock: FollowedClock, epochs: &Option<Span>, time: u32) -> FollowedSpan
-    ensures { result ≡ spec.clock_begun clock epochs.now time }
+// The first message of a clock, near the last epoch or date if one came.
+fn clock_begun(clock: FollowedClock, marks: &Option<ClockMarks>, time: u32) -> FollowedSpan
+    ensures { result ≡ spec.clock_begun clock marks.now time }
 {
-    match epochs {
+    match marks {
         None => FollowedSpan {
             span: Span::begun(time),
-            epoch: None,
+            mark: None,
+            by_dates: false,
         },
-        Some(epochs) => {
-            let ms = clock_moment(clock, epochs.last, time);
+        Some(marks) => {
+            let ms = clock_moment(clock, marks.last, time);
             FollowedSpan {
-                span: span_at(moment_or(ms, epochs.last)),
-                epoch: Some(epochs.last),
+                span: span_at(moment_or(ms, marks.last)),
+                mark: Some(marks.last),
+                by_dates: marks.are_dates,
             }
         }
     }
 }
 
-// Is the last epoch not the one that was the last before?
-fn is_new_epoch(before: Option<GpsMs>, last: GpsMs) -> bool
-    ensures { result ≡ spec.is_new_epoch before last }
+// Is the last epoch or date not the one that was the last before?
+fn is_new_mark(before: Option<GpsMs>, last: GpsMs) -> bool
+    ensures { result ≡ spec.is_new_mark before last }
 {
     match before {
         Some(before) => before.ms() != last.ms(),
@@ -300,12 +299,21 @@ fn with_moment_near(span: &Span, ms: u64) -> Span
     more
 }
 
-fn last_epoch_of(epochs: &Option<Span>) -> Option<GpsMs>
-    ensures { result ≡ spec.last_epoch_of epochs.now }
+fn last_mark_of(marks: &Option<ClockMarks>) -> Option<GpsMs>
+    ensures { result ≡ spec.last_mark_of marks.now }
 {
-    match epochs {
-        Some(epochs) => Some(epochs.last),
+    match marks {
+        Some(marks) => Some(marks.last),
         None => None,
+    }
+}
+
+fn are_dates_if_any(marks: &Option<ClockMarks>) -> bool
+    ensures { result ≡ spec.are_dates_if_any marks.now }
+{
+    match marks {
+        Some(marks) => marks.are_dates,
+        None => false,
     }
 }
 
@@ -322,52 +330,67 @@ impl FollowedSpan {
             next_greatest: kept_if_any(self.span.next_greatest),
             falls: self.span.falls,
             is_wide: self.span.is_wide,
-            epoch: kept_if_any(self.epoch),
+            mark: kept_if_any(self.mark),
+            by_dates: self.by_dates,
         }
+    }
+
+    // Do epochs date it, or dates, as here?
+    fn is_marked_by(&self, marks: &ClockMarks) -> bool
+        ensures { result ≡ spec.is_marked_by marks.now self.now }
+    {
+        let is_alike = if self.by_dates {
+            marks.are_dates
+        } else {
+            !marks.are_dates
+        };
+        self.mark.is_some() && is_alike
     }
 
     /// Its moments near the epochs of the station: if none came before its messages, the last of them is set near the
-    /// first epoch, and the others with it.
-    pub fn anchored(&self, clock: FollowedClock, epochs: &Span) -> FollowedSpan
-        ensures { result ≡ spec.clock_anchored clock epochs.now self.now }
+    /// first epoch, and the others with it. Dates take the place of epochs, and epochs that of dates.
+    pub fn anchored(&self, clock: FollowedClock, marks: &ClockMarks) -> FollowedSpan
+        ensures { result ≡ spec.clock_anchored clock marks.now self.now }
     {
-        if self.epoch.is_some() {
+        if self.is_marked_by(marks) {
             return *self;
         }
-        let to = clock_moment(clock, epochs.first, self.span.last_time_of_week());
+        let to = clock_moment(clock, marks.first, self.span.last_time_of_week());
         FollowedSpan {
             span: moved_span(self.span.last, to, &self.span),
-            epoch: None,
+            mark: None,
+            by_dates: marks.are_dates,
         }
     }
 
-    fn anchored_if_any(&self, clock: FollowedClock, epochs: &Option<Span>) -> FollowedSpan
-        ensures { result ≡ spec.clock_anchored_if_any clock epochs.now self.now }
+    fn anchored_if_any(&self, clock: FollowedClock, marks: &Option<ClockMarks>) -> FollowedSpan
+        ensures { result ≡ spec.clock_anchored_if_any clock marks.now self.now }
     {
-        match epochs {
-            Some(epochs) => self.anchored(clock, epochs),
+        match marks {
+            Some(marks) => self.anchored(clock, marks),
             None => *self,
         }
     }
 
-    // The moment near which the next message is dated: the last epoch if it is new, else the last message.
-    fn base(&self, epochs: &Option<Span>) -> GpsMs
-        ensures { result ≡ spec.clock_base epochs.now self.now }
+    // The moment near which the next message is dated: the last epoch or date if it is new, else the last message.
+    fn base(&self, marks: &Option<ClockMarks>) -> GpsMs
+        ensures { result ≡ spec.clock_base marks.now self.now }
     {
-        match epochs {
-            Some(epochs) if is_new_epoch(self.epoch, epochs.last) => epochs.last,
+        match marks {
+            Some(marks) if is_new_mark(self.mark, marks.last) => marks.last,
             _ => self.span.last,
         }
     }
 
-    // A message more after these epochs.
-    fn with_time(&self, clock: FollowedClock, epochs: &Option<Span>, time: u32) -> FollowedSpan
-        ensures { result ≡ spec.with_clock_time clock epochs.now time self.now }
+    // A message more after these epochs or dates.
+    fn with_time(&self, clock: FollowedClock, marks: &Option<ClockMarks>, time: u32) -> FollowedSpan
+        ensures { result ≡ spec.with_clock_time clock marks.now time self.now }
     {
-        let ms = clock_moment(clock, self.base(epochs), time);
+        let ms = clock_moment(clock, self.base(marks), time);
         FollowedSpan {
             span: with_moment_near(&self.span, ms),
-            epoch: last_epoch_of(epochs),
+            mark: last_mark_of(marks),
+            by_dates: are_dates_if_any(marks),
         }
     }
 }
@@ -375,29 +398,29 @@ impl FollowedSpan {
 // A message more of a clock, of which some came.
 fn clock_with(
     clock: FollowedClock,
-    epochs: &Option<Span>,
+    marks: &Option<ClockMarks>,
     known: &ClockSpan,
     time: u32,
 ) -> FollowedSpan
-    ensures { result ≡ spec.clock_with clock epochs.now known.now time }
+    ensures { result ≡ spec.clock_with clock marks.now known.now time }
 {
     let opened = known.opened();
-    let anchored = opened.anchored_if_any(clock, epochs);
-    anchored.with_time(clock, epochs, time)
+    let anchored = opened.anchored_if_any(clock, marks);
+    anchored.with_time(clock, marks, time)
 }
 
 // A message more of a clock, of which some came or none.
 fn clock_followed(
     clock: FollowedClock,
-    epochs: &Option<Span>,
+    marks: &Option<ClockMarks>,
     known: &Option<ClockSpan>,
     time: u32,
 ) -> ClockSpan
-    ensures { result ≡ spec.clock_followed clock epochs.now known.now time }
+    ensures { result ≡ spec.clock_followed clock marks.now known.now time }
 {
     match known {
-        Some(known) => clock_with(clock, epochs, known, time).kept(),
-        None => clock_begun(clock, epochs, time).kept(),
+        Some(known) => clock_with(clock, marks, known, time).kept(),
+        None => clock_begun(clock, marks, time).kept(),
     }
 }
 
@@ -415,25 +438,25 @@ impl StationClocks {
         }
     }
 
-    // A time more of a clock, after these epochs.
-    fn take(&mut self, epochs: &Option<Span>, told: FollowedTime)
-        ensures { self.new ≡ spec.with_followed_time epochs.now told self.old }
+    // A time more of a clock, after these epochs or dates.
+    fn take(&mut self, marks: &Option<ClockMarks>, told: FollowedTime)
+        ensures { self.new ≡ spec.with_followed_time marks.now told self.old }
     {
         let time = told.time;
         match told.clock {
             FollowedClock::GlonassWeek => {
                 let clock = FollowedClock::GlonassWeek;
-                let span = clock_followed(clock, epochs, &self.glonass, time);
+                let span = clock_followed(clock, marks, &self.glonass, time);
                 self.glonass = Some(span);
             }
             FollowedClock::BeidouWeek => {
                 let clock = FollowedClock::BeidouWeek;
-                let span = clock_followed(clock, epochs, &self.beidou, time);
+                let span = clock_followed(clock, marks, &self.beidou, time);
                 self.beidou = Some(span);
             }
             FollowedClock::GlonassDay => {
                 let clock = FollowedClock::GlonassDay;
-                let span = clock_followed(clock, epochs, &self.glonass_day, time);
+                let span = clock_followed(clock, marks, &self.glonass_day, time);
                 self.glonass_day = Some(span);
             }
         }
@@ -457,17 +480,17 @@ pub fn clocks_by_station(clocks: &BTreeMap<u16, StationClocks>, station: u16) ->
     }
 }
 
-/// A time more of a clock of a station, after these epochs of it.
+/// A time more of a clock of a station, after these epochs or dates of it.
 pub(crate) fn take_followed_time(
     clocks: &mut BTreeMap<u16, StationClocks>,
     station: u16,
-    epochs: &Option<Span>,
+    marks: &Option<ClockMarks>,
     told: FollowedTime,
 ) -> Result<(), AllocError>
-    ensures own { OnOk result (clocks_by_station clocks.new station ≡ spec.with_followed_time epochs.now told (clocks_by_station clocks.old station)) }
+    ensures own { OnOk result (clocks_by_station clocks.new station ≡ spec.with_followed_time marks.now told (clocks_by_station clocks.old station)) }
     ensures others { OnOk result ((n : ℕ) → n ≢ station → clocks_by_station clocks.new n ≡ clocks_by_station clocks.old n) }
 {
     let own = clocks.entry(station)?.or_insert(StationClocks::new());
-    own.take(epochs, told);
+    own.take(marks, told);
     Ok(())
 }

@@ -20,6 +20,7 @@ ghost use Rattle.rtk_survey.specs.declared.dating_systems.DatingSystems.{DatingS
 ghost use Rattle.rtk_survey.specs.declared.target.Target.{Target};
 
 use crate::capture_dates::CaptureDates;
+use crate::clock_marks::{ClockMarks, marks_in};
 use crate::clock_spans::{
     FollowedTime, StationClocks, followed_with_value, no_clocks_followed, take_followed_time,
 };
@@ -29,7 +30,6 @@ use crate::equipment_message::{EquipmentMessage, equipment_in};
 use crate::parting::Parting;
 use crate::phases::Phases;
 use crate::signals::have_value;
-use crate::span::Span;
 use crate::system_msm::gives_value;
 use crate::system_phases::SystemPhases;
 use crate::tellings::Told;
@@ -250,46 +250,48 @@ fn take_phases(
     Ok(())
 }
 
-// The epochs of a station, if it is the one that is known.
-fn epochs_if_known(dates: &TargetDates, station: u16) -> Option<Span>
-    ensures { result ≡ spec.epochs_if_known station dates.now }
+/// The epochs of a station, or before the first of them the dates that it names, if no other station is known.
+pub fn marks_if_known(now: GpsMs, dates: &TargetDates, station: u16) -> Option<ClockMarks>
+    ensures { result ≡ spec.marks_if_known now station dates.now }
 {
     if dates.station.unwrap_or(station) == station {
-        dates.capture.span
+        marks_in(now, station, &dates.capture)
     } else {
         None
     }
 }
 
-// A message more that tells this time of a clock that gives no epoch, after these epochs.
+// A message more that tells this time of a clock that gives no epoch.
 fn take_time_of(
     clocks: &mut BTreeMap<u16, StationClocks>,
+    now: GpsMs,
     dates: &TargetDates,
     message: &AnyMessage,
     told: FollowedTime,
 ) -> Result<(), AllocError>
     ensures { OnOk result ((n : ℕ) → clocks_by_station clocks.new n
-        ≡ with_time_for n (station_of message.now) (spec.epochs_if_known (station_of message.now) dates.now) told (clocks_by_station clocks.old n)) }
+        ≡ with_time_for n (station_of message.now) (spec.marks_if_known now (station_of message.now) dates.now) told (clocks_by_station clocks.old n)) }
 {
     let station = message.station();
-    let epochs = epochs_if_known(dates, station);
-    take_followed_time(clocks, station, &epochs, told)
+    let marks = marks_if_known(now, dates, station);
+    take_followed_time(clocks, station, &marks, told)
 }
 
 // A message more, if it has a value and tells such a clock.
 fn take_clock_time(
     clocks: &mut BTreeMap<u16, StationClocks>,
+    now: GpsMs,
     dates: &TargetDates,
     message: &AnyMessage,
     signals: &[SignalEntry],
 ) -> Result<(), AllocError>
     requires { signals.now ≡ cells_beside_gps message.now }
     ensures { OnOk result ((n : ℕ) → clocks_by_station clocks.new n
-        ≡ with_time_for_if_any n (station_of message.now) (spec.epochs_if_known (station_of message.now) dates.now)
+        ≡ with_time_for_if_any n (station_of message.now) (spec.marks_if_known now (station_of message.now) dates.now)
         (followed_with_value message.now) (clocks_by_station clocks.old n)) }
 {
     match followed_with_value(message, signals) {
-        Some(told) => take_time_of(clocks, dates, message, told),
+        Some(told) => take_time_of(clocks, now, dates, message, told),
         None => Ok(()),
     }
 }
@@ -326,7 +328,8 @@ impl TargetSurvey {
         ensures { OnOk result ((q : Target) (fs : List ReadFrame) (payload : List ℕ) → frame ≡ shown_count (length fs)
             → IsTargetOf q fs self.old → IsTargetOf q (read_frame payload (Ok message.now) ∷ fs) self.new) }
     {
-        take_clock_time(&mut self.clocks, &self.dates, message, signals)?;
+        let present = self.present;
+        take_clock_time(&mut self.clocks, present, &self.dates, message, signals)?;
         let before = self.dates.capture.span;
         take_message(&mut self.dates, self.present, message, entries, signals);
         self.parting

@@ -72,8 +72,8 @@ pub(crate) fn first_epoch_told(now: GpsMs, span: &Span, message: &DateMessage) -
     first_epoch_from(span, last)
 }
 
-// The moment that a message names itself, if a conversion dates near it.
-fn reference_named(now: GpsMs, message: &DateMessage) -> Option<u64>
+/// The moment that a message names itself, if a conversion dates near it.
+pub(crate) fn reference_named(now: GpsMs, message: &DateMessage) -> Option<u64>
     ensures { result ≡ reference_named now message.now }
 {
     let moment = own_moment(now, message)?;

@@ -11,5 +11,5 @@ returns c =
     let clocks = c.args.clocks.now in
     let name = c.args.name.now in
     then-put c.args.lines.now.items c.put_undated_clock.new.lines.items c.put_falling_clock.new.lines.items
-    (undated_clock_line c.args.source taken takes capture clocks name) (falling_clock_line taken takes capture clocks name)
+    (undated_clock_line c.args.source taken takes c.args.leaves_1012 capture clocks name) (falling_clock_line taken takes capture clocks name)
     c.in_ok-put_undated_clock.ensures c.in_ok-put_falling_clock.ensures

@@ -1,6 +1,8 @@
 use Rattle.std.proofs.Common.{false, List, ℕ, sym, subst, ◌∙◌}
 use Rattle.rtk_captures.specs.declared.station_capture.StationCapture.{StationCapture}
 use Rattle.rtk_captures.specs.Dating.{AreStrays, IsInReach, IsSpanOf}
+use Rattle.rtk_survey.specs.Surveys.{places_of}
+use Rattle.rtk_plan.specs.LinkPlaces.{AreLinksOf}
 use Rattle.rtk_plan.specs.Causes.{IsCaptureCause, IsCauseOf}
 use Rattle.rtk_plan.specs.Plan.{AreSecondsCompared, HasNear1012, HaveFarClocks}
 use Rattle.rtk_plan.proofs.RefusedLemmas.{exit-also, chosen-cause}
@@ -30,6 +32,11 @@ pub returns-clause-clocks : goal.returns-clause-clocks
 returns-clause-clocks c =
     subst (λ (n : ℕ). HaveFarClocks c.args.captures.now.surveys.now c.args.wanted.now.near n c.in_ok-plan.plan.setup false) (sym c.in_ok-plan.ensures.station)
     c.in_ok-plan.ensures.clocks
+
+pub returns-clause-links : goal.returns-clause-links
+returns-clause-links c =
+    subst (λ (n : ℕ). AreLinksOf c.args.as_given c.args.wanted.now.near c.args.captures.now.surveys.now n (places_of c.in_ok-plan.plan.links.items)) (sym c.in_ok-plan.ensures.station)
+    c.in_ok-plan.ensures.links
 
 pub returns-clause-in_reach : goal.returns-clause-in_reach
 returns-clause-in_reach c =

@@ -6,7 +6,7 @@ use Rattle.rtk_setup.specs.Setup.{SetupView}
 use Rattle.rtk_plan.specs.Plan.{IsNear1012, HaveFarClocks, IsSetupFor, clock_seconds}
 use Rattle.rtk_captures.specs.CaptureCauses.{AreTooMany, IsDatingCause}
 use Rattle.rtk_survey.specs.Surveys.{places_of}
-use Rattle.rtk_captures.specs.Linking.{AreLinksOf}
+use Rattle.rtk_plan.specs.LinkPlaces.{AreLinksOf}
 use Rattle.rtk_captures.specs.Dating.{IsInReach, IsNearOf}
 use Rattle.rtk_captures.specs.declared.refusal.Refusal.{Refusal}
 use Rattle.rtk_captures.specs.declared.refusal.Refusal.TheVariants.{Empty, NoCode, OutsideDates, NoRates, TooLong, TooManyLinks, PositionsDiffer}
@@ -17,7 +17,7 @@ use Rattle.rtk_plan.proofs.planning.plan_of_station.Goals as goal
 
 -- what keeps captures with these links from having a setup
 setup-cause : (ss : List CaptureSurvey) (links : List (List ℕ)) (w : Wanted) (skip_empty as_given : Bool) (station : ℕ) (cs : List StationCapture) (near : ℕ)
-    → AreLinksOf as_given w.near cs links → IsNearOf w.near cs near
+    → AreLinksOf as_given w.near ss station links → IsNearOf w.near cs near
     → (refusal : Refusal) → IsSetupCause ss links w station near refusal → IsCaptureCause ss w skip_empty as_given station cs refusal
 setup-cause ss links w skip_empty as_given station cs near are first NoCode none = (links, are, (near, first, none))
 setup-cause ss links w skip_empty as_given station cs near are first OutsideDates outside =
@@ -27,7 +27,7 @@ setup-cause ss links w skip_empty as_given station cs near are first other never
 
 -- there are too many of these links
 links-cause : (ss : List CaptureSurvey) (links : List (List ℕ)) (w : Wanted) (skip_empty as_given : Bool) (station : ℕ) (cs : List StationCapture)
-    → AreLinksOf as_given w.near cs links → (refusal : Refusal) → AreTooMany links refusal → IsCaptureCause ss w skip_empty as_given station cs refusal
+    → AreLinksOf as_given w.near ss station links → (refusal : Refusal) → AreTooMany links refusal → IsCaptureCause ss w skip_empty as_given station cs refusal
 links-cause ss links w skip_empty as_given station cs are refusal many =
     subst (λ (r : Refusal). IsCaptureCause ss w skip_empty as_given station cs r) (sym many.0) (links, are, many.1)
 
@@ -67,7 +67,7 @@ returns-in_err-demand_near_clocks-clause-refused c =
     exit-also (λ (r : Refusal). (r ≡ TooLong) × HaveFarClocks ss w.near station c.in_ok-setup.setup true)
     (IsCaptureCause ss w c.args.skip_empty c.args.as_given station cs)
     c.in_err-demand_near_clocks.field-0.0 c.from_residual-in_err-demand_near_clocks.result c.from_residual-in_err-demand_near_clocks.ensures.1
-    (clocks-cause ss (places_of c.as_slice-2.result.now) w c.args.skip_empty c.args.as_given station cs c.args.made c.in_ok-setup.setup c.in_ok-setup.ensures.setup)
+    (clocks-cause ss (places_of c.as_slice.result.now) w c.args.skip_empty c.args.as_given station cs c.args.made c.in_ok-setup.setup c.in_ok-setup.ensures.setup)
     c.in_err-demand_near_clocks.ensures.refused
 
 pub returns-in_err-setup-clause-refused : goal.returns-in_err-setup-clause-refused
@@ -75,9 +75,10 @@ returns-in_err-setup-clause-refused c =
     let ss = c.args.captured.now.all.surveys.now in
     let w = c.args.wanted.now in
     let cs = c.args.captured.now.captures.now in
-    let links = places_of c.as_slice-2.result.now in
-    let same : links ≡ places_of c.in_ok-links.links.items = ap places_of c.as_slice-2.ensures.value in
-    let are : AreLinksOf c.args.as_given w.near cs links = subst (λ (ls : List (List ℕ)). AreLinksOf c.args.as_given w.near cs ls) (sym same) c.in_ok-links.ensures in
+    let links = places_of c.as_slice.result.now in
+    let same : links ≡ places_of c.in_ok-links.links.items = ap places_of c.as_slice.ensures.value in
+    let are : AreLinksOf c.args.as_given w.near ss c.args.captured.now.station links =
+    subst (λ (ls : List (List ℕ)). AreLinksOf c.args.as_given w.near ss c.args.captured.now.station ls) (sym same) c.in_ok-links.ensures in
     exit-also (IsSetupCause ss links w c.args.captured.now.station c.in_ok-dating.dating.near)
     (IsCaptureCause ss w c.args.skip_empty c.args.as_given c.args.captured.now.station cs)
     c.in_err-setup.field-0.0 c.from_residual-in_err-setup.result c.from_residual-in_err-setup.ensures.1
@@ -89,9 +90,10 @@ returns-in_err-limit_links-clause-refused c =
     let ss = c.args.captured.now.all.surveys.now in
     let w = c.args.wanted.now in
     let cs = c.args.captured.now.captures.now in
-    let links = places_of c.as_slice-3.result.now in
-    let same : links ≡ places_of c.in_ok-links.links.items = ap places_of c.as_slice-3.ensures.value in
-    let are : AreLinksOf c.args.as_given w.near cs links = subst (λ (ls : List (List ℕ)). AreLinksOf c.args.as_given w.near cs ls) (sym same) c.in_ok-links.ensures in
+    let links = places_of c.as_slice-2.result.now in
+    let same : links ≡ places_of c.in_ok-links.links.items = ap places_of c.as_slice-2.ensures.value in
+    let are : AreLinksOf c.args.as_given w.near ss c.args.captured.now.station links =
+    subst (λ (ls : List (List ℕ)). AreLinksOf c.args.as_given w.near ss c.args.captured.now.station ls) (sym same) c.in_ok-links.ensures in
     exit-also (AreTooMany links) (IsCaptureCause ss w c.args.skip_empty c.args.as_given c.args.captured.now.station cs)
     c.in_err-limit_links.field-0.0 c.from_residual-in_err-limit_links.result c.from_residual-in_err-limit_links.ensures.1
     (links-cause ss links w c.args.skip_empty c.args.as_given c.args.captured.now.station cs are)

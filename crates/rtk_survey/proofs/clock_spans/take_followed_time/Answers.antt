@@ -16,9 +16,9 @@ returns-clause-own c =
     let was = c.or_insert-own.ensures.value ∙ ap (λ (o : Option StationClocks). unwrap_or o c.new.result) c.in_ok-clocks.ensures.value
     ∙ ap (λ (s : StationClocks). unwrap_or (get nat_cmp c.args.clocks.now station) s) c.new.ensures in
     let e : c.clocks-3-1.given.0 ≡ m = search rules in
-    subst (λ (x : BTreeMap ℕ StationClocks). clocks_by_station x station ≡ with_followed_time c.args.epochs.now c.args.told (clocks_by_station c.args.clocks.now station)) (sym e)
+    subst (λ (x : BTreeMap ℕ StationClocks). clocks_by_station x station ≡ with_followed_time c.args.marks.now c.args.told (clocks_by_station c.args.clocks.now station)) (sym e)
     (put-clocks c.args.clocks.now m station after (c.in_ok-clocks.ensures.update.0 after)
-    ∙ c.take.ensures ∙ ap (λ (s : StationClocks). with_followed_time c.args.epochs.now c.args.told s) was)
+    ∙ c.take.ensures ∙ ap (λ (s : StationClocks). with_followed_time c.args.marks.now c.args.told s) was)
 
 pub returns-clause-others : goal.returns-clause-others
 returns-clause-others c = λ n other.

@@ -2,7 +2,7 @@ use Rattle.std.proofs.Common.{ℕ, sym, ap, ◌∙◌}
 use Rattle.rtk_message.specs.AnyDecoded.{station_of}
 use Rattle.rtk_survey.specs.ClockSpans.{followed_with_value, with_time_for_if_any}
 use Rattle.rtk_survey.specs.ReadFrames.{messages_in}
-use Rattle.rtk_survey.specs.Targets.{with_observation, epochs_if_known, clocks_in}
+use Rattle.rtk_survey.specs.Targets.{with_observation, marks_if_known, clocks_in}
 use Rattle.rtk_survey.specs.declared.clock_spans.StationClocks.{StationClocks}
 use Rattle.rtk_survey.specs.declared.dating_systems.DatingSystems.{DatingSystems}
 use Rattle.rtk_survey.specs.declared.target.TargetDates.{TargetDates}
@@ -30,7 +30,8 @@ returns c = on-ok c.take_phases.result (λ took q fs payload count is.
       clocks = λ n.
           let k = station_of m in
           c.in_ok-take_clock_time.ensures n
-          ∙ ap (λ (s : StationClocks). with_time_for_if_any n k (epochs_if_known k old.dates) (followed_with_value m) s) (is.clocks n)
-          ∙ ap (λ (d : TargetDates). with_time_for_if_any n k (epochs_if_known k d) (followed_with_value m) (clocks_in q fs n)) is.dates;
+          ∙ ap (λ (s : StationClocks). with_time_for_if_any n k (marks_if_known old.present k old.dates) (followed_with_value m) s) (is.clocks n)
+          ∙ ap (λ (t : ℕ). with_time_for_if_any n k (marks_if_known t k old.dates) (followed_with_value m) (clocks_in q fs n)) is.present
+          ∙ ap (λ (d : TargetDates). with_time_for_if_any n k (marks_if_known q.present k d) (followed_with_value m) (clocks_in q fs n)) is.dates;
       system_phases = c.in_ok-count_phases.ensures q.station (messages_in fs) is.system_phases;
     }) c.take_phases.ensures
