@@ -1,5 +1,6 @@
--- Sums over satellites, one term after another, and tests of codes.
-use Rattle.std.proofs.Common.{◌≡◌, ◌<◌, ◌+◌, ◌||◌, ℕ, zero, suc, Bool, true, false, List, [], ◌∷◌, ◌++◌, length, get_or, refl, sym, ap, ◌∙◌, arith}
+-- Sums over satellites, one term after another, marks of satellites, and tests of codes.
+use Rattle.std.proofs.Common.{◌≡◌, ◌<◌, ◌+◌, ◌||◌, ℕ, zero, suc, Bool, true, false, List, [], ◌∷◌, ◌++◌, length, set, get_or, get_or-set_same, get_or-set_other, inl, inr, refl, sym, ap, ◌∙◌, arith}
+use Rattle.std.proofs.lemmas.Bool.{cases_eq}
 use Rattle.std.proofs.lemmas.List.Folds.{list_any-append, list_any_at}
 use Rattle.std.proofs.lemmas.List.FromFn.{length-range_with_len, get_or-range_with_len}
 use Rattle.std.proofs.lemmas.List.Sums.{sum_by-cons, sum_by-append}
@@ -22,6 +23,23 @@ sum-more f a n k next at is =
     let nil : sum_by f [] ≡ 0 = refl in
     let here : f (a + n) ≡ f k = ap f (sym at) in
     omega (arith, longer, last, alone, nil, here)
+
+-- ---- marks of numbers from 0, each where a test holds
+
+-- one number more is marked
+pub mark-more : (test : ℕ → Bool) (marks : List Bool) (k j : ℕ) (mark : Bool) → j ≡ k → k < length marks → mark ≡ test k
+    → ((n : ℕ) (none : Bool) → n < k → get_or marks n none ≡ test n) → (n : ℕ) (none : Bool) → n < k + 1 → get_or (set marks j mark) n none ≡ test n
+mark-more test marks k j mark at within is told n none lt =
+    let here : get_or (set marks k mark) n none ≡ test n = elim (cases_eq n k) [
+      | inl same ↦ ap (λ (m : ℕ). get_or (set marks k mark) m none) same ∙ get_or-set_same marks k mark none within ∙ is ∙ ap test (sym same)
+      | inr other ↦ get_or-set_other marks k n mark none other ∙ told n none (omega (arith, lt, other))
+    ] in
+    ap (λ (m : ℕ). get_or (set marks m mark) n none) at ∙ here
+
+-- the mark of a number
+pub mark-at : (test : ℕ → Bool) (marks : List Bool) (end k j : ℕ) (none : Bool) → j ≡ k → k < end
+    → ((n : ℕ) (d : Bool) → n < end → get_or marks n d ≡ test n) → get_or marks j none ≡ test k
+mark-at test marks end k j none at within told = ap (λ (m : ℕ). get_or marks m none) at ∙ told k none within
 
 -- ---- a test of numbers from 0
 

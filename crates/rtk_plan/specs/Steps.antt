@@ -1,2 +1,3 @@
 -- Definitions that only private clauses use.
+pub mod PhaseMarks
 pub mod SetupParts

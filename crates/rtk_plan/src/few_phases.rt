@@ -1,7 +1,8 @@
 //! Codes of which the satellites have few phases.
 
-ghost use Rattle.std.specs.Prelude.{◌≡◌, ◌<◌, ◌^◌};
+ghost use Rattle.std.specs.Prelude.{◌≡◌, ◌<◌, ◌^◌, ℕ};
 ghost use Rattle.rtk_plan.specs.FewPhases as spec;
+ghost use Rattle.rtk_plan.specs.Steps.PhaseMarks.{MarksSatellites};
 
 use rtk_captures::is_station;
 use rtk_message::{MsmKind, MsmType, System};
@@ -92,13 +93,6 @@ fn joined_count(count: PhaseCount, other: PhaseCount) -> PhaseCount
     }
 }
 
-// The number, if it counts.
-fn phases_if(counts: bool, phases: u64) -> u64
-    ensures { result ≡ spec.phases_if counts phases }
-{
-    if counts { phases } else { 0 }
-}
-
 // The messages beside the MSM from which a conversion takes values of a system.
 fn legacy_source(taken: TakenMessages, system: System) -> Option<PhaseSource>
     ensures { result ≡ spec.legacy_source taken system }
@@ -170,24 +164,38 @@ impl CapturePhases<'_> {
         joined_count(legacy, self.count(self.from.msm, bit, code))
     }
 
-    // How many phases a satellite has in another code, if it has a value in this one.
-    fn phases_of(&self, bit: u8, code: u8, other: u8) -> u64
-        ensures { result ≡ spec.phases_of self.now.surveys.now self.now.station self.now.from code other bit }
+    // Which satellites, by their mask bits, have a value in a code.
+    fn satellites_with(&self, code: u8) -> [bool; 64]
+        ensures { MarksSatellites self.now.surveys.now self.now.station self.now.from code result }
     {
-        phases_if(
-            self.code_count(bit, code).has_value,
-            self.code_count(bit, other).phases,
-        )
+        let mut marks = [false; 64];
+        for bit in 0u8..BITS_END {
+            marks[usize::from(bit)] = self.code_count(bit, code).has_value;
+        }
+        marks
     }
 
-    // How many phases the satellites that have a value in one code have in another.
-    fn phases_shared(&self, code: u8, other: u8) -> u128
-        ensures value { result ≡ spec.phases_shared self.now.surveys.now self.now.station self.now.from code other }
+    // How many phases a satellite has in a code, if it is marked.
+    fn marked_phases(&self, is_marked: bool, bit: u8, code: u8) -> u64
+        ensures { result ≡ spec.phases_if is_marked (spec.code_count self.now.surveys.now self.now.station self.now.from bit code).phases }
+    {
+        if is_marked {
+            self.code_count(bit, code).phases
+        } else {
+            0
+        }
+    }
+
+    // How many phases the satellites that have a value in one code, which are marked, have in another.
+    fn phases_shared(&self, marks: &[bool; 64], other: u8) -> u128
+        ensures value { (code : ℕ) → MarksSatellites self.now.surveys.now self.now.station self.now.from code marks.now
+            → result ≡ spec.phases_shared self.now.surveys.now self.now.station self.now.from code other }
         ensures bound { result < 2 ^ 70 }
     {
         let mut phases = 0u128;
         for bit in 1u8..BITS_END {
-            phases += u128::from(self.phases_of(bit, code, other));
+            let is_marked = marks[usize::from(bit)];
+            phases += u128::from(self.marked_phases(is_marked, bit, other));
         }
         phases
     }
@@ -196,9 +204,10 @@ impl CapturePhases<'_> {
     fn has_few(&self, code: u8) -> bool
         ensures { result ≡ spec.has_few_phases self.now.surveys.now self.now.station self.now.from code }
     {
-        let own = self.phases_shared(code, code);
+        let marks = self.satellites_with(code);
+        let own = self.phases_shared(&marks, code);
         for other in 0u8..CODES {
-            if 2 * own < self.phases_shared(code, other) {
+            if 2 * own < self.phases_shared(&marks, other) {
                 return true;
             }
         }

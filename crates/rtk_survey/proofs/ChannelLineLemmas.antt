@@ -1,11 +1,12 @@
 -- The line of the channels that messages tell.
-use Rattle.std.proofs.Common.{◌≡◌, ◌&&◌, ◌<◌, ◌≤◌, ◌+◌, ◌-◌, ◌/◌, ◌%◌, ◌++◌, ◌∙◌, ℕ, zero, suc, Bool, true, false, cond, List, [], ◌∷◌, get_or, refl, sym, ap, append_assoc, nat_lt, arith}
+use Rattle.std.proofs.Common.{◌≡◌, ◌&&◌, ◌<◌, ◌≤◌, ◌+◌, ◌-◌, ◌/◌, ◌%◌, ◌++◌, ◌∙◌, ℕ, zero, suc, Bool, true, false, cond, List, [], ◌∷◌, refl, sym, ap, append_assoc, nat_lt, arith}
 use Rattle.std.specs.Prelude.{filter, codes}
+use Rattle.std.specs.BTreeMap.{BTreeMap}
 use Rattle.std.specs.List.{range_with_len}
 use Rattle.rtk_message.specs.declared.any_message.AnyMessage.{AnyMessage}
-use Rattle.rtk_survey.specs.Channels.{tells_field, place_of_field, IsChannelTold, CountsChannels, place_is_told}
+use Rattle.rtk_survey.specs.Channels.{place_of_field, IsChannelTold, CountsChannels, place_is_told}
 use Rattle.rtk_survey.specs.Steps.Tables.{place_is_counted}
-use Rattle.rtk_survey.specs.Counting.{count_of}
+use Rattle.rtk_survey.specs.Contents.{count_at}
 use Rattle.rtk_survey.specs.SummaryText.{told_channel_text, joined_channels, told_channels_text, line_if_some, channel_line}
 
 -- ---- one place after another
@@ -35,7 +36,7 @@ channel-passed told text separator place whole within is so_far =
     ap (λ (ps : List ℕ). filter told ps) (place-first place within) ∙ ap (λ (b : Bool). cond b (place ∷ rest) rest) is in
     ap (λ (ps : List ℕ). text ++ joined_channels separator ps) (sym first) ∙ so_far
 
--- ---- the table is that of the messages
+-- ---- the counts are those of the messages
 
 filters-agree : (f g : ℕ → Bool) (a n : ℕ) → ((k : ℕ) → a ≤ k → k < a + n → f k ≡ g k) → filter f (range_with_len a n) ≡ filter g (range_with_len a n)
 filters-agree f g a zero agree = refl
@@ -47,22 +48,17 @@ filters-agree f g a (suc n) agree =
     ap (λ (b : Bool). cond b (a ∷ filter f (range_with_len (a + 1) n)) (filter f (range_with_len (a + 1) n))) (agree a low here)
     ∙ ap (λ (xs : List ℕ). cond (g a) (a ∷ xs) xs) rest
 
-pub counted-as : (table : List ℕ) (ms : List AnyMessage) (slot field : ℕ) → IsChannelTold slot field → CountsChannels table ms
-    → get_or table (place_of_field slot field) 0 ≡ count_of (tells_field slot field) ms
-counted-as [] ms slot field is counts = sym (counts slot field is)
-counted-as (x ∷ xs) ms slot field is counts = counts.counts slot field is
-
 same-place : (place : ℕ) → place_of_field (place / 21) (place % 21) ≡ place
 same-place place = omega arith
 
-told-as : (table : List ℕ) (ms : List AnyMessage) (place : ℕ) → 21 ≤ place → place < 588 → CountsChannels table ms → place_is_counted table place ≡ place_is_told ms place
-told-as table ms place from within counts =
+told-as : (counts : BTreeMap ℕ ℕ) (ms : List AnyMessage) (place : ℕ) → 21 ≤ place → place < 588 → CountsChannels counts ms → place_is_counted counts place ≡ place_is_told ms place
+told-as counts ms place from within had =
     let is : IsChannelTold (place / 21) (place % 21) = record { first = omega (arith, from); last = omega (arith, within); few = omega arith } in
-    ap (λ (k : ℕ). nat_lt (place % 21) 14 && nat_lt 0 (get_or table k 0)) (sym (same-place place))
-    ∙ ap (λ (n : ℕ). nat_lt (place % 21) 14 && nat_lt 0 n) (counted-as table ms (place / 21) (place % 21) is counts)
+    ap (λ (k : ℕ). nat_lt (place % 21) 14 && nat_lt 0 (count_at counts k)) (sym (same-place place))
+    ∙ ap (λ (n : ℕ). nat_lt (place % 21) 14 && nat_lt 0 n) (had (place / 21) (place % 21) is)
 
-pub channel-line-is : (table : List ℕ) (ms : List AnyMessage) → CountsChannels table ms → channel_line (place_is_counted table) ≡ channel_line (place_is_told ms)
+pub channel-line-is : (counts : BTreeMap ℕ ℕ) (ms : List AnyMessage) → CountsChannels counts ms → channel_line (place_is_counted counts) ≡ channel_line (place_is_told ms)
 unfolding channel_line told_channels_text
-channel-line-is table ms counts =
+channel-line-is counts ms had =
     ap (λ (ps : List ℕ). line_if_some (codes " channels") (joined_channels 32 ps))
-    (filters-agree (place_is_counted table) (place_is_told ms) 21 567 (λ k from lt. told-as table ms k from (omega (arith, lt)) counts))
+    (filters-agree (place_is_counted counts) (place_is_told ms) 21 567 (λ k from lt. told-as counts ms k from (omega (arith, lt)) had))

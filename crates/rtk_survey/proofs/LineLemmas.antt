@@ -199,7 +199,7 @@ clocked-are s ms has others beside =
 
 -- the command by what is held is that by the messages
 pub proposal-is : (name near : List ℕ) (number : ℕ) (date : Option UtcDate) (s : StationSurvey) (ms : List AnyMessage) → HasMsms s.msm ms → HasSystems s.system_msm ms
-    → CountsChannels s.channels.items ms → clocks_at s.clocks ≡ clocks_of ms → s.times ≡ times_of (times_of_week ms)
+    → CountsChannels s.channels ms → clocks_at s.clocks ≡ clocks_of ms → s.times ≡ times_of (times_of_week ms)
     → station_proposal name near number (epochs_held s.msm) (codes_held s.msm) (system_epochs_held s) (taken_held date s) (glonass_held date s)
     ≡ station_proposal name near number (λ kind. epochs_with_value kind ms) (λ kind. has_code (entries_with kind ms)) (epochs_beside ms) (taken_beside date ms) (glonass_beside date ms)
 proposal-is name near number date s ms own beside channels clocks times =
@@ -241,7 +241,7 @@ lines_held name number s d e times =
     ++ told_lines d e
     ++ signal_lines (λ n. get_or s.signals.satellites n false) (λ c. get_or s.signals.codes.marks (place_of c) false) (λ n. get_or s.system_signals.satellites n false) (λ c. get_or s.system_signals.codes (number_of c) false)
     ++ system_epoch_lines (system_epochs_held s)
-    ++ channel_line (place_is_counted s.channels.items)
+    ++ channel_line (place_is_counted s.channels)
     ++ all_clock_lines (proposed_date d) (clocked_held s) (clocks_at s.clocks).offsets
     ++ station_proposal name (near_text (proposed_date d)) number (epochs_held s.msm) (codes_held s.msm) (system_epochs_held s) (taken_held (proposed_date d) s) (glonass_held (proposed_date d) s)
 
@@ -270,12 +270,12 @@ station-lines-are name number s d e ms stands =
     let date = proposed_date d in
     let sent : SystemsSent = systems_clocked ms in
     let clocks : List ℕ = all_clock_lines date sent (clocks_of ms).offsets in
-    let channels' : List ℕ = channel_line (place_is_counted s.channels.items) in
+    let channels' : List ℕ = channel_line (place_is_counted s.channels) in
     let epochs' : List ℕ = system_epoch_lines (system_epochs_held s) in
     ap (λ (t : List ℕ). head ++ t ++ times ++ dates ++ signals ++ system_epoch_lines (epochs_beside ms) ++ channels ++ clocks ++ proposal) (sym (messages-agree s ms d e stands))
     ∙ ap (λ (t : List ℕ). head ++ messages' ++ times ++ dates ++ t ++ system_epoch_lines (epochs_beside ms) ++ channels ++ clocks ++ proposal) (sym (signals-are s.signals s.system_signals ms stands.signals stands.system_signals))
     ∙ ap (λ (t : ℕ → ℕ). head ++ messages' ++ times ++ dates ++ signals' ++ system_epoch_lines t ++ channels ++ clocks ++ proposal) (sym (epochs-beside-are s ms stands.system_msm))
-    ∙ ap (λ (t : List ℕ). head ++ messages' ++ times ++ dates ++ signals' ++ epochs' ++ t ++ clocks ++ proposal) (sym (channel-line-is s.channels.items ms stands.channels))
+    ∙ ap (λ (t : List ℕ). head ++ messages' ++ times ++ dates ++ signals' ++ epochs' ++ t ++ clocks ++ proposal) (sym (channel-line-is s.channels ms stands.channels))
     ∙ ap (λ (x : ClockSurvey). head ++ messages' ++ times ++ dates ++ signals' ++ epochs' ++ channels' ++ all_clock_lines date sent x.offsets ++ proposal) (sym stands.clocks)
     ∙ ap (λ (x : SystemsSent). head ++ messages' ++ times ++ dates ++ signals' ++ epochs' ++ channels' ++ all_clock_lines date x (clocks_at s.clocks).offsets ++ proposal) (sym (clocked-are s ms stands.signals.codes stands.system_signals stands.system_msm))
     ∙ ap (λ (t : List ℕ). head ++ messages' ++ times ++ dates ++ signals' ++ epochs' ++ channels' ++ all_clock_lines date (clocked_held s) (clocks_at s.clocks).offsets ++ t) (sym (proposal-is name near number (proposed_date d) s ms stands.msm stands.system_msm stands.channels stands.clocks stands.times))

@@ -22,7 +22,6 @@ use Rattle.rtk_survey.specs.declared.station.StationSurvey.{StationSurvey}
 use Rattle.rtk_survey.specs.Tracing.{times_of_week, newest_time, oldest_time}
 use Rattle.rtk_survey.specs.declared.system_msm.SystemMsm.{SystemMsm}
 use Rattle.rtk_survey.specs.declared.times_of_week.Times.{Times}
-use Rattle.rtk_survey.proofs.ChannelLineLemmas.{counted-as}
 use Rattle.rtk_survey.proofs.SystemLemmas.{any-codes-marked, epochs-beside-are}
 
 -- ---- codes
@@ -110,7 +109,7 @@ items-agree f g a (suc n) agree =
     items-agree f g (a + 1) n (λ k from lt. let below : a ≤ k = omega (arith, from) in let further : k < a + suc n = omega (arith, lt) in agree k below further) in
     ap (λ (t : List ℕ). t ++ flat_map f (range_with_len (a + 1) n)) (agree a low here) ∙ ap (λ (t : List ℕ). g a ++ t) rest
 
-items-are : (legacy : Bool) (s : StationSurvey) (ms : List AnyMessage) → HasSystems s.system_msm ms → CountsChannels s.channels.items ms
+items-are : (legacy : Bool) (s : StationSurvey) (ms : List AnyMessage) → HasSystems s.system_msm ms → CountsChannels s.channels ms
     → slot_items (slots_held legacy s) (fields_held s) ≡ slot_items (slots_beside legacy ms) (fields_told ms)
 unfolding slot_items
 items-are legacy s ms has counts =
@@ -118,10 +117,10 @@ items-are legacy s ms has counts =
     (λ slot from lt.
     let within : slot < 28 = omega (arith, lt) in
     item-agree (slots_held legacy s) (slots_beside legacy ms) (fields_held s) (fields_told ms) slot (slots-are legacy s ms slot within has)
-    (λ field few. counted-as s.channels.items ms slot field (record { first = from; last = within; few = omega (arith, few) }) counts))
+    (λ field few. counts slot field (record { first = from; last = within; few = omega (arith, few) })))
 
 -- the options of GLONASS by what is held are those by the messages
-pub glonass-is : (date : Option UtcDate) (s : StationSurvey) (ms : List AnyMessage) → HasSystems s.system_msm ms → CountsChannels s.channels.items ms → s.times ≡ times_of (times_of_week ms)
+pub glonass-is : (date : Option UtcDate) (s : StationSurvey) (ms : List AnyMessage) → HasSystems s.system_msm ms → CountsChannels s.channels ms → s.times ≡ times_of (times_of_week ms)
     → glonass_held date s ≡ glonass_beside date ms
 glonass-is date s ms has counts times =
     ap (λ (b : Bool). glonass_options (slot_items (slots_held b s) (fields_held s)) b) (legacy-is date s ms has times)

@@ -1,6 +1,8 @@
 -- How often messages tell each frequency channel of each slot of GLONASS. Lists of messages are newest first.
 -- Source: RTCM 10403.3, DF038, DF040, DF394 and DF419
-use Rattle.std.specs.Prelude.{◌≡◌, ℕ, ◌+◌, ◌-◌, ◌*◌, ◌/◌, ◌%◌, ◌^◌, ◌==◌, ◌<◌, ◌≤◌, Bool, true, false, not, ◌&&◌, List, [], ◌∷◌, length, get_or, slice_get, count_ones, nat_lt, Option, None, Some, if◌then◌else◌}
+use Rattle.std.specs.Prelude.{◌≡◌, ℕ, ◌+◌, ◌-◌, ◌*◌, ◌/◌, ◌%◌, ◌^◌, ◌==◌, ◌<◌, ◌≤◌, Bool, true, false, not, ◌&&◌, List, [], ◌∷◌, slice_get, count_ones, nat_lt, Option, None, Some, unwrap_or, if◌then◌else◌}
+use Rattle.std.specs.BTreeMap.{BTreeMap, get}
+use Rattle.std.specs.Ordering.{nat_cmp}
 use Rattle.rtk_message.specs.declared.any_message.AnyMessage.{AnyMessage}
 use Rattle.rtk_message.specs.declared.any_message.AnyMessage.TheVariants as any
 use Rattle.rtk_message.specs.declared.msm.Msm.{Msm}
@@ -76,30 +78,28 @@ is_of_glonass (any.Obs1012 m) = true
 abbrev pub place_of_field : ℕ → ℕ → ℕ
 place_of_field slot field = 21 * slot + field
 
+-- how many messages tell a field of a slot, by their counts
+abbrev pub count_of_field : BTreeMap ℕ ℕ → ℕ → ℕ → ℕ
+count_of_field counts slot field = unwrap_or (get nat_cmp counts (place_of_field slot field)) 0
+
 -- the slots and the fields that tell a channel
 pub record IsChannelTold (slot field : ℕ) : Type 0 where
   pub first : 1 ≤ slot
   pub last : slot < 28
   pub few : field < 21
 
--- a table has a place for each slot and field, with how many of these tell it
-pub record CountsFields {X : Type 0} (tells : ℕ → ℕ → X → Bool) (table : List ℕ) (xs : List X) : Type 0 where
-  pub size : length table ≡ 588
-  pub counts : (slot field : ℕ) → IsChannelTold slot field → get_or table (place_of_field slot field) 0 ≡ count_of (tells slot field) xs
+-- each slot and field has the number of these that tell it
+abbrev pub CountsFields : {X : Type 0} → (ℕ → ℕ → X → Bool) → BTreeMap ℕ ℕ → List X → Type 0
+CountsFields tells counts xs = (slot field : ℕ) → IsChannelTold slot field → count_of_field counts slot field ≡ count_of (tells slot field) xs
 
 -- formula
 -- some message tells the slot and the field of a place, and RINEX has the channel: one from -7 to +6
 abbrev pub place_is_told : List AnyMessage → ℕ → Bool
 place_is_told ms place = nat_lt (place % 21) 14 && nat_lt 0 (count_of (tells_field (place / 21) (place % 21)) ms)
 
--- as long as there is no table, none of these tells a channel
-abbrev pub CountsTold : {X : Type 0} → (ℕ → ℕ → X → Bool) → List ℕ → List X → Type 0
-CountsTold tells [] xs = (slot field : ℕ) → IsChannelTold slot field → count_of (tells slot field) xs ≡ 0
-CountsTold tells (y ∷ ys) xs = CountsFields tells (y ∷ ys) xs
-
 -- how many messages tell each field of each slot
-abbrev pub CountsChannels : List ℕ → List AnyMessage → Type 0
-CountsChannels table ms = CountsTold tells_field table ms
+abbrev pub CountsChannels : BTreeMap ℕ ℕ → List AnyMessage → Type 0
+CountsChannels counts ms = CountsFields tells_field counts ms
 
 -- ---- 1020
 
@@ -120,5 +120,5 @@ abbrev pub tells_slot_of_1020 : ℕ → ℕ → SystemMessage → Bool
 tells_slot_of_1020 slot field m = tells_slot_if (slot_channel_in m) slot field
 
 -- how many 1020 tell each field of each slot
-abbrev pub CountsSlots : List ℕ → List SystemMessage → Type 0
-CountsSlots table ts = CountsTold tells_slot_of_1020 table ts
+abbrev pub CountsSlots : BTreeMap ℕ ℕ → List SystemMessage → Type 0
+CountsSlots counts ts = CountsFields tells_slot_of_1020 counts ts

@@ -186,7 +186,7 @@ pub record IsStationOf (ms : List AnyMessage) (d : StationDates) (e : Equipment)
   pub msm : HasMsms s.msm ms
   pub system_signals : HasSystemSignals s.system_signals (cells_beside ms)
   pub system_msm : HasSystems s.system_msm ms
-  pub channels : CountsChannels s.channels.items ms
+  pub channels : CountsChannels s.channels ms
   pub clocks : clocks_at s.clocks ≡ clocks_of ms
   pub point : s.reference_point ≡ first_point ms
   pub far : s.far_point ≡ far_point ms
@@ -232,7 +232,7 @@ pub record HasSystemTellings (t : SystemTellings) (ts : List SystemMessage) : Ty
   pub of_1042 : CountsSystemWeeks 1042 t.weeks_1042 ts
   pub of_1045 : CountsSystemWeeks 1045 t.weeks_1045 ts
   pub of_1046 : CountsSystemWeeks 1046 t.weeks_1046 ts
-  pub channels : CountsSlots t.channels.items ts
+  pub channels : CountsSlots t.channels ts
   pub leap : HasLeapRanges t.leap_seconds ts
 
 -- what is held of these frames, and of a station if it is asked for

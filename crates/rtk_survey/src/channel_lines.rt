@@ -7,8 +7,10 @@ ghost use Rattle.rtk_survey.specs.Steps.Tables.{place_is_counted};
 ghost use Rattle.rtk_survey.specs.SummaryText as spec;
 
 use crate::channels::{CHANNELS, FIELDS, PLACES};
+use crate::unread::count_of_number;
 use rtk_message::put_number;
 use std::alloc::{AllocError, Global};
+use std::collections::BTreeMap;
 
 /// Appends the channel that a field tells: 7 less.
 pub fn put_field_channel(text: &mut Vec<u8>, field: u8) -> Result<(), AllocError>
@@ -22,7 +24,7 @@ pub fn put_field_channel(text: &mut Vec<u8>, field: u8) -> Result<(), AllocError
 }
 
 /// The slot and the channel of a place.
-pub(crate) fn put_told_channel(text: &mut Vec<u8>, place: usize) -> Result<(), AllocError>
+pub(crate) fn put_told_channel(text: &mut Vec<u8>, place: u16) -> Result<(), AllocError>
     requires { place < 588 }
     ensures { OnOk result (text.new.items ≡ text.old.items ++ spec.told_channel_text place) }
 {
@@ -31,20 +33,20 @@ pub(crate) fn put_told_channel(text: &mut Vec<u8>, place: usize) -> Result<(), A
     put_field_channel(text, (place % FIELDS) as u8)
 }
 
-fn is_counted(table: &[u64], place: usize) -> bool
-    ensures { result ≡ place_is_counted table.now place }
+fn is_counted(counts: &BTreeMap<u16, u64>, place: u16) -> bool
+    ensures { result ≡ place_is_counted counts.now place }
 {
-    place % FIELDS < usize::from(CHANNELS) && 0 < table.get(place).copied().unwrap_or(0)
+    place % FIELDS < u16::from(CHANNELS) && 0 < count_of_number(counts, place)
 }
 
 // The channels that are told, as an option lists them.
-fn channels_text(alloc: Global, table: &[u64]) -> Result<Vec<u8>, AllocError>
-    ensures { IfOk result (λ text. text.items ≡ spec.told_channels_text (place_is_counted table.now)) }
+fn channels_text(alloc: Global, counts: &BTreeMap<u16, u64>) -> Result<Vec<u8>, AllocError>
+    ensures { IfOk result (λ text. text.items ≡ spec.told_channels_text (place_is_counted counts.now)) }
 {
     let mut text = Vec::new(alloc);
     let mut separator = b' ';
     for place in FIELDS..PLACES {
-        if is_counted(table, place) {
+        if is_counted(counts, place) {
             text.push(separator)?;
             put_told_channel(&mut text, place)?;
             separator = b',';
@@ -66,14 +68,14 @@ fn put_line_if_some(lines: &mut Vec<u8>, words: &[u8], text: &[u8]) -> Result<()
     Ok(())
 }
 
-/// Appends the channels that messages of a station tell, by their table.
+/// Appends the channels that messages of a station tell, by their counts.
 pub(crate) fn put_channels(
     alloc: Global,
     lines: &mut Vec<u8>,
-    table: &[u64],
+    counts: &BTreeMap<u16, u64>,
 ) -> Result<(), AllocError>
-    ensures { OnOk result (lines.new.items ≡ lines.old.items ++ spec.channel_line (place_is_counted table.now)) }
+    ensures { OnOk result (lines.new.items ≡ lines.old.items ++ spec.channel_line (place_is_counted counts.now)) }
 {
-    let text = channels_text(alloc, table)?;
+    let text = channels_text(alloc, counts)?;
     put_line_if_some(lines, b" channels", text.as_slice())
 }

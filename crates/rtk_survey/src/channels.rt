@@ -1,21 +1,23 @@
 //! How often messages tell each frequency channel of each slot of GLONASS.
 
-ghost use Rattle.std.specs.Prelude.{◌≡◌, ◌≢◌, ◌<◌, ◌≤◌, ◌+◌, ℕ, true, false, List, [], ◌∷◌, length, get_or, OnOk};
+ghost use Rattle.std.specs.Prelude.{◌≡◌, ◌≢◌, ◌<◌, ◌≤◌, ◌+◌, ℕ, true, false, List, [], ◌∷◌, OnOk};
 ghost use Rattle.rtk_message.specs.declared.any_message.AnyMessage.{AnyMessage};
 ghost use Rattle.rtk_survey.specs.Channels as spec;
 ghost use Rattle.rtk_survey.specs.Counting.{shown_count};
-ghost use Rattle.rtk_survey.specs.Steps.Fields.{TakesFields, IsTableMade};
+ghost use Rattle.rtk_survey.specs.Steps.Fields.{TakesFields};
 ghost use Rattle.rtk_survey.specs.declared.system_message.SystemMessage.{SystemMessage};
 
 use crate::system_message::{SlotChannel, SystemMessage};
+use crate::unread::{count_number, count_of_number};
 use rtk_message::{AnyMessage, GlonassSatellite, Msm, System};
 use std::alloc::{AllocError, Global};
+use std::collections::BTreeMap;
 
 /// The slots of GLONASS: 1 to 27.
 const SLOTS: u8 = 28;
 
 /// The fields that tell a channel (DF040): 0 to 20, 7 more than the channel.
-pub(crate) const FIELDS: usize = 21;
+pub(crate) const FIELDS: u16 = 21;
 
 /// Those that tell a channel that RINEX has, -7 to +6: 0 to 13.
 pub(crate) const CHANNELS: u8 = 14;
@@ -23,8 +25,8 @@ pub(crate) const CHANNELS: u8 = 14;
 /// The field of an MSM (DF419) that tells no channel.
 const UNKNOWN: u8 = 15;
 
-/// The places of a table.
-pub(crate) const PLACES: usize = 588;
+/// The places of all slots and fields are below it.
+pub(crate) const PLACES: u16 = 588;
 
 // The mask has the bit of this slot.
 fn has_slot_bit(mask: u64, slot: u8) -> bool
@@ -70,20 +72,32 @@ fn is_glonass(system: System) -> bool
     }
 }
 
-// Counts a field of a slot, if it tells a channel.
-fn count_field(table: &mut Vec<u64>, slot: u8, field: u8)
-    requires size { length table.old.items ≡ 588 }
-    requires slot { slot < 28 }
-    ensures size { length table.new.items ≡ 588 }
-    ensures own { field < 21 → get_or table.new.items (spec.place_of_field slot field) 0
-        ≡ shown_count (get_or table.old.items (spec.place_of_field slot field) 0 + 1) }
-    ensures others { (s f : ℕ) → f < 21 → (s ≡ slot → f ≢ field)
-        → get_or table.new.items (spec.place_of_field s f) 0 ≡ get_or table.old.items (spec.place_of_field s f) 0 }
+// The place under which a field of a slot is counted.
+fn place_of_field(slot: u8, field: u8) -> u16
+    ensures { result ≡ spec.place_of_field slot field }
 {
-    let field = usize::from(field);
-    if field < FIELDS {
-        let place = FIELDS * usize::from(slot) + field;
-        table[place] = table[place].saturating_add(1);
+    FIELDS * u16::from(slot) + u16::from(field)
+}
+
+// Does a field tell a channel?
+fn is_channel_field(field: u8) -> bool
+    ensures yes { result ≡ true → field < 21 }
+    ensures no { result ≡ false → 21 ≤ field }
+{
+    field < 21
+}
+
+// Counts a field of a slot, if it tells a channel.
+fn count_field(counts: &mut BTreeMap<u16, u64>, slot: u8, field: u8) -> Result<(), AllocError>
+    ensures own { OnOk result (field < 21 → spec.count_of_field counts.new slot field
+        ≡ shown_count (spec.count_of_field counts.old slot field + 1)) }
+    ensures others { OnOk result ((s f : ℕ) → f < 21 → (s ≡ slot → f ≢ field)
+        → spec.count_of_field counts.new s f ≡ spec.count_of_field counts.old s f) }
+{
+    if is_channel_field(field) {
+        count_number(counts, place_of_field(slot, field))
+    } else {
+        Ok(())
     }
 }
 
@@ -133,46 +147,38 @@ pub(crate) fn field_told(message: &AnyMessage, slot: u8) -> Option<u8>
 }
 
 // Counts the field of a slot, if the message has it.
-fn take_slot(table: &mut Vec<u64>, message: &AnyMessage, slot: u8)
-    requires size { length table.old.items ≡ 588 }
-    requires slot { (1 ≤ slot) × (slot < 28) }
-    ensures size { length table.new.items ≡ 588 }
-    ensures own { (f : ℕ) → f < 21 → spec.tells_field slot f message.now ≡ true
-        → get_or table.new.items (spec.place_of_field slot f) 0 ≡ shown_count (get_or table.old.items (spec.place_of_field slot f) 0 + 1) }
-    ensures others { (s f : ℕ) → f < 21 → (s ≡ slot → spec.tells_field s f message.now ≡ false)
-        → get_or table.new.items (spec.place_of_field s f) 0 ≡ get_or table.old.items (spec.place_of_field s f) 0 }
+fn take_slot(
+    counts: &mut BTreeMap<u16, u64>,
+    message: &AnyMessage,
+    slot: u8,
+) -> Result<(), AllocError>
+    requires { (1 ≤ slot) × (slot < 28) }
+    ensures own { OnOk result ((f : ℕ) → f < 21 → spec.tells_field slot f message.now ≡ true
+        → spec.count_of_field counts.new slot f ≡ shown_count (spec.count_of_field counts.old slot f + 1)) }
+    ensures others { OnOk result ((s f : ℕ) → f < 21 → (s ≡ slot → spec.tells_field s f message.now ≡ false)
+        → spec.count_of_field counts.new s f ≡ spec.count_of_field counts.old s f) }
 {
-    if let Some(field) = field_told(message, slot) {
-        count_field(table, slot, field);
+    match field_told(message, slot) {
+        Some(field) => count_field(counts, slot, field),
+        None => Ok(()),
     }
 }
 
 // Counts the fields of all slots.
-fn take_slots(table: &mut Vec<u64>, message: &AnyMessage)
-    requires { length table.old.items ≡ 588 }
-    ensures { TakesFields (λ slot field. spec.tells_field slot field message.now) table.old.items table.new.items }
+fn take_slots(counts: &mut BTreeMap<u16, u64>, message: &AnyMessage) -> Result<(), AllocError>
+    ensures { OnOk result (TakesFields (λ slot field. spec.tells_field slot field message.now) counts.old counts.new) }
 {
     for slot in 1u8..SLOTS {
-        take_slot(table, message, slot);
-    }
-}
-
-// Makes a table, unless it is there.
-fn make_table(alloc: Global, table: &mut Vec<u64>) -> Result<(), AllocError>
-    ensures made { OnOk result (IsTableMade table.old.items table.new.items) }
-    ensures size { OnOk result (length table.new.items ≡ 588) }
-{
-    if table.len() != PLACES {
-        *table = vec![in alloc; 0u64; PLACES]?;
+        take_slot(counts, message, slot)?;
     }
     Ok(())
 }
 
 /// No message came.
-pub(crate) fn no_channels_told(alloc: Global) -> Vec<u64>
-    ensures { spec.CountsChannels result.items [] }
+pub(crate) fn no_channels_told(alloc: Global) -> BTreeMap<u16, u64>
+    ensures { spec.CountsChannels result [] }
 {
-    Vec::new(alloc)
+    BTreeMap::new(alloc)
 }
 
 /// Is it a message of GLONASS?
@@ -186,29 +192,28 @@ pub(crate) fn is_of_glonass(message: &AnyMessage) -> bool
     }
 }
 
-/// Counts the channels that a message tells. The table is made with the first message of GLONASS.
+/// Counts the channels that a message tells.
 pub(crate) fn take_channels(
-    alloc: Global,
-    table: &mut Vec<u64>,
+    counts: &mut BTreeMap<u16, u64>,
     message: &AnyMessage,
 ) -> Result<(), AllocError>
-    ensures { OnOk result ((ms : List AnyMessage) → spec.CountsChannels table.old.items ms
-        → spec.CountsChannels table.new.items (message.now ∷ ms)) }
+    ensures { OnOk result ((ms : List AnyMessage) → spec.CountsChannels counts.old ms → spec.CountsChannels counts.new (message.now ∷ ms)) }
 {
     if is_of_glonass(message) {
-        make_table(alloc, table)?;
-        take_slots(table, message);
+        take_slots(counts, message)
+    } else {
+        Ok(())
     }
-    Ok(())
 }
 
 // Counts the channel that a 1020 tells.
-fn take_told(table: &mut Vec<u64>, told: SlotChannel)
-    requires { length table.old.items ≡ 588 }
-    ensures { TakesFields (spec.tells_slot_channel told) table.old.items table.new.items }
+fn take_told(counts: &mut BTreeMap<u16, u64>, told: SlotChannel) -> Result<(), AllocError>
+    ensures { OnOk result (TakesFields (spec.tells_slot_channel told) counts.old counts.new) }
 {
     if told.slot < SLOTS {
-        count_field(table, told.slot, told.field);
+        count_field(counts, told.slot, told.field)
+    } else {
+        Ok(())
     }
 }
 
@@ -223,32 +228,28 @@ fn slot_channel_in(message: &SystemMessage) -> Option<SlotChannel>
 }
 
 /// No 1020 came.
-pub(crate) fn no_slots_told(alloc: Global) -> Vec<u64>
-    ensures { spec.CountsSlots result.items [] }
+pub(crate) fn no_slots_told(alloc: Global) -> BTreeMap<u16, u64>
+    ensures { spec.CountsSlots result [] }
 {
-    Vec::new(alloc)
+    BTreeMap::new(alloc)
 }
 
-/// Counts the channel that a message tells, if it is a 1020. The table is made with the first one.
+/// Counts the channel that a message tells, if it is a 1020.
 pub(crate) fn take_slot_channel(
-    alloc: Global,
-    table: &mut Vec<u64>,
+    counts: &mut BTreeMap<u16, u64>,
     message: &SystemMessage,
 ) -> Result<(), AllocError>
-    ensures { OnOk result ((ts : List SystemMessage) → spec.CountsSlots table.old.items ts
-        → spec.CountsSlots table.new.items (message.now ∷ ts)) }
+    ensures { OnOk result ((ts : List SystemMessage) → spec.CountsSlots counts.old ts → spec.CountsSlots counts.new (message.now ∷ ts)) }
 {
-    if let Some(told) = slot_channel_in(message) {
-        make_table(alloc, table)?;
-        take_told(table, told);
+    match slot_channel_in(message) {
+        Some(told) => take_told(counts, told),
+        None => Ok(()),
     }
-    Ok(())
 }
 
-/// How many messages tell a field (0 to 20, 7 more than the channel) of a slot (1 to 27), by a table.
-pub fn count_of_field(table: &[u64], slot: u8, field: u8) -> u64
-    ensures { result ≡ get_or table.now (spec.place_of_field slot field) 0 }
+/// How many messages tell a field (0 to 20, 7 more than the channel) of a slot (1 to 27), by their counts.
+pub fn count_of_field(counts: &BTreeMap<u16, u64>, slot: u8, field: u8) -> u64
+    ensures { result ≡ spec.count_of_field counts.now slot field }
 {
-    let place = FIELDS * usize::from(slot) + usize::from(field);
-    table.get(place).copied().unwrap_or(0)
+    count_of_number(counts, place_of_field(slot, field))
 }

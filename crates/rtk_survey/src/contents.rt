@@ -112,16 +112,12 @@ fn take_equipment_in(
 }
 
 // Takes what a payload tells of weeks, channels or leap seconds, if it is such a message.
-fn take_tellings_in(
-    alloc: Global,
-    tellings: &mut SystemTellings,
-    payload: &[u8],
-) -> Result<(), AllocError>
+fn take_tellings_in(tellings: &mut SystemTellings, payload: &[u8]) -> Result<(), AllocError>
     ensures { OnOk result ((ts : List SystemMessage) → HasSystemTellings tellings.old ts
         → HasSystemTellings tellings.new (cons_option (system_message_in (bits payload.now)) ts)) }
 {
     match system_message_in(payload) {
-        Some(message) => tellings.take(alloc, &message),
+        Some(message) => tellings.take(&message),
         None => Ok(()),
     }
 }
@@ -210,7 +206,7 @@ impl Contents {
         self.unread.count_fault(fault)?;
         take_target_fault(&mut self.target, payload, frame);
         take_dates_in(alloc, &mut self.stations, &mut self.weeks, payload)?;
-        take_tellings_in(alloc, &mut self.system_tellings, payload)?;
+        take_tellings_in(&mut self.system_tellings, payload)?;
         take_equipment_in(alloc, &mut self.stations, payload)
     }
 }

@@ -155,7 +155,7 @@ fn put_station(
     put_told(lines, station)?;
     put_signals(alloc, lines, &station.signals, &station.system_signals)?;
     put_epochs(lines, station)?;
-    put_channels(alloc, lines, station.channels.as_slice())?;
+    put_channels(alloc, lines, &station.channels)?;
     let sent = systems_clocked(station);
     put_clocks(
         lines,

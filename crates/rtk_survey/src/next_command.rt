@@ -361,12 +361,12 @@ fn more_told(station: &StationSurvey, slot: u8, told: Option<u8>, field: u8) -> 
     ensures value { result ≡ spec.more_told (fields_held station.now slot) told field }
     ensures bound { IfSome result (λ f. f < 14) }
 {
-    let count = count_of_field(station.channels.as_slice(), slot, field);
+    let count = count_of_field(&station.channels, slot, field);
     match told {
         None if 0 < count => Some(field),
         None => None,
         Some(told) => {
-            if count_of_field(station.channels.as_slice(), slot, told) < count {
+            if count_of_field(&station.channels, slot, told) < count {
                 Some(field)
             } else {
                 Some(told)
@@ -421,7 +421,7 @@ fn put_item(items: &mut Vec<u8>, slot: u8, told: Option<u8>) -> Result<(), Alloc
         return Ok(());
     };
     items.push(b',')?;
-    let place = FIELDS * usize::from(slot) + usize::from(field);
+    let place = FIELDS * u16::from(slot) + u16::from(field);
     put_told_channel(items, place)?;
     Ok(())
 }

@@ -60,7 +60,7 @@ pub struct StationSurvey {
     /// Its messages of other systems, and its 1004 in which a satellite of SBAS has a value, by number (DF002).
     pub system_msm: BTreeMap<u16, SystemMsm>,
     /// How many messages tell each channel of each slot of GLONASS (`count_of_field`).
-    pub channels: Vec<u64>,
+    pub channels: BTreeMap<u16, u64>,
     /// How far the clocks of its systems are apart: an entry, or none if each chain has one message.
     pub clocks: Vec<ClockSurvey>,
     /// That of its first 1005 or 1006 that has one.
@@ -142,7 +142,6 @@ impl StationSurvey {
     /// A message more of the station, with its cells and their codes: those of GPS, and those of other systems.
     pub(crate) fn take_message(
         &mut self,
-        alloc: Global,
         message: &AnyMessage,
         entries: &[CellEntry],
         codes: &Codes,
@@ -163,7 +162,7 @@ impl StationSurvey {
         self.far_point = far_point_with(first, self.far_point, message);
         self.has_other_point = has_other_point_with(first, self.has_other_point, message);
         self.reference_point = first_point_with(first, message);
-        take_channels(alloc, &mut self.channels, message)?;
+        take_channels(&mut self.channels, message)?;
         take_clock(&mut self.clocks, message)?;
         count_nameless(&mut self.nameless, message, entries, signals)?;
         take_system_message(&mut self.system_msm, message, signals)

@@ -37,8 +37,8 @@ pub(crate) fn take_message(
 {
     let station = stations
         .entry(message.station())?
-        .or_insert(StationSurvey::new(alloc));
-    station.take_message(alloc, message, entries, codes, signals)
+        .or_insert_with(|| StationSurvey::new(alloc));
+    station.take_message(message, entries, codes, signals)
 }
 
 /// A 1013 or a 1029 more.
@@ -52,7 +52,7 @@ pub(crate) fn take_date(
 {
     let station = stations
         .entry(date.station)?
-        .or_insert(StationSurvey::new(alloc));
+        .or_insert_with(|| StationSurvey::new(alloc));
     station.take_date(date);
     Ok(())
 }
@@ -68,6 +68,6 @@ pub(crate) fn take_equipment(
 {
     let station = stations
         .entry(message.station)?
-        .or_insert(StationSurvey::new(alloc));
+        .or_insert_with(|| StationSurvey::new(alloc));
     station.take_equipment(message)
 }

@@ -32,7 +32,7 @@ pub struct SystemTellings {
     /// How many 1046 name each week of Galileo (DF289).
     pub weeks_1046: BTreeMap<u16, u64>,
     /// How many 1020, which name no station, tell each channel of each slot (`count_of_field`).
-    pub channels: Vec<u64>,
+    pub channels: BTreeMap<u16, u64>,
     /// The leap seconds that 1013 tell, by station.
     pub leap_seconds: BTreeMap<u16, LeapRange>,
 }
@@ -131,14 +131,14 @@ impl SystemTellings {
     }
 
     /// A message more.
-    pub(crate) fn take(&mut self, alloc: Global, message: &SystemMessage) -> Result<(), AllocError>
+    pub(crate) fn take(&mut self, message: &SystemMessage) -> Result<(), AllocError>
         ensures { OnOk result ((ts : List SystemMessage) → HasSystemTellings self.old ts
             → HasSystemTellings self.new (message.now ∷ ts)) }
     {
         count_week(&mut self.weeks_1042, 1042, message)?;
         count_week(&mut self.weeks_1045, 1045, message)?;
         count_week(&mut self.weeks_1046, 1046, message)?;
-        take_slot_channel(alloc, &mut self.channels, message)?;
+        take_slot_channel(&mut self.channels, message)?;
         take_leap(&mut self.leap_seconds, message)
     }
 }

@@ -10,7 +10,7 @@ use Rattle.rtk_obs.specs.Carriers.{AreChannels, IsSlot, channel_at}
 use Rattle.rtk_obs.specs.LeapSeconds.{IsLeapSecondsAt}
 use Rattle.rtk_obs.specs.declared.any_code.AnyCode.{AnyCode}
 use Rattle.rtk_rinex.specs.MixedHead.{GlonassView, has_glonass}
-use Rattle.rtk_survey.specs.Channels.{place_of_field}
+use Rattle.rtk_survey.specs.Channels.{count_of_field}
 use Rattle.rtk_survey.specs.Counting.{shown_count}
 use Rattle.rtk_survey.specs.declared.station.StationSurvey.{StationSurvey}
 use Rattle.rtk_survey.specs.declared.survey.CaptureSurvey.{CaptureSurvey}
@@ -44,14 +44,14 @@ is_slot_given ss n taken slot = list_any (gives_slot n taken slot) ss
 
 abbrev pub fields_of_station : ℕ → ℕ → Option StationSurvey → ℕ
 fields_of_station slot field None = 0
-fields_of_station slot field (Some t) = get_or t.channels.items (place_of_field slot field) 0
+fields_of_station slot field (Some t) = count_of_field t.channels slot field
 
 -- how many messages of a station tell this field of this slot (DF419)
 abbrev pub own_count : List CaptureSurvey → ℕ → ℕ → ℕ → ℕ
 own_count ss n slot field = shown_count (sum_by (λ s. fields_of_station slot field (station_in n s)) ss)
 
 abbrev pub fields_of_1020 : ℕ → ℕ → CaptureSurvey → ℕ
-fields_of_1020 slot field s = get_or s.contents.system_tellings.channels.items (place_of_field slot field) 0
+fields_of_1020 slot field s = count_of_field s.contents.system_tellings.channels slot field
 
 -- how many 1020, which name no station, tell it (DF040)
 abbrev pub count_of_1020 : List CaptureSurvey → ℕ → ℕ → ℕ

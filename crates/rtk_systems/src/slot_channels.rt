@@ -88,7 +88,7 @@ fn fields_of_station(slot: u8, field: u8, station: Option<&StationSurvey>) -> u6
     ensures { result ≡ spec.fields_of_station slot field (option_copied station.entry) }
 {
     match station {
-        Some(station) => count_of_field(station.channels.as_slice(), slot, field),
+        Some(station) => count_of_field(&station.channels, slot, field),
         None => 0,
     }
 }
@@ -108,11 +108,7 @@ pub(crate) fn own_count(surveys: &[CaptureSurvey], station: u16, slot: u8, field
 fn fields_of_1020(slot: u8, field: u8, survey: &CaptureSurvey) -> u64
     ensures { result ≡ spec.fields_of_1020 slot field survey.now }
 {
-    count_of_field(
-        survey.contents.system_tellings.channels.as_slice(),
-        slot,
-        field,
-    )
+    count_of_field(&survey.contents.system_tellings.channels, slot, field)
 }
 
 /// How many 1020, which name no station, tell it.

@@ -7,7 +7,7 @@ use Rattle.rtk_obs.specs.declared.any_code.AnyCode.{AnyCode}
 use Rattle.rtk_obs.specs.AnyCode.{number_of}
 use Rattle.rtk_obs.specs.Code.{place_of}
 use Rattle.rtk_survey.specs.Chains.{clocks_at}
-use Rattle.rtk_survey.specs.Channels.{place_of_field}
+use Rattle.rtk_survey.specs.Channels.{count_of_field}
 use Rattle.rtk_survey.specs.NextCommand.{number_by, with_own_sbas, next_takes_1012, other_taken, slot_items, glonass_options}
 use Rattle.rtk_survey.specs.Steps.Tables.{system_epochs_held}
 use Rattle.rtk_survey.specs.UncheckedClocks.{systems_sent}
@@ -42,7 +42,7 @@ slots_held legacy s slot = slot_held s slot (number_by (system_epochs_held s) Gl
 
 -- how many messages tell a field of a slot
 abbrev pub fields_held : StationSurvey → ℕ → ℕ → ℕ
-fields_held s slot field = get_or s.channels.items (place_of_field slot field) 0
+fields_held s slot field = count_of_field s.channels slot field
 
 -- the codes that the command takes
 abbrev pub taken_held : Option UtcDate → StationSurvey → AnyCode → Bool

@@ -1,5 +1,5 @@
 -- Lines of what is held of a capture.
-use Rattle.std.specs.Prelude.{ℕ, ◌%◌, ◌==◌, Bool, ◌&&◌, List, [], ◌∷◌, ◌++◌, get_or, nat_lt, Option, None, Some, flat_map, codes, if◌then◌else◌}
+use Rattle.std.specs.Prelude.{ℕ, ◌%◌, ◌==◌, Bool, ◌&&◌, List, [], ◌∷◌, ◌++◌, nat_lt, Option, None, Some, flat_map, codes, if◌then◌else◌}
 use Rattle.std.specs.BTreeMap.{BTreeMap, get}
 use Rattle.std.specs.Ordering.{nat_cmp}
 use Rattle.rtk_survey.specs.Contents.{count_at, messages_of_msm, epochs_of_msm}
@@ -40,5 +40,5 @@ system_epochs_held s n = epochs_of_msm (get nat_cmp s.system_msm n)
 
 -- formula
 -- a message is counted under the slot and the field of a place, and RINEX has the channel
-abbrev pub place_is_counted : List ℕ → ℕ → Bool
-place_is_counted table place = nat_lt (place % 21) 14 && nat_lt 0 (get_or table place 0)
+abbrev pub place_is_counted : BTreeMap ℕ ℕ → ℕ → Bool
+place_is_counted counts place = nat_lt (place % 21) 14 && nat_lt 0 (count_at counts place)

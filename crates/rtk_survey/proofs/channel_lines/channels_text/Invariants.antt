@@ -8,5 +8,5 @@ use Rattle.rtk_survey.proofs.channel_lines.channels_text.Given as goal
 -- the channels so far and those of the places that are left are all
 abbrev pub invariant-loop-place : goal.invariant-loop-place
 invariant-loop-place l =
-    l.text.items ++ joined_channels l.separator (filter (place_is_counted l.table) (range_with_len l.place (588 - l.place)))
-    ≡ joined_channels 32 (filter (place_is_counted l.table) (range_with_len 21 567))
+    l.text.items ++ joined_channels l.separator (filter (place_is_counted l.counts) (range_with_len l.place (588 - l.place)))
+    ≡ joined_channels 32 (filter (place_is_counted l.counts) (range_with_len 21 567))

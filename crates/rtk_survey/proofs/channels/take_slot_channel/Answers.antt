@@ -1,13 +1,12 @@
 use Rattle.std.proofs.Common.{sym, ◌∙◌}
-use Rattle.rtk_survey.specs.Channels.{tells_slot_of_1020}
-use Rattle.rtk_survey.proofs.ChannelLemmas.{fields-made, slot-told, no-slot}
+use Rattle.rtk_survey.proofs.ChannelLemmas.{slot-told, no-slot}
+use Rattle.rtk_survey.proofs.ResultLemmas.{on-ok}
 use Rattle.rtk_survey.proofs.channels.take_slot_channel.Goals as goal
 
-pub returns-in_ok-make_table : goal.returns-in_ok-make_table
-returns-in_ok-make_table c = λ ts counts.
-    let made = c.make_table.new.table.items in
-    slot-told made c.take_told.new.table.items c.args.message.now c.in-Some.told ts (sym c.in-Some.is ∙ c.slot_channel_in.ensures) c.take_told.ensures
-    (fields-made tells_slot_of_1020 c.args.table.now.items made ts c.in_ok-make_table.ensures.made counts)
+pub returns-in-Some : goal.returns-in-Some
+returns-in-Some c = on-ok c.take_told.result
+    (λ takes ts counts. slot-told c.args.counts.now c.take_told.new.counts c.args.message.now c.in-Some.told ts (sym c.in-Some.is ∙ c.slot_channel_in.ensures) takes counts)
+    c.take_told.ensures
 
-pub returns-in_default : goal.returns-in_default
-returns-in_default c = λ ts counts. no-slot c.args.table.now.items c.args.message.now ts (sym c.in_default.is ∙ c.slot_channel_in.ensures) counts
+pub returns-in-None : goal.returns-in-None
+returns-in-None c = λ ts counts. no-slot c.args.counts.now c.args.message.now ts (sym c.in-None.is ∙ c.slot_channel_in.ensures) counts

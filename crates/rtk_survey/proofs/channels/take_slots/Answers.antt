@@ -1,6 +1,6 @@
-use Rattle.std.proofs.Common.{◌≡◌, ◌<◌, ◌+◌, ◌∙◌, ℕ, true, inl, inr, get_or, sym, ap, subst, arith}
+use Rattle.std.proofs.Common.{◌≡◌, ◌<◌, ◌+◌, ◌∙◌, ℕ, true, inl, inr, sym, ap, subst, arith}
 use Rattle.std.proofs.lemmas.Bool.{cases_eq}
-use Rattle.rtk_survey.specs.Channels.{tells_field, place_of_field}
+use Rattle.rtk_survey.specs.Channels.{tells_field, count_of_field}
 use Rattle.rtk_survey.specs.Counting.{shown_count}
 use Rattle.rtk_survey.proofs.channels.take_slots.Goals as goal
 
@@ -9,15 +9,14 @@ loop-slot-preserved c =
     let i = c.loop-slot.invariant in
     let slot : ℕ = c.loop-slot.slot in
     let m = c.args.message.now in
-    let t = c.take_slot.ensures in
+    let t = c.in_ok-take_slot.ensures in
     record {
-      size = t.size;
       told = λ s f before from few tells. elim (cases_eq s slot) [
         | inl same ↦
             let here = subst (λ (k : ℕ). tells_field k f m ≡ true) same tells in
-            ap (λ (k : ℕ). get_or c.take_slot.new.table.items (place_of_field k f) 0) same ∙ t.own f few here
+            ap (λ (k : ℕ). count_of_field c.take_slot.new.counts k f) same ∙ t.own f few here
             ∙ ap (λ (n : ℕ). shown_count (n + 1)) (i.others slot f few (λ lt. absurd (omega (arith, lt))))
-            ∙ ap (λ (k : ℕ). shown_count (get_or c.args.table.now.items (place_of_field k f) 0 + 1)) (sym same)
+            ∙ ap (λ (k : ℕ). shown_count (count_of_field c.args.counts.now k f + 1)) (sym same)
         | inr other ↦
             let earlier : s < slot = omega (arith, before, other) in
             t.others s f few (λ same. absurd (other same)) ∙ i.told s f earlier from few tells
@@ -30,7 +29,6 @@ pub returns : goal.returns
 returns c =
     let i = c.loop-slot.invariant in
     record {
-      size = i.size;
       told = λ s f is tells. i.told s f (let past = is.last in omega (arith, past, c.loop-slot-test.false)) is.first is.few tells;
       others = λ s f is none. i.others s f is.few (λ lt. none);
     }

@@ -46,7 +46,7 @@ returns c = λ ms date told stands.
     let l9 : List ℕ = c.put_proposal.new.lines.items in
     and-then l0 l8 l9 _ (station_proposal name (near_text (proposed_date d)) number (epochs_held s.msm) (codes_held s.msm) (system_epochs_held s) (taken_held (proposed_date d) s) (glonass_held (proposed_date d) s))
     (and-then l0 l7 l8 _ (all_clock_lines (proposed_date d) sent (clocks_at s.clocks).offsets)
-    (and-then l0 l6 l7 _ (channel_line (place_is_counted s.channels.items))
+    (and-then l0 l6 l7 _ (channel_line (place_is_counted s.channels))
     (and-then l0 l5 l6 _ (system_epoch_lines (system_epochs_held s))
     (and-then l0 l4 l5 _ signals
     (and-then l0 l3 l4 _ (told_lines d e)
@@ -57,8 +57,8 @@ returns c = λ ms date told stands.
     c.in_ok-put_told.ensures)
     c.in_ok-put_signals.ensures)
     c.in_ok-put_epochs.ensures)
-    (c.in_ok-put_channels.ensures ∙ ap (λ (t : List ℕ). l6 ++ channel_line (place_is_counted t)) c.as_slice.ensures.value))
-    (c.in_ok-put_clocks.ensures ∙ ap (λ (t : List ClockSurvey). l7 ++ all_clock_lines c.proposed_date.result c.systems_clocked-sent.result (get_or t 0 no_clocks).offsets) c.as_slice-2.ensures.value
+    c.in_ok-put_channels.ensures)
+    (c.in_ok-put_clocks.ensures ∙ ap (λ (t : List ClockSurvey). l7 ++ all_clock_lines c.proposed_date.result c.systems_clocked-sent.result (get_or t 0 no_clocks).offsets) c.as_slice.ensures.value
     ∙ ap (λ (o : Option UtcDate). l7 ++ all_clock_lines o c.systems_clocked-sent.result (clocks_at s.clocks).offsets) c.proposed_date.ensures
     ∙ ap (λ (x : SystemsSent). l7 ++ all_clock_lines (proposed_date d) x (clocks_at s.clocks).offsets) c.systems_clocked-sent.ensures))
     c.in_ok-put_proposal.ensures

@@ -1,21 +1,20 @@
-use Rattle.std.proofs.Common.{rules, ◌≡◌, ◌∷◌, ℕ, Option, sym, subst, ap, ◌∙◌}
+use Rattle.std.proofs.Common.{rules, ◌≡◌, ◌∷◌, ℕ, sym, subst}
 use Rattle.std.specs.BTreeMap.{BTreeMap}
 use Rattle.std.specs.BTreeMap.Entry.{map_with_value}
-use Rattle.std.specs.Option.{unwrap_or}
 use Rattle.rtk_survey.specs.Contents.{AreStations}
 use Rattle.rtk_survey.specs.declared.station.StationSurvey.{StationSurvey}
 use Rattle.rtk_survey.proofs.ResultLemmas.{on-ok}
-use Rattle.rtk_survey.proofs.StationLemmas.{message-more}
+use Rattle.rtk_survey.proofs.StationLemmas.{entry-or-new, message-more}
 use Rattle.rtk_survey.proofs.stations.take_message.Goals as goal
 
 pub returns : goal.returns
 returns c =
     let after = c.take_message.new.self in
     let m = map_with_value c.in_ok-stations.field-0 after in
-    let was = c.or_insert-station.ensures.value ∙ ap (λ (o : Option StationSurvey). unwrap_or o c.new.result) c.in_ok-stations.ensures.value in
+    let had = entry-or-new _ _ _ _ c.or_insert_with-station.ensures.value c.in_ok-stations.ensures.value (λ new made. search rules) in
     let e : c.stations-3-1.given.0 ≡ m = search rules in
     on-ok c.take_message.result
     (λ took ms ds es all. subst (λ (x : BTreeMap ℕ StationSurvey). AreStations (c.args.message.now ∷ ms) ds es x) (sym e)
-    (message-more c.args.stations.now m c.or_insert-station.result.now after c.new.result ms ds es c.args.message.now c.station.result c.station.ensures was c.new.ensures
+    (message-more c.args.stations.now m c.or_insert_with-station.result.now after ms ds es c.args.message.now c.station.result c.station.ensures had
     (c.in_ok-stations.ensures.update.0 after) took all))
     c.take_message.ensures

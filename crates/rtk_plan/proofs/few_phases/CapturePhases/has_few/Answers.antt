@@ -13,8 +13,8 @@ returns-then-own-phases_shared c =
     let i : ℕ = c.loop-other.other in
     let shared : ℕ → ℕ = λ other. phases_shared c.args.self.now.surveys.now c.args.self.now.station c.args.self.now.from c.args.code other in
     let own : ℕ = shared c.args.code in
-    let own_is : c.phases_shared-own.result ≡ own = c.phases_shared-own.ensures.value in
-    let other_is : c.phases_shared.result ≡ shared i = c.phases_shared.ensures.value in
+    let own_is : c.phases_shared-own.result ≡ own = c.phases_shared-own.ensures.value c.args.code c.satellites_with-marks.ensures in
+    let other_is : c.phases_shared.result ≡ shared i = c.phases_shared.ensures.value c.args.code c.satellites_with-marks.ensures in
     let more : 2 * own < shared i = omega (arith, own_is, other_is, c.if-own-phases_shared.true) in
     sym (any-at (λ other. nat_lt (2 * own) (shared other)) 16 i c.loop-other-test.true (lt-ltb (2 * own) (shared i) more))
 
@@ -23,8 +23,8 @@ loop-other-preserved c =
     let i : ℕ = c.loop-other.other in
     let shared : ℕ → ℕ = λ other. phases_shared c.args.self.now.surveys.now c.args.self.now.station c.args.self.now.from c.args.code other in
     let own : ℕ = shared c.args.code in
-    let own_is : c.phases_shared-own.result ≡ own = c.phases_shared-own.ensures.value in
-    let other_is : c.phases_shared.result ≡ shared i = c.phases_shared.ensures.value in
+    let own_is : c.phases_shared-own.result ≡ own = c.phases_shared-own.ensures.value c.args.code c.satellites_with-marks.ensures in
+    let other_is : c.phases_shared.result ≡ shared i = c.phases_shared.ensures.value c.args.code c.satellites_with-marks.ensures in
     let fails : nat_lt (2 * own) (shared i) ≡ false = not-less (2 * own) (shared i) (omega (arith, own_is, other_is, c.if-own-phases_shared.false)) in
     any-more (λ other. nat_lt (2 * own) (shared other)) i c.loop-other.invariant fails
 
