@@ -102,13 +102,6 @@ same-more xs begin end s h at k d a b =
 pub codes-none : (s : ℕ) → IsSetOfCodes 0 [] s
 codes-none s = record { some = λ c hc h. absurd (h (omega (arith, and_le_l 0 (2 ^ place_of c)))); none = λ c hc h. refl }
 
-pub codes-same : (codes : ℕ) (xs : List SignalEntry) (e : SignalEntry) (s : ℕ) → IsSignal e.satellite e.code → e.satellite ≡ s → is_some (first_cell xs s e.code) ≡ true
-    → IsSetOfCodes codes xs s → IsSetOfCodes codes (xs ++ e ∷ []) s
-codes-same codes xs e s he at there g =
-    let here : is_some (first_cell xs e.satellite e.code) ≡ true = subst (λ (n : ℕ). is_some (first_cell xs n e.code) ≡ true) (sym at) there in
-    let same : (c : AnyCode) → IsSignal s c → first_cell (xs ++ e ∷ []) s c ≡ first_cell xs s c = λ c hc. cells-same xs e he here s c hc in
-    record { some = λ c hc h. ap is_some (same c hc) ∙ g.some c hc h; none = λ c hc h. same c hc ∙ g.none c hc h }
-
 some-last : (xs : List SignalEntry) (e : SignalEntry) (s : ℕ) → e.satellite ≡ s → is_some (first_cell (xs ++ e ∷ []) s e.code) ≡ true
 some-last xs e s at =
     let last : get_or (xs ++ e ∷ []) (length xs) any_cell ≡ e = get_or-append_seam xs e [] any_cell in
@@ -120,9 +113,9 @@ first-other xs e s c ne = cell-other xs e s c (other-code s c e (λ q. ne (ap pl
 pow-some : (k : ℕ) → 2 ^ k ≢ 0
 pow-some k h = omega (arith, pow_pos k)
 
-pub codes-more : (codes : ℕ) (xs : List SignalEntry) (e : SignalEntry) (s : ℕ) → IsSignal e.satellite e.code → e.satellite ≡ s → first_cell xs s e.code ≡ None → IsSetOfCodes codes xs s
+codes-more : (codes : ℕ) (xs : List SignalEntry) (e : SignalEntry) (s : ℕ) → IsSignal e.satellite e.code → e.satellite ≡ s → IsSetOfCodes codes xs s
     → IsSetOfCodes (bit_or codes (2 ^ place_of e.code)) (xs ++ e ∷ []) s
-codes-more codes xs e s he at free g = record {
+codes-more codes xs e s he at g = record {
   some = λ c hc h. by_eq (place_of e.code) (place_of c)
       (λ q. let same : e.code ≡ c = same_code_of s e.code c (signal-at e at he) hc q in
       subst (λ (x : AnyCode). is_some (first_cell (xs ++ e ∷ []) s x) ≡ true) same (some-last xs e s at))
@@ -132,9 +125,16 @@ codes-more codes xs e s he at free g = record {
       (λ ne. first-other xs e s c ne ∙ g.none c hc (sym (and_or_apart (2 ^ place_of c) codes (2 ^ place_of e.code) (pow_apart (place_of e.code) (place_of c) ne)) ∙ h));
 }
 
-pub codes-begin : (codes : ℕ) (earlier xs : List SignalEntry) (begin s : ℕ) → IsSetOfCodes codes earlier s → IsSetOfCodes codes (earlier ++ slice_range xs begin begin) s
-codes-begin codes earlier xs begin s g =
-    subst (λ (ys : List SignalEntry). IsSetOfCodes codes ys s) (sym (ap (λ (ys : List SignalEntry). earlier ++ ys) (range-empty xs begin) ∙ append-nil earlier)) g
+pub codes-begin : (xs : List SignalEntry) (begin s : ℕ) → IsSetOfCodes 0 (slice_range xs begin begin) s
+codes-begin xs begin s = subst (λ (ys : List SignalEntry). IsSetOfCodes 0 ys s) (sym (range-empty xs begin)) (codes-none s)
+
+-- the code of the next cell joins the set
+pub codes-next : (codes : ℕ) (xs : List SignalEntry) (begin end s : ℕ) (e : SignalEntry) → begin ≤ end → end < length xs → ((d : SignalEntry) → get_or xs end d ≡ e)
+    → IsSignal e.satellite e.code → e.satellite ≡ s → IsSetOfCodes codes (slice_range xs begin end) s → IsSetOfCodes (bit_or codes (2 ^ place_of e.code)) (slice_range xs begin (end + 1)) s
+codes-next codes xs begin end s e from l here he at h =
+    subst (λ (ys : List SignalEntry). IsSetOfCodes (bit_or codes (2 ^ place_of e.code)) ys s)
+    (sym (range-more xs begin end any_cell from l ∙ ap (λ (x : SignalEntry). slice_range xs begin end ++ x ∷ []) (here any_cell)))
+    (codes-more codes (slice_range xs begin end) e s he at h)
 
 module _ {L : Type 0} (HasRows : L → Bool → List SatelliteRow → Type 0) (HasLine : L → List Observed → Type 0) (epoch : ℕ) (earlier xs : List SignalEntry) (begin end s : ℕ) (codes : List AnyCode)
     (first : List (Option Track)) (before : L) (tracks : List (Option Track)) (lines : L) (e : SignalEntry)
@@ -175,18 +175,6 @@ module _ {L : Type 0} (HasRows : L → Bool → List SatelliteRow → Type 0) (H
       let new : first_cell (slice_range xs begin end) e.satellite e.code ≡ None =
       subst (λ (x : SignalEntry). first_cell (slice_range xs begin end) x.satellite x.code ≡ None) (here any_cell) (range-new xs begin end any_cell rises one l) in
       none-both earlier (slice_range xs begin end) e.satellite e.code none new
-
-  pub codes-repeat : (set : ℕ) → is_some (first_cell earlier s e.code) ≡ true → IsSetOfCodes set (earlier ++ slice_range xs begin end) s
-      → IsSetOfCodes set (earlier ++ slice_range xs begin (end + 1)) s
-  codes-repeat set there h =
-      subst (λ (ys : List SignalEntry). IsSetOfCodes set ys s) next-is
-      (codes-same set (earlier ++ slice_range xs begin end) e s next-signal at (some-before earlier (slice_range xs begin end) s e.code there) h)
-
-  pub codes-next : (set : ℕ) → first_cell (earlier ++ slice_range xs begin end) e.satellite e.code ≡ None → IsSetOfCodes set (earlier ++ slice_range xs begin end) s
-      → IsSetOfCodes (bit_or set (2 ^ place_of e.code)) (earlier ++ slice_range xs begin (end + 1)) s
-  codes-next set none h =
-      subst (λ (ys : List SignalEntry). IsSetOfCodes (bit_or set (2 ^ place_of e.code)) ys s) next-is
-      (codes-more set (earlier ++ slice_range xs begin end) e s next-signal at (subst (λ (n : ℕ). first_cell (earlier ++ slice_range xs begin end) n e.code ≡ None) at none) h)
 
   -- so its code may take a step
   pub takes-later : first_cell (earlier ++ slice_range xs begin end) e.satellite e.code ≡ None → IsLater (track_at tracks e.satellite e.code) epoch

@@ -9,12 +9,13 @@
 //! cell of the MSM has. Each of them takes a step of the last phases, also if its code is not listed,
 //! since a later phase is compared with it.
 
-ghost use Rattle.std.specs.Prelude.{◌≡◌, ◌≢◌, ℕ, ◌+◌, ◌^◌, ◌<◌, ◌≤◌, List, [], ◌∷◌, ◌++◌, map, length, Some, AllPairs, slice_range, None, IfSome, IfNone, OnOk, All, Decides};
+ghost use Rattle.std.specs.Prelude.{◌≡◌, ◌≢◌, ℕ, ◌+◌, ◌^◌, ◌<◌, ◌≤◌, List, [], ◌∷◌, ◌++◌, map, length, Some, AllPairs, slice_range, slice_index_or, None, IfSome, IfNone, OnOk, All, Decides};
 ghost use Rattle.std.specs.Prelude.{IsTrue};
 ghost use Rattle.rtk_obs.specs.declared.any_code.AnyCode.{AnyCode};
 ghost use Rattle.rtk_obs.specs.declared.signal_cells.SignalEntry.{SignalEntry};
 ghost use Rattle.rtk_obs.specs.AnyCode.{place_of};
 ghost use Rattle.rtk_obs.specs.SatelliteIndex.{IsSatelliteIndex, letter_of, satellites_before, satellites_of_system};
+ghost use Rattle.rtk_obs.specs.SignalCells.{IsSignalInRange};
 ghost use Rattle.rtk_obs.specs.Tracks.{IsLater};
 ghost use Rattle.rtk_collect.specs.EpochSet.{EpochSetView};
 ghost use Rattle.rtk_rinex.specs.MixedHead.{IsMixedList};
@@ -290,17 +291,10 @@ fn next_satellite<E: FileEntry>(msm: &[E], legacy: &[E], at: CellPlaces) -> Opti
     Some(msm[at.msm].satellite().min(legacy[at.legacy].satellite()))
 }
 
-// How far the cells of a satellite reach in a list, and the set of the codes that its cells have.
-#[derive(Clone, Copy)]
-struct Reach {
-    end: usize,
-    codes: u32,
-}
-
 // Takes the cells of a satellite from its place on, except those whose code an earlier one of its
-// cells has, and writes what they show into its line. The earlier cells are there for the clauses
-// alone, since the set has their codes. The function is inlined, because much of it falls away for
-// the first list, to which no cell is earlier.
+// cells has, and writes what they show into its line. The result is where its cells end. The earlier cells
+// are there for the clauses alone, since the set has their codes. The function is inlined, because much of
+// it falls away for the first list, to which no cell is earlier.
 #[inline(always)]
 fn show_cells<E: FileEntry>(
     phases: &mut E::Phases,
@@ -311,7 +305,7 @@ fn show_cells<E: FileEntry>(
     entries: &[E],
     begin: usize,
     lines: &mut E::Lines,
-) -> Reach
+) -> usize
     requires satellite { IsSatelliteIndex satellite }
     requires codes { AreRowCodes form.now.codes.now satellite }
     requires known { IsSetOfCodes known (map E.signal_of earlier.now) satellite }
@@ -321,11 +315,9 @@ fn show_cells<E: FileEntry>(
     requires columns { ArePlaces form.now.codes.now form.now.columns }
     requires shows { ShowsSome E.Lines.HasLine form.now.epoch (map E.signal_of earlier.now) satellite form.now.codes.now (E.places phases.old) lines.old }
     ensures takes { TakesCells E.Lines.HasRows E.Lines.HasLine form.now.epoch (map E.signal_of earlier.now) (map E.signal_of entries.now)
-        begin result.end satellite form.now.codes.now (E.places phases.old) lines.old (E.places phases.new) lines.new }
-    ensures next { IsPlaceOf (satellite + 1) (map E.signal_of entries.now) result.end }
-    ensures codes { IsSetOfCodes result.codes (map E.signal_of earlier.now ++ slice_range (map E.signal_of entries.now) begin result.end) satellite }
+        begin result satellite form.now.codes.now (E.places phases.old) lines.old (E.places phases.new) lines.new }
+    ensures next { IsPlaceOf (satellite + 1) (map E.signal_of entries.now) result }
 {
-    let mut codes = known;
     let mut end = begin;
     'cells: while has_satellite(entries, end, satellite) {
         let entry = &entries[end];
@@ -336,15 +328,33 @@ fn show_cells<E: FileEntry>(
             continue;
         }
         show_entry(phases, form, entry, place, lines);
-        codes |= bit;
         end += 1;
     }
-    Reach { end, codes }
+    end
+}
+
+// Returns the set of the codes that the cells between two places have, which are all of a satellite.
+fn codes_between<E: FileEntry>(entries: &[E], begin: usize, end: usize, satellite: u8) -> u32
+    requires from { begin ≤ end }
+    requires within { end ≤ length entries.now }
+    requires ranges { All IsSignalInRange (map E.signal_of entries.now) }
+    requires own { (k : ℕ) (d : SignalEntry) → begin ≤ k → k < end → (slice_index_or (map E.signal_of entries.now) k d).satellite ≡ satellite }
+    ensures { IsSetOfCodes result (slice_range (map E.signal_of entries.now) begin end) satellite }
+{
+    let mut codes = 0;
+    for at in begin..end {
+        let entry = &entries[at];
+        let place = entry.code_place();
+        let bit = bit_at(place);
+        codes |= bit;
+    }
+    codes
 }
 
 // Takes the cells of a satellite, which has its place in two lists of cells. It takes first those
 // of an MSM, then those of a 1004 whose code none of an MSM has. It writes the line of the
-// satellite, which is open, and returns how far the cells reach.
+// satellite, which is open, and returns how far the cells reach. The codes of the MSM are only gathered
+// where a 1004 has a cell, since that takes some instructions for each cell.
 fn fill_line<E: FileEntry>(
     phases: &mut E::Phases,
     form: &RowForm<'_>,
@@ -371,20 +381,20 @@ fn fill_line<E: FileEntry>(
 {
     let none = &msm[..0];
     let first = show_cells(phases, form, satellite, none, 0, msm, at.msm, lines);
-    let own = &msm[at.msm..first.end];
-    let second = show_cells(
-        phases,
-        form,
-        satellite,
-        own,
-        first.codes,
-        legacy,
-        at.legacy,
-        lines,
-    );
-    CellPlaces {
-        msm: first.end,
-        legacy: second.end,
+    if has_satellite(legacy, at.legacy, satellite) {
+        let own = &msm[at.msm..first];
+        let known = codes_between(msm, at.msm, first, satellite);
+        let begin = at.legacy;
+        let second = show_cells(phases, form, satellite, own, known, legacy, begin, lines);
+        CellPlaces {
+            msm: first,
+            legacy: second,
+        }
+    } else {
+        CellPlaces {
+            msm: first,
+            legacy: at.legacy,
+        }
     }
 }
 

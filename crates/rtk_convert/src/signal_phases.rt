@@ -13,7 +13,7 @@ ghost use Rattle.rtk_convert.specs.LastPhases.{track_at};
 ghost use Rattle.rtk_convert.specs.Rows.{rolling_frequency};
 ghost use Rattle.rtk_convert.specs.Steps.PhaseBlocks.{HasNoPhases};
 
-use rtk_obs::{ALL_CODES, Code, Digits, GpsMs, SignalEntry, Tracks};
+use rtk_obs::{Code, Digits, GpsMs, SignalEntry, Tracks};
 use std::alloc::{AllocError, Global};
 use std::marker::Model;
 
@@ -52,15 +52,30 @@ fn add_block(blocks: &mut Vec<Tracks>) -> Result<(), AllocError>
     Ok(())
 }
 
-// The codes of GPS by their places. A constant would be copied for each cell.
-static CODES: [Code; 16] = ALL_CODES;
-
-// Returns the code of GPS with this place.
+// Returns the code of GPS with this place. Codes have the numbers of their places, so no table is read for a cell.
 fn code_at(place: usize) -> Code
     requires { place < 16 }
     ensures { place_of result ≡ place }
 {
-    CODES[place]
+    match place {
+        0 => Code::G1C,
+        1 => Code::G1P,
+        2 => Code::G1W,
+        3 => Code::G1S,
+        4 => Code::G1L,
+        5 => Code::G1X,
+        6 => Code::G2C,
+        7 => Code::G2D,
+        8 => Code::G2P,
+        9 => Code::G2W,
+        10 => Code::G2S,
+        11 => Code::G2L,
+        12 => Code::G2X,
+        13 => Code::G5I,
+        14 => Code::G5Q,
+        15 => Code::G5X,
+        _ => unreachable!(),
+    }
 }
 
 impl SignalPhases {

@@ -234,7 +234,9 @@ impl RecordLines {
     }
 
     /// Writes what a code shows in a file with Doppler shifts at its place in the open line, in which it shows
-    /// nothing yet.
+    /// nothing yet. It is inlined, since a call would need the `Observed` in memory, and then each cell of a file
+    /// without shifts would be written there too.
+    #[inline(always)]
     pub(crate) fn put_doppler_code(&mut self, place: usize, observed: &Observed)
         requires { HasFreeCode true self.old place }
         ensures open { (row : List Observed) → HasOpenLine true self.old row → IsFreeIn true row place

@@ -139,6 +139,7 @@ fn put_doppler(field: &mut [u8], shift: Option<i64>)
 }
 
 // Writes a Doppler shift and a signal strength over 32 blanks.
+#[inline(always)]
 fn put_last_columns(columns: &mut [u8], observed: &Observed)
     requires blank { columns.old ≡ replicate 32 32 }
     ensures value { columns.new ≡ observation observed.now.doppler_millihertz 32 32 ++ observation (strength_value observed.now.strength_millidbhz) 32 32 }
@@ -149,6 +150,7 @@ fn put_last_columns(columns: &mut [u8], observed: &Observed)
 }
 
 /// Writes the columns of a code in a file with Doppler shifts over 64 blanks.
+#[inline(always)]
 pub(crate) fn put_doppler_columns(columns: &mut [u8], observed: &Observed)
     requires blank { columns.old ≡ replicate 64 32 }
     ensures { columns.new ≡ observations_with_doppler observed.now }
@@ -213,6 +215,7 @@ pub(crate) fn has_observation(observed: &Observed) -> bool
 }
 
 /// Returns whether an observation of the code is written, be it the Doppler shift.
+#[inline(always)]
 pub(crate) fn has_observation_or_doppler(observed: &Observed) -> bool
     ensures { result ≡ has_observation_or_doppler observed.now }
 {

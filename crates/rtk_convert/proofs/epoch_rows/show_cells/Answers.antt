@@ -1,16 +1,14 @@
-use Rattle.std.proofs.Common.{◌≡◌, ◌+◌, ◌^◌, ◌++◌, ◌∙◌, ℕ, ap, bit_and, bit_or, map, slice_range, refl, sym, subst}
+use Rattle.std.proofs.Common.{◌≡◌, ◌^◌, ◌∙◌, ℕ, ap, bit_and, refl, sym, subst}
 use Rattle.rtk_obs.specs.AnyCode.{place_of}
 use Rattle.rtk_obs.specs.declared.signal_cells.SignalEntry.{SignalEntry}
-use Rattle.rtk_convert.specs.Steps.ShownCells.{IsSetOfCodes}
 use Rattle.rtk_convert.proofs.CellOrderLemmas.{place-after}
 use Rattle.rtk_convert.proofs.EntriesLemmas.{entry-at, within-map}
-use Rattle.rtk_convert.proofs.SatelliteLemmas.{signal-at, takes-begin, takes-repeat, takes-free, takes-later, takes-open, takes-more, codes-begin, codes-repeat, codes-next, next-signal}
+use Rattle.rtk_convert.proofs.SatelliteLemmas.{signal-at, takes-begin, takes-repeat, takes-free, takes-later, takes-open, takes-more, next-signal}
 use Rattle.rtk_convert.proofs.epoch_rows.show_cells.Goals as goal
 
 pub cells-init : goal.cells-init
 cells-init g c = record {
   takes = takes-begin _ _ _ _ _ _ _ _ _ _ c.requires.cells.from.place.within c.requires.later;
-  codes = codes-begin c.args.known (map g.E.FileEntry.signal_of c.args.earlier.now) (map g.E.FileEntry.signal_of c.args.entries.now) c.args.begin c.args.satellite c.requires.known;
 }
 
 pub cells-preserved-then-known-bit-ne0 : goal.cells-preserved-then-known-bit-ne0
@@ -26,7 +24,6 @@ cells-preserved-then-known-bit-ne0 g c =
     let seen = c.requires.known.some (f x).code (signal-at (f x) at own) (rw (c.bit_at-bit.ensures ∙ ap (λ (n : ℕ). 2 ^ n) c.code_place-place.ensures.value) at c.if-known-bit-ne0.true) in
     record {
       takes = takes-repeat _ _ _ _ _ _ _ _ _ _ _ _ _ (f x) g0 c.requires.codes c.requires.cells.ranges told.0 here at seen;
-      codes = codes-repeat _ _ _ _ _ _ _ _ _ _ _ _ _ (f x) g0 c.requires.codes c.requires.cells.ranges told.0 here at c.cells.codes seen c.cells.invariant.codes;
     }
 
 pub show_entry-requires-clause-range : goal.show_entry-requires-clause-range
@@ -81,8 +78,6 @@ cells-preserved g c =
     (c.requires.known.none (f x).code (signal-at (f x) at own) unseen) in
     record {
       takes = takes-more _ _ _ _ _ _ _ _ _ _ _ _ _ (f x) g0 c.requires.codes c.requires.cells.ranges told.0 here at _ _ free c.show_entry.ensures;
-      codes = subst (λ (b : ℕ). IsSetOfCodes (bit_or c.cells.codes b) (map f c.args.earlier.now ++ slice_range (map f c.args.entries.now) c.args.begin (c.cells.end + 1)) c.args.satellite) (sym (c.bit_at-bit.ensures ∙ ap (λ (n : ℕ). 2 ^ n) c.code_place-place.ensures.value))
-          (codes-next _ _ _ _ _ _ _ _ _ _ _ _ _ (f x) g0 c.requires.codes c.requires.cells.ranges told.0 here at c.cells.codes free c.cells.invariant.codes);
     }
 
 pub returns-clause-next : goal.returns-clause-next
