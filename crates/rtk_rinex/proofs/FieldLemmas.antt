@@ -117,7 +117,7 @@ whole_text v = sign_text (is_negative v) ++ decimal (unsigned_abs v / 1000)
 pub fixed-is : (v : ℤ) → fixed 3 14 v ≡ right 10 (whole_text v) ++ 46 ∷ last_digits 3 (unsigned_abs v)
 fixed-is v = right-point (whole_text v) (last_digits 3 (unsigned_abs v)) refl
 
-length-whole_text : (v : ℤ) → is_written v ≡ true → length (whole_text v) ≤ 10
+pub length-whole_text : (v : ℤ) → is_written v ≡ true → length (whole_text v) ≤ 10
 length-whole_text (pos n) h =
     let l = written-limits (pos n) h in
     let low : n ≤ 9_999_999_999_999 = omega (arith, ints, l.1) in

@@ -34,6 +34,7 @@ mod ThreesLemmas
 mod WrittenLemmas
 mod EqualityLemmas
 mod RecordsLemmas
+mod KnownLemmas
 mod RecordLinesLemmas
 mod KeptLemmas
 mod MixedListLemmas

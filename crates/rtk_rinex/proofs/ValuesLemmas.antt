@@ -153,11 +153,11 @@ lock_of-ends (Some v) true false second rest h = (refl, refl)
 lock_of-ends (Some v) false true second rest h = (refl, refl)
 lock_of-ends (Some v) false false second rest h = (refl, refl)
 
-abbrev observed_from : Option ℤ → Option ℤ → Option ℤ → Option ℕ → Bool → Bool → Observed
+abbrev pub observed_from : Option ℤ → Option ℤ → Option ℤ → Option ℕ → Bool → Bool → Observed
 observed_from range phase shift strength slip half =
     record { range_mm = range; phase_millicycles = phase; doppler_millihertz = shift; strength_millidbhz = strength; slip = slip; half = half }
 
-same_observed : (r p d : Option ℤ) (s : Option ℕ) (a b : Bool) (r₂ p₂ d₂ : Option ℤ) (s₂ : Option ℕ) (a₂ b₂ : Bool)
+pub same_observed : (r p d : Option ℤ) (s : Option ℕ) (a b : Bool) (r₂ p₂ d₂ : Option ℤ) (s₂ : Option ℕ) (a₂ b₂ : Bool)
     → r ≡ r₂ → p ≡ p₂ → d ≡ d₂ → s ≡ s₂ → a ≡ a₂ → b ≡ b₂ → observed_from r p d s a b ≡ observed_from r₂ p₂ d₂ s₂ a₂ b₂
 same_observed r p d s a b r₂ p₂ d₂ s₂ a₂ b₂ e₁ e₂ e₃ e₄ e₅ e₆ = cc
 

@@ -77,6 +77,7 @@ mod satellite_line_check;
 mod satellite_line_read;
 mod table_check;
 mod value_check;
+mod value_read;
 
 pub use check_fault::{Cause, CheckFault};
 pub use creation_time::CreationTime;

@@ -27,8 +27,8 @@ const NOTHING: Observed = Observed {
     half: false,
 };
 
-// Returns the columns of a code, of which blanks at the end may be missing.
-fn padded(columns: &[u8]) -> ArrayVec<u8, CODE_COLUMNS>
+/// Returns the columns of a code, of which blanks at the end may be missing.
+pub(crate) fn padded(columns: &[u8]) -> ArrayVec<u8, CODE_COLUMNS>
     requires { length columns.now ≤ 48 }
     ensures value { result.items ≡ left 48 columns.now }
     ensures len { length result.items ≡ 48 }
@@ -57,8 +57,8 @@ pub(crate) fn shown_cell(columns: &[u8]) -> Option<Observed>
     shown_observed(padded(columns).as_slice())
 }
 
-// Returns the columns of a code in a file with Doppler shifts, of which blanks at the end may be missing.
-fn padded_with_doppler(columns: &[u8]) -> ArrayVec<u8, DOPPLER_COLUMNS>
+/// Returns the columns of a code in a file with Doppler shifts, of which blanks at the end may be missing.
+pub(crate) fn padded_with_doppler(columns: &[u8]) -> ArrayVec<u8, DOPPLER_COLUMNS>
     requires { length columns.now ≤ 64 }
     ensures value { result.items ≡ left 64 columns.now }
     ensures len { length result.items ≡ 64 }

@@ -102,8 +102,8 @@ fn with_sign(negative: bool, magnitude: u64) -> i64
     if negative { -number } else { number }
 }
 
-// Returns the value in thousandths that stands in 14 columns as F14.3.
-fn written_value(field: &[u8]) -> Option<i64>
+/// Returns the value in thousandths that stands in 14 columns as F14.3.
+pub(crate) fn written_value(field: &[u8]) -> Option<i64>
     requires { length field.now ≡ 14 }
     ensures { MatchOption result
         ((v : ℤ) → IsTrue (is_written v) → field.now ≢ fixed 3 14 v)

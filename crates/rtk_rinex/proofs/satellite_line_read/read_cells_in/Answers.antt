@@ -1,6 +1,6 @@
 use Rattle.std.proofs.Common.{◌≡◌, ◌∙◌, ◌+◌, ◌-◌, ◌*◌, ◌≤◌, ◌++◌, [], ◌∷◌, suc, ℕ, List, take, drop, flat_map, arith, ap, sym, refl, length-append}
 use Rattle.std.proofs.Math.Nat.{mul-le-mul}
-use Rattle.std.proofs.lemmas.Grind.{not_there}
+use mathlib.Core.Logic.{∥∥₁_map}
 use Rattle.std.proofs.lemmas.List.{append-nil}
 use Rattle.std.proofs.lemmas.List.Elements.{All-nil, All-push}
 use Rattle.rtk_rinex.specs.Columns.{left}
@@ -22,20 +22,20 @@ loop-k-init c =
     let all : c.args.code_count - 0 ≡ c.args.code_count = omega arith in
     rw (c.clear.ensures, all, no-width c.args.doppler) (record { observed = All-nil (IsObservedIn c.args.doppler); count = refl; text = refl; rest = λ cells. cells })
 
-pub shown_cell_in-requires : goal.shown_cell_in-requires
-shown_cell_in-requires c = let few = c.columns_at.ensures.len in omega (arith, few, c.code_columns-width.ensures.value)
+pub read_cell_in-requires-clause-few : goal.read_cell_in-requires-clause-few
+read_cell_in-requires-clause-few c = let few = c.columns_at.ensures.len in omega (arith, few, c.code_columns-width.ensures.value)
 
-pub unreachable-requires : goal.unreachable-requires
-unreachable-requires c =
+pub read_cell_in-requires-clause-cell : goal.read_cell_in-requires-clause-cell
+read_cell_in-requires-clause-cell c =
     let d = c.args.doppler in
     let k = c.loop-k.k in
     let columns = c.args.columns.now in
     let m = c.args.code_count - (k + 1) in
     let more : c.args.code_count - k ≡ suc m = omega arith in
     let here = code-at d k c.code_columns-width.result columns c.columns_at.result.now c.code_columns-width.ensures.value c.columns_at.ensures.value in
-    not_there c.requires.cells (λ all.
+    ∥∥₁_map c.requires.cells (λ all.
     let cell = (codes-front d (c.args.code_count - k) m (drop (code_width d * k) columns) more (c.loop-k.invariant.rest all)).0 in
-    c.in_default.ensures cell.0 cell.1 (ap (left (code_width d)) here ∙ cell.2))
+    (cell.0, cell.1, ap (left (code_width d)) here ∙ cell.2))
 
 pub loop-k-preserved : goal.loop-k-preserved
 loop-k-preserved c =
@@ -48,14 +48,14 @@ loop-k-preserved c =
     let more : c.args.code_count - k ≡ suc m = omega arith in
     let next = next-place d k columns in
     let here = code-at d k c.code_columns-width.result columns c.columns_at.result.now c.code_columns-width.ensures.value c.columns_at.ensures.value in
-    let shown = c.in-Some.shown in
-    let cell : left w (take w (drop (w * k) columns)) ≡ code_text d shown = ap (left w) (sym here) ∙ c.in-Some.ensures.1 in
+    let shown = c.read_cell_in.result in
+    let cell : left w (take w (drop (w * k) columns)) ≡ code_text d shown = ap (left w) (sym here) ∙ c.read_cell_in.ensures.text in
     let split : left (w * (c.args.code_count - k)) (drop (w * k) columns) ≡ left w (take w (drop (w * k) columns)) ++ left (w * m) (drop w (drop (w * k) columns)) =
     ap (λ (n : ℕ). left (w * n) (drop (w * k) columns)) more ∙ left-code d m (drop (w * k) columns) in
     let text = text-more (code_text d) l.observed.items shown (left (w * c.args.code_count) columns) (left (w * (c.args.code_count - k)) (drop (w * k) columns))
     (left w (take w (drop (w * k) columns))) (left (w * m) (drop w (drop (w * k) columns))) l.invariant.text split cell in
     rw (c.push.ensures.items, next) (record {
-      observed = All-push (IsObservedIn d) l.observed.items shown l.invariant.observed c.in-Some.ensures.0;
+      observed = All-push (IsObservedIn d) l.observed.items shown l.invariant.observed c.read_cell_in.ensures.observed;
       count = length-append l.observed.items (shown ∷ []) ∙ omega (arith, l.invariant.count);
       text = text;
       rest = λ all. (codes-front d (c.args.code_count - k) m (drop (w * k) columns) more (l.invariant.rest all)).1;
