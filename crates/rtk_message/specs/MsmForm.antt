@@ -1,7 +1,7 @@
 -- The multiple signal messages after their number (RTCM 10403.3, MSM4 to MSM7): a header of 157
 -- bits, the cell mask, the columns. One table serves all kinds and all systems.
 -- Source: RTCM 10403.3, messages 1071 to 1137
-use Rattle.std.specs.Prelude.{◌≡◌, ℕ, ◌+◌, ◌*◌, ◌≤◌, ◌<◌, Bool, true, not, IsTrue, List, [], ◌++◌, length, sum_by, count_ones, Option, Some, None, nat_lt, if◌then◌else◌}
+use Rattle.std.specs.Prelude.{◌≡◌, ℕ, ◌+◌, ◌*◌, ◌≤◌, ◌<◌, Bool, true, false, not, IsTrue, List, [], ◌++◌, length, sum_by, count_ones, Option, Some, None, nat_lt, if◌then◌else◌}
 use Rattle.rtk_message.specs.Fields.{tow_in, Field, FieldsFit}
 use Rattle.rtk_message.specs.FieldColumns.{numbers, integers, flags}
 use Rattle.rtk_message.specs.Msm1074.{header_table, satellite_count, signal_count, satellite_count_in, mask_bits_in, cell_count_in}
@@ -29,12 +29,16 @@ form_of Msm6 = record { fine_range = 20; fine_phase = 24; lock_indicator = 10; c
 form_of Msm7 = record { fine_range = 20; fine_phase = 24; lock_indicator = 10; cnr = 10 }
 
 -- table
--- this number for a kind with range rates (MSM5 and MSM7), and 0 for another kind
+-- the kinds with range rates (MSM5 and MSM7)
+abbrev pub has_rates : MsmKind → Bool
+has_rates Msm4 = false
+has_rates Msm5 = true
+has_rates Msm6 = false
+has_rates Msm7 = true
+
+-- this number for a kind with range rates, and 0 for another kind
 abbrev pub if_rates : MsmKind → ℕ → ℕ
-if_rates Msm4 n = 0
-if_rates Msm5 n = n
-if_rates Msm6 n = 0
-if_rates Msm7 n = n
+if_rates k n = if has_rates k then n else 0
 
 -- table
 -- the cell mask (DF396): for each satellite a row of one bit for each signal; the satellites rise,

@@ -2,7 +2,7 @@
 
 ghost use Rattle.std.specs.Prelude.{◌≡◌, ◌≤◌};
 ghost use Rattle.rtk_message.specs.Systems.{digit_of, number_of_kind, kind_of_digit};
-ghost use Rattle.rtk_message.specs.MsmForm.{form_of, if_rates, satellite_bits, cell_bits};
+ghost use Rattle.rtk_message.specs.MsmForm.{form_of, has_rates, if_rates, satellite_bits, cell_bits};
 
 use crate::msm_type::MsmType;
 use crate::system::System;
@@ -94,15 +94,23 @@ impl MsmKind {
         }
     }
 
+    /// Returns whether the messages of this kind have range rates (DF399, DF404).
+    #[inline(always)]
+    pub fn has_rates(self) -> bool
+        ensures { result ≡ has_rates self }
+    {
+        match self {
+            MsmKind::Msm4 | MsmKind::Msm6 => false,
+            MsmKind::Msm5 | MsmKind::Msm7 => true,
+        }
+    }
+
     /// Returns this number for a kind with range rates, and 0 for another kind.
     #[inline(always)]
     pub(crate) fn if_rates(self, count: usize) -> usize
         ensures { result ≡ if_rates self count }
     {
-        match self {
-            MsmKind::Msm4 | MsmKind::Msm6 => 0,
-            MsmKind::Msm5 | MsmKind::Msm7 => count,
-        }
+        if self.has_rates() { count } else { 0 }
     }
 
     /// Returns how many bits a satellite has after the cell mask.

@@ -1,21 +1,11 @@
 -- The listed systems whose MSM tell no range rates. A file has Doppler shifts of range rates alone.
 use Rattle.std.specs.Prelude.{Bool, true, false, not, ◌&&◌, List, Option, None, Some, if◌then◌else◌}
-use Rattle.rtk_message.specs.declared.msm_kind.MsmKind.{MsmKind}
-use Rattle.rtk_message.specs.declared.msm_kind.MsmKind.TheVariants.{Msm4, Msm5, Msm6, Msm7}
+use Rattle.rtk_message.specs.MsmForm.{has_rates}
 use Rattle.rtk_message.specs.declared.system.System.{System}
 use Rattle.rtk_message.specs.declared.system.System.TheVariants.{Gps, Glonass, Galileo, Beidou, Qzss, Sbas, Navic}
 use Rattle.rtk_obs.specs.declared.any_code.AnyCode.{AnyCode}
 use Rattle.rtk_setup.specs.Setup.{kind_of, lists_system}
 use Rattle.rtk_setup.specs.declared.system_kinds.SystemKinds.{SystemKinds}
-
--- table
--- the kinds of MSM with range rates
--- Source: RTCM 10403.3, messages 1071 to 1137
-abbrev pub has_rates : MsmKind → Bool
-has_rates Msm4 = false
-has_rates Msm5 = true
-has_rates Msm6 = false
-has_rates Msm7 = true
 
 -- some code of a system is listed, and its MSM has no range rates
 abbrev pub lacks_rates : SystemKinds → List AnyCode → System → Bool

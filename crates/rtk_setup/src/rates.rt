@@ -1,28 +1,18 @@
 //! The listed systems whose MSM tell no range rates. A file has Doppler shifts of range rates alone.
 
 ghost use Rattle.std.specs.Prelude.{◌≡◌};
-ghost use Rattle.rtk_setup.specs.Rates.{has_rates, lacks_rates, lacking_or, first_without_rates, without_rates};
+ghost use Rattle.rtk_setup.specs.Rates.{lacks_rates, lacking_or, first_without_rates, without_rates};
 
 use crate::setup::lists_system;
 use crate::system_kinds::SystemKinds;
-use rtk_message::{MsmKind, System};
+use rtk_message::System;
 use rtk_obs::AnyCode;
-
-// Returns whether the MSM of a kind have range rates.
-fn has_rates(kind: MsmKind) -> bool
-    ensures { result ≡ has_rates kind }
-{
-    match kind {
-        MsmKind::Msm4 | MsmKind::Msm6 => false,
-        MsmKind::Msm5 | MsmKind::Msm7 => true,
-    }
-}
 
 // Returns whether some code of a system is listed, and its MSM has no range rates.
 fn lacks_rates(kinds: SystemKinds, listed: &[AnyCode], system: System) -> bool
     ensures { result ≡ lacks_rates kinds listed.now system }
 {
-    lists_system(listed, system) && !has_rates(kinds.kind(system))
+    lists_system(listed, system) && !kinds.kind(system).has_rates()
 }
 
 // Returns this system, if it lacks range rates, or else this answer.
