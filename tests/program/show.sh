@@ -238,14 +238,9 @@ run show --hex frames.hex; expect hex_of_frames_too_long 1 '' 'rtcm2rinex: input
 
 # pins: IsWordsFault
 # refuses: a `main` that does not answer the status of `run_program`
-<<<<<<< ours
 version=$(sed -n 's/.*VERSION: &str = "\(.*\)";.*/\1/p' "$root/crates/rtk_cli/src/command_line.rt")
 run --version; expect version 0 "rtcm2rinex $version" ''
 run -V;        expect version_in_short 0 "rtcm2rinex $version" ''
-=======
-run --version; expect version 0 'rtcm2rinex 0.8.0' ''
-run -V;        expect version_in_short 0 'rtcm2rinex 0.8.0' ''
->>>>>>> theirs
 "$program" show empty >&- 2>err; status=$?; : >out
 expect nothing_to_show_and_no_output 0 '' ''
 
