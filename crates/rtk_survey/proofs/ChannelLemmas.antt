@@ -1,13 +1,13 @@
 -- The channels that messages tell, one message after another.
-use Rattle.std.proofs.Common.{◌≡◌, ◌≢◌, ◌<◌, ◌∙◌, ℕ, Bool, true, false, cond, List, ◌∷◌, Option, None, Some, refl, sym, ap, inl, inr, arith}
+use Rattle.std.proofs.Common.{◌≡◌, ◌≢◌, ◌<◌, ◌==◌, ◌&&◌, ◌∙◌, ℕ, Bool, true, false, not, cond, List, [], ◌∷◌, length, Option, None, Some, refl, sym, ap, inl, inr, ne_eqb, arith}
+use Rattle.std.specs.Prelude.{slice_get}
 use Rattle.std.proofs.lemmas.Bool.{cases_Bool}
 use Rattle.std.specs.BTreeMap.{BTreeMap}
 use Rattle.rtk_message.specs.declared.any_message.AnyMessage.{AnyMessage}
 use Rattle.rtk_message.specs.declared.any_message.AnyMessage.TheVariants.{Message, Msm, Obs1012}
 use Rattle.rtk_message.specs.declared.msm.Msm as msm
-use Rattle.rtk_survey.specs.Channels.{slot_field, if_channel, is_field, is_glonass, is_of_glonass, tells_field, place_of_field, count_of_field, IsChannelTold, CountsFields, CountsChannels, tells_slot_channel, slot_channel_in, tells_slot_if, tells_slot_of_1020, CountsSlots}
+use Rattle.rtk_survey.specs.Channels.{has_slot_bit, slots_before, slot_field, if_channel, is_field, is_glonass, field_told, tells_channels, tells_field, place_of_field, count_of_field, IsChannelTold, CountsFields, CountsChannels, tells_slot_channel, slot_channel_in, tells_slot_if, tells_slot_of_1020, CountsSlots}
 use Rattle.rtk_survey.specs.Steps.Fields.{TakesFields}
-use Rattle.rtk_survey.specs.Counting.{count_of}
 use Rattle.rtk_survey.specs.declared.system_message.SlotChannel.{SlotChannel}
 use Rattle.rtk_survey.specs.declared.system_message.SystemMessage.{SystemMessage}
 use Rattle.rtk_survey.proofs.TallyLemmas.{one-more, none-more}
@@ -36,20 +36,33 @@ none-told {X} tells counts x xs none had = λ slot field is. none-more (tells sl
 
 -- ---- a message more
 
-none-told-if : (m : msm.Msm) (slot field : ℕ) (b : Bool) → b ≡ false → is_field (cond b (if_channel (slot_field m slot)) None) field ≡ false
-none-told-if m slot field true other = cc
-none-told-if m slot field false other = refl
+either-none : (b : Bool) → ◌≡◌ {A = Option ℕ} (cond b None None) None
+either-none true = refl
+either-none false = refl
 
-tells-none : (m : AnyMessage) (slot field : ℕ) → is_of_glonass m ≡ false → tells_field slot field m ≡ false
-tells-none (Message m) slot field other = refl
-tells-none (Msm m) slot field other = none-told-if m slot field (is_glonass m.system) other
-tells-none (Obs1012 m) slot field other = cc
+-- an MSM without such fields has none of a slot
+none-of-slot : (has : Bool) (at : ℕ) (fields : List ℕ) → not (length fields == 0) ≡ false → cond has (slice_get fields at) None ≡ None
+none-of-slot has at [] none = either-none has
+none-of-slot has at (f ∷ fs) none =
+    let some : (length (f ∷ fs) == 0) ≡ false = ne_eqb (length (f ∷ fs)) 0 (λ same. omega (arith, same)) in
+    let both : true ≡ false = sym (ap not some) ∙ none in
+    cc
 
-pub glonass-more : (old new : BTreeMap ℕ ℕ) (m : AnyMessage) (ms : List AnyMessage) → TakesFields (λ slot field. tells_field slot field m) old new → CountsFields tells_field old ms → CountsChannels new (m ∷ ms)
-glonass-more old new m ms takes had = fields-more tells_field old new m ms takes had
+untold-if : (m : msm.Msm) (slot : ℕ) (b : Bool) → (b && not (length m.extended == 0)) ≡ false → cond b (if_channel (slot_field m slot)) None ≡ None
+untold-if m slot true none = ap if_channel (none-of-slot (has_slot_bit m.header.satellite_mask slot) (slots_before m.header.satellite_mask slot) m.extended none)
+untold-if m slot false none = refl
 
-pub beside-glonass : (counts : BTreeMap ℕ ℕ) (m : AnyMessage) (ms : List AnyMessage) → is_of_glonass m ≡ false → CountsChannels counts ms → CountsChannels counts (m ∷ ms)
-beside-glonass counts m ms other had = none-told tells_field counts m ms (λ slot field is. tells-none m slot field other) had
+-- a message without such fields tells no channel
+pub untold : (m : AnyMessage) (slot : ℕ) → tells_channels m ≡ false → field_told m slot ≡ None
+untold (Message m) slot none = refl
+untold (Msm m) slot none = untold-if m slot (is_glonass m.system) none
+untold (Obs1012 m) slot none = cc
+
+pub told-more : (old new : BTreeMap ℕ ℕ) (m : AnyMessage) (ms : List AnyMessage) → TakesFields (λ slot field. tells_field slot field m) old new → CountsFields tells_field old ms → CountsChannels new (m ∷ ms)
+told-more old new m ms takes had = fields-more tells_field old new m ms takes had
+
+pub untold-more : (counts : BTreeMap ℕ ℕ) (m : AnyMessage) (ms : List AnyMessage) → tells_channels m ≡ false → CountsChannels counts ms → CountsChannels counts (m ∷ ms)
+untold-more counts m ms none had = none-told tells_field counts m ms (λ slot field is. ap (λ (o : Option ℕ). is_field o field) (untold m slot none)) had
 
 -- ---- a 1020 more
 

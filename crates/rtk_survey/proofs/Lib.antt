@@ -22,6 +22,7 @@ pub mod MsmLemmas
 pub mod NamedLemmas
 pub mod NamelessLemmas
 pub mod NextLemmas
+pub mod PhaseChannelLemmas
 pub mod PhaseLemmas
 pub mod PublicLaws
 pub mod PutLemmas

@@ -1,8 +1,8 @@
 -- What a station has of other systems than GPS, one message after another.
-use Rattle.std.proofs.Common.{◌≡◌, ◌≢◌, ◌<◌, ◌+◌, ◌-◌, ◌==◌, ◌&&◌, ◌∙◌, ◌++◌, ℕ, ℤ, zero, suc, Bool, true, false, not, cond, List, [], ◌∷◌, Option, None, Some, length, take, get_or, replicate, refl, sym, ap, subst, inl, inr, ne_eqb, arith}
-use Rattle.std.specs.Prelude.{◌||◌, filter, nat_le}
+use Rattle.std.proofs.Common.{◌≡◌, ◌≢◌, ◌<◌, ◌+◌, ◌-◌, ◌==◌, ◌&&◌, ◌∙◌, ◌++◌, ℕ, Bool, true, false, not, cond, List, [], ◌∷◌, Option, None, Some, length, take, get_or, refl, sym, ap, subst, inl, inr, ne_eqb, arith}
+use Rattle.std.specs.Prelude.{◌||◌, filter}
 use Rattle.std.specs.BTreeMap.{BTreeMap, get, is_at, Updates}
-use Rattle.std.specs.List.{AllByRecursion, filter_map, flat_map}
+use Rattle.std.specs.List.{AllByRecursion, filter_map}
 use Rattle.std.specs.Map.{lookup}
 use Rattle.std.specs.Option.{unwrap_or}
 use Rattle.std.specs.Ordering.{nat_cmp}
@@ -12,22 +12,11 @@ use Rattle.std.proofs.lemmas.List.Elements.{filter_agree}
 use Rattle.std.proofs.lemmas.List.Sums.{length-filter}
 use Rattle.rtk_message.specs.declared.any_message.AnyMessage.{AnyMessage}
 use Rattle.rtk_message.specs.AnyDecoded.{number_of}
-use Rattle.rtk_message.specs.declared.msm.Msm.{Msm}
-use Rattle.rtk_message.specs.declared.obs1012.GlonassSatellite.{GlonassSatellite}
-use Rattle.rtk_message.specs.declared.system.System.{System}
-use Rattle.rtk_message.specs.declared.system.System.TheVariants.{Gps, Glonass, Galileo, Beidou, Qzss, Sbas, Navic}
 use Rattle.rtk_obs.specs.declared.any_code.AnyCode.{AnyCode}
 use Rattle.rtk_obs.specs.declared.signal_cells.SignalEntry.{SignalEntry}
 use Rattle.rtk_obs.specs.AnyCode as any_code
-use Rattle.rtk_obs.specs.GlonassCells.{unless_other_in_1012, glonass_entries, first_of_slots, entries_of_1012}
-use Rattle.rtk_obs.specs.Carriers.{channel_at}
-use Rattle.rtk_obs.specs.Mask.{join_from}
-use Rattle.rtk_obs.specs.MsmCells.{Slot, slots_of}
-use Rattle.rtk_obs.specs.SatelliteIndex.{index_in}
-use Rattle.rtk_obs.specs.SignalCells.{unless_other, channel_in, bit_of_row, field_of_row, entry_if, signal_entry, signal_entries}
-use Rattle.rtk_obs.specs.Signals.{code_in}
 use Rattle.rtk_obs.proofs.PublicLaws.{number_below}
-use Rattle.rtk_survey.specs.BesideGps.{no_channels, is_beside_numbered, has_part_beside, is_part_numbered, messages_beside, gives_index, gives_number, has_any_code, told_time_of, gives_value_beside, times_beside}
+use Rattle.rtk_survey.specs.BesideGps.{is_beside_numbered, has_part_beside, is_part_numbered, messages_beside, gives_index, gives_number, has_any_code, told_time_of, gives_value_beside, times_beside}
 use Rattle.rtk_survey.specs.Contents.{count_at, CountsBeside, CountsMessages, HasMsms, HasSystemSignals, HasSystemMsm, IsMsmKept, HasSystems, messages_of_msm, epochs_of_msm}
 use Rattle.rtk_survey.specs.Steps.Tables.{messages_held, system_epochs_held}
 use Rattle.rtk_survey.specs.Counting.{shown_count, count_of}
@@ -42,39 +31,6 @@ use Rattle.rtk_survey.specs.declared.system_signals.SystemSignals.{SystemSignals
 use Rattle.rtk_survey.proofs.MapLemmas.{put-one}
 use Rattle.rtk_survey.proofs.SignalLemmas.{any-more}
 use Rattle.rtk_survey.proofs.TallyLemmas.{tally-more, tally-same}
-
--- ---- channels
-
-none-of-none : (n k : ℕ) → ◌≡◌ {A = Option ℤ} (get_or (replicate n None) k None) None
-none-of-none zero k = refl
-none-of-none (suc n) zero = refl
-none-of-none (suc n) (suc k) = none-of-none n k
-
--- cells depend on the channels of slots alone
-channel-same : (s : System) (a b : List (Option ℤ)) (bit field : ℕ) → channel_at a bit ≡ channel_at b bit → channel_in s a bit field ≡ channel_in s b bit field
-channel-same Gps a b bit field same = refl
-channel-same Glonass a b bit field same = ap (λ (o : Option ℤ). cond (nat_le bit 27) (unless_other field o) None) same
-channel-same Galileo a b bit field same = refl
-channel-same Beidou a b bit field same = refl
-channel-same Qzss a b bit field same = refl
-channel-same Sbas a b bit field same = refl
-channel-same Navic a b bit field same = refl
-
-entry-same : (a b : List (Option ℤ)) (m : Msm) → ((slot : ℕ) → channel_at a slot ≡ channel_at b slot) → (k : ℕ) (s : Slot) → signal_entry a m k s ≡ signal_entry b m k s
-entry-same a b m same k s =
-    let bit : ℕ = bit_of_row m s.row in
-    ap (λ (o : Option ℤ). entry_if m k s.row o (index_in m.system bit) (code_in m.system s.signal)) (channel-same m.system a b bit (field_of_row m s.row) (same bit))
-
--- the cells of a message if no slot has a channel
-pub cells-without : (channels : List (Option ℤ)) (m : Msm) → ((slot : ℕ) → channel_at channels slot ≡ None) → signal_entries channels m ≡ signal_entries no_channels m
-cells-without channels m none =
-    ap (λ (f : ℕ → Slot → List SignalEntry). join_from f 0 (slots_of m.header m.cell_mask))
-    (fun_ext (λ k. fun_ext (λ s. entry-same channels no_channels m (λ slot. none slot ∙ sym (none-of-none 27 (slot - 1))) k s)))
-
-pub cells-of-1012-without : (channels : List (Option ℤ)) (ss : List GlonassSatellite) → ((slot : ℕ) → channel_at channels slot ≡ None) → entries_of_1012 channels ss ≡ entries_of_1012 no_channels ss
-cells-of-1012-without channels ss none =
-    ap (λ (f : GlonassSatellite → List SignalEntry). flat_map f (first_of_slots ss))
-    (fun_ext (λ s. ap (λ (o : Option ℤ). glonass_entries s (unless_other_in_1012 s.channel o) (index_in Glonass s.slot)) (none s.slot ∙ sym (none-of-none 27 (s.slot - 1)))))
 
 -- ---- satellites and codes
 

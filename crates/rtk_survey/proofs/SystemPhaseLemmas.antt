@@ -1,23 +1,22 @@
 -- The phases of other systems than GPS, cell by cell and message by message.
-use Rattle.std.proofs.Common.{◌≡◌, ◌≢◌, ◌<◌, ◌≤◌, ◌+◌, ◌-◌, ◌==◌, ◌&&◌, ◌||◌, ℕ, ℤ, Bool, true, false, cond, List, [], ◌∷◌, ◌++◌, Option, None, Some, length, set, take, get_or, replicate, is_some, inl, inr, refl, sym, ap, subst, ◌∙◌, get_or-set_same, get_or-set_other, ne_eqb, arith}
-use Rattle.std.specs.Prelude.{filter, flat_map, unwrap_or}
+use Rattle.std.proofs.Common.{◌≡◌, ◌≢◌, ◌<◌, ◌+◌, ◌-◌, ◌==◌, ◌&&◌, ◌||◌, ℕ, Bool, true, false, cond, List, [], ◌∷◌, ◌++◌, Option, None, Some, length, set, take, get_or, replicate, is_some, inl, inr, refl, sym, ap, subst, ◌∙◌, get_or-set_same, get_or-set_other, ne_eqb, arith}
+use Rattle.std.specs.Prelude.{filter, unwrap_or}
 use Rattle.std.specs.BTreeMap.{BTreeMap, get, is_at, Updates}
 use Rattle.std.specs.List.{list_any, count_by}
 use Rattle.std.specs.Map.{lookup}
 use Rattle.std.specs.Ordering.{nat_cmp}
 use Rattle.std.proofs.lemmas.Bool.{cases_Bool, cases_eq, eq-eqb, eqb-true}
-use Rattle.std.proofs.lemmas.List.{ext_get_or, length-set, get_or-replicate, take_more}
+use Rattle.std.proofs.lemmas.List.{length-set, get_or-replicate, take_more}
 use Rattle.std.proofs.lemmas.List.Folds.{list_any-append, list_any_more}
-use Rattle.std.proofs.lemmas.List.FromFn.{length-map-range_with_len, get_or-map-range_with_len}
 use Rattle.std.proofs.lemmas.List.Sums.{sum_by-cons, sum_by-append}
 use Rattle.rtk_message.specs.declared.any_message.AnyMessage.{AnyMessage}
 use Rattle.rtk_message.specs.AnyDecoded.{number_of, station_of}
 use Rattle.rtk_obs.specs.declared.signal_cells.SignalEntry.{SignalEntry}
-use Rattle.rtk_obs.specs.Carriers.{IsSlot, AreChannels, channel_at}
+use Rattle.rtk_survey.specs.BesideGps.{cells_beside, cells_beside_gps}
 use Rattle.rtk_survey.specs.Counting.{shown_count, count_of}
 use Rattle.rtk_survey.specs.Contents.{one_if}
 use Rattle.rtk_survey.specs.ReadFrames.{messages_from}
-use Rattle.rtk_survey.specs.SystemPhases.{phase_channel, phase_channels, phase_cells, phase_cells_numbered, place_of_phase, is_at_place, signal_value_at, signal_phase_at, signal_phase_count, CountsSignalPlaces, CountsSignalPhases, table_of_phases, HasPhaseTables, cells_station_after, cells_station, HasPhasesOf, HasSystemPhases}
+use Rattle.rtk_survey.specs.SystemPhases.{place_of_phase, is_at_place, signal_value_at, signal_phase_at, signal_phase_count, CountsSignalPlaces, CountsSignalPhases, table_of_phases, HasPhaseTables, cells_station, HasPhasesOf, HasSystemPhases}
 use Rattle.rtk_survey.specs.Tracing.{is_numbered, has_value}
 use Rattle.rtk_survey.specs.declared.phases.PhaseCount.{PhaseCount}
 use Rattle.rtk_survey.specs.declared.system_phases.PhaseTable.{PhaseTable}
@@ -164,30 +163,17 @@ table-moved table xs es i d within stands = record {
       ∙ ap (λ (p : ℕ). counted (list_any (signal_value_at n) all) p) (sym (count-moved (signal_phase_at n) xs es i d within));
 }
 
--- ---- the channels on which phases are counted
-
-pub channels-are : (channels : List (Option ℤ)) (m : AnyMessage) → AreChannels channels → ((slot : ℕ) → IsSlot slot → channel_at channels slot ≡ phase_channel m slot)
-    → channels ≡ phase_channels m
-channels-are channels m good sets =
-    ext_get_or None channels (phase_channels m) (good.count ∙ sym (length-map-range_with_len (phase_channel m) 1 27)) (λ i lt.
-    let few : i < 27 = omega (arith, lt, good.count) in
-    let from : 1 ≤ i + 1 = omega arith in
-    let to : i + 1 ≤ 27 = omega (arith, few) in
-    let place : i ≡ (i + 1) - 1 = omega arith in
-    let slot : 1 + i ≡ i + 1 = omega arith in
-    ap (λ (k : ℕ). get_or channels k None) place ∙ sets (i + 1) (from, to) ∙ sym (get_or-map-range_with_len (phase_channel m) 1 27 i (i + 1) None few slot))
-
 -- ---- messages of a number
 
-numbered-cells : (number : ℕ) (m : AnyMessage) (ms : List AnyMessage) → is_numbered number m ≡ true → phase_cells_numbered number (m ∷ ms) ≡ phase_cells m ++ phase_cells_numbered number ms
-numbered-cells number m ms holds = ap (λ (b : Bool). flat_map phase_cells (cond b (m ∷ filter (is_numbered number) ms) (filter (is_numbered number) ms))) holds
+numbered-cells : (number : ℕ) (m : AnyMessage) (ms : List AnyMessage) → is_numbered number m ≡ true → cells_beside (filter (is_numbered number) (m ∷ ms)) ≡ cells_beside_gps m ++ cells_beside (filter (is_numbered number) ms)
+numbered-cells number m ms holds = ap (λ (b : Bool). cells_beside (cond b (m ∷ filter (is_numbered number) ms) (filter (is_numbered number) ms))) holds
 
-other-cells : (number : ℕ) (m : AnyMessage) (ms : List AnyMessage) → is_numbered number m ≡ false → phase_cells_numbered number (m ∷ ms) ≡ phase_cells_numbered number ms
-other-cells number m ms fails = ap (λ (b : Bool). flat_map phase_cells (cond b (m ∷ filter (is_numbered number) ms) (filter (is_numbered number) ms))) fails
+other-cells : (number : ℕ) (m : AnyMessage) (ms : List AnyMessage) → is_numbered number m ≡ false → cells_beside (filter (is_numbered number) (m ∷ ms)) ≡ cells_beside (filter (is_numbered number) ms)
+other-cells number m ms fails = ap (λ (b : Bool). cells_beside (cond b (m ∷ filter (is_numbered number) ms) (filter (is_numbered number) ms))) fails
 
-same-cells : (number : ℕ) (m : AnyMessage) (ms : List AnyMessage) → phase_cells m ≡ [] → phase_cells_numbered number (m ∷ ms) ≡ phase_cells_numbered number ms
+same-cells : (number : ℕ) (m : AnyMessage) (ms : List AnyMessage) → cells_beside_gps m ≡ [] → cells_beside (filter (is_numbered number) (m ∷ ms)) ≡ cells_beside (filter (is_numbered number) ms)
 same-cells number m ms none = elim (cases_Bool (is_numbered number m)) [
-  | inl holds ↦ numbered-cells number m ms holds ∙ ap (λ (es : List SignalEntry). es ++ phase_cells_numbered number ms) none
+  | inl holds ↦ numbered-cells number m ms holds ∙ ap (λ (es : List SignalEntry). es ++ cells_beside (filter (is_numbered number) ms)) none
   | inr fails ↦ other-cells number m ms fails
 ]
 
@@ -199,25 +185,25 @@ table-or-new (Some t) fresh empty = refl
 
 module _ (tables tables' : BTreeMap ℕ PhaseTable) (old new fresh : PhaseTable) (ms : List AnyMessage) where
   pub phases-more : (x : AnyMessage) (k : ℕ) → k ≡ number_of x → old ≡ unwrap_or (get nat_cmp tables k) fresh → fresh.counts.items ≡ [] → Updates nat_cmp tables tables' k (Some new)
-      → ((es : List SignalEntry) → CountsSignalPhases old.counts.items es → CountsSignalPhases new.counts.items (phase_cells x ++ es))
+      → ((es : List SignalEntry) → CountsSignalPhases old.counts.items es → CountsSignalPhases new.counts.items (cells_beside_gps x ++ es))
       → HasPhaseTables tables ms → HasPhaseTables tables' (x ∷ ms)
   phases-more x k is was empty puts takes all =
       let yes : is_numbered k x ≡ true = eq-eqb (number_of x) k (sym is) in
       let before : old.counts.items ≡ table_of_phases (get nat_cmp tables k) = ap (λ (t : PhaseTable). t.counts.items) was ∙ table-or-new (get nat_cmp tables k) fresh empty in
-      put-one (λ n o. CountsSignalPhases (table_of_phases o) (phase_cells_numbered n ms)) (λ n o. CountsSignalPhases (table_of_phases o) (phase_cells_numbered n (x ∷ ms))) tables tables' k new puts
+      put-one (λ n o. CountsSignalPhases (table_of_phases o) (cells_beside (filter (is_numbered n) ms))) (λ n o. CountsSignalPhases (table_of_phases o) (cells_beside (filter (is_numbered n) (x ∷ ms)))) tables tables' k new puts
       (subst (λ (es : List SignalEntry). CountsSignalPhases new.counts.items es) (sym (numbered-cells k x ms yes))
-      (takes (phase_cells_numbered k ms) (subst (λ (t : List PhaseCount). CountsSignalPhases t (phase_cells_numbered k ms)) (sym before) (all k))))
+      (takes (cells_beside (filter (is_numbered k) ms)) (subst (λ (t : List PhaseCount). CountsSignalPhases t (cells_beside (filter (is_numbered k) ms))) (sym before) (all k))))
       (λ n other has. subst (λ (es : List SignalEntry). CountsSignalPhases (table_of_phases (get nat_cmp tables n)) es)
       (sym (other-cells n x ms (ne_eqb (number_of x) n (λ same. other (sym same ∙ sym is))))) has)
       all
 
-tables-bare : (tables : BTreeMap ℕ PhaseTable) (m : AnyMessage) (ms : List AnyMessage) → phase_cells m ≡ [] → HasPhaseTables tables ms → HasPhaseTables tables (m ∷ ms)
+tables-bare : (tables : BTreeMap ℕ PhaseTable) (m : AnyMessage) (ms : List AnyMessage) → cells_beside_gps m ≡ [] → HasPhaseTables tables ms → HasPhaseTables tables (m ∷ ms)
 tables-bare tables m ms none has = λ n.
     subst (λ (es : List SignalEntry). CountsSignalPhases (table_of_phases (get nat_cmp tables n)) es) (sym (same-cells n m ms none)) (has n)
 
 no-tables : (tables : BTreeMap ℕ PhaseTable) → tables.entries ≡ [] → HasPhaseTables tables []
 no-tables tables empty = λ n.
-    subst (λ (entries : List (ℕ × PhaseTable)). CountsSignalPhases (table_of_phases (lookup (is_at (nat_cmp n)) entries)) (phase_cells_numbered n [])) (sym empty) (λ place. refl)
+    subst (λ (entries : List (ℕ × PhaseTable)). CountsSignalPhases (table_of_phases (lookup (is_at (nat_cmp n)) entries)) (cells_beside (filter (is_numbered n) []))) (sym empty) (λ place. refl)
 
 -- ---- the station that is known
 
@@ -229,13 +215,13 @@ pub no-phases-yet : (p : SystemPhases) (named : Option ℕ) → p.station ≡ na
 no-phases-yet p named station empty = record { station = station; tables = no-phases-yet-of p.tables p.station empty }
 
 -- one message of a station more without a cell
-bare-of : (tables : BTreeMap ℕ PhaseTable) (n : ℕ) (m : AnyMessage) (ms : List AnyMessage) → phase_cells m ≡ [] → HasPhaseTables tables (messages_from n ms) → HasPhaseTables tables (messages_from n (m ∷ ms))
+bare-of : (tables : BTreeMap ℕ PhaseTable) (n : ℕ) (m : AnyMessage) (ms : List AnyMessage) → cells_beside_gps m ≡ [] → HasPhaseTables tables (messages_from n ms) → HasPhaseTables tables (messages_from n (m ∷ ms))
 bare-of tables n m ms none has = elim (cases_eq n (station_of m)) [
   | inl same ↦ subst (λ (xs : List AnyMessage). HasPhaseTables tables xs) (sym (own-message n m ms same)) (tables-bare tables m (messages_from n ms) none has)
   | inr other ↦ subst (λ (xs : List AnyMessage). HasPhaseTables tables xs) (sym (other-message n m ms other)) has
 ]
 
-bare-of-known : (tables : BTreeMap ℕ PhaseTable) (station : Option ℕ) (m : AnyMessage) (ms : List AnyMessage) → phase_cells m ≡ [] → HasPhasesOf tables station ms → HasPhasesOf tables station (m ∷ ms)
+bare-of-known : (tables : BTreeMap ℕ PhaseTable) (station : Option ℕ) (m : AnyMessage) (ms : List AnyMessage) → cells_beside_gps m ≡ [] → HasPhasesOf tables station ms → HasPhasesOf tables station (m ∷ ms)
 bare-of-known tables None m ms none has = λ n. bare-of tables n m ms none (has n)
 bare-of-known tables (Some n) m ms none has = bare-of tables n m ms none has
 
@@ -244,10 +230,10 @@ nil-of [] none = refl
 nil-of (e ∷ es) none = absurd (omega (arith, eqb-true (length (e ∷ es)) 0 none))
 
 -- a message without a cell
-pub phases-bare : (p : SystemPhases) (named : Option ℕ) (m : AnyMessage) (ms : List AnyMessage) → (length (phase_cells m) == 0) ≡ true → HasSystemPhases named ms p → HasSystemPhases named (m ∷ ms) p
+pub phases-bare : (p : SystemPhases) (named : Option ℕ) (m : AnyMessage) (ms : List AnyMessage) → (length (cells_beside_gps m) == 0) ≡ true → HasSystemPhases named ms p → HasSystemPhases named (m ∷ ms) p
 phases-bare p named m ms none is = record {
   station = is.station ∙ sym (ap (λ (b : Bool). cond b (cells_station named ms) (Some (unwrap_or (cells_station named ms) (station_of m)))) none);
-  tables = bare-of-known p.tables p.station m ms (nil-of (phase_cells m) none) is.tables;
+  tables = bare-of-known p.tables p.station m ms (nil-of (cells_beside_gps m) none) is.tables;
 }
 
 -- the tables before a message are those of the station that is known after it
@@ -257,7 +243,7 @@ of-known tables None m ms has = has (station_of m)
 of-known tables (Some n) m ms has = has
 
 -- the station that is known after a message with a cell
-known-after : (p : SystemPhases) (named : Option ℕ) (m : AnyMessage) (ms : List AnyMessage) → (length (phase_cells m) == 0) ≡ false → p.station ≡ cells_station named ms
+known-after : (p : SystemPhases) (named : Option ℕ) (m : AnyMessage) (ms : List AnyMessage) → (length (cells_beside_gps m) == 0) ≡ false → p.station ≡ cells_station named ms
     → Some (unwrap_or p.station (station_of m)) ≡ cells_station named (m ∷ ms)
 known-after p named m ms some is =
     ap (λ (o : Option ℕ). Some (unwrap_or o (station_of m))) is
@@ -267,7 +253,7 @@ abbrev pub with_tables : ℕ → BTreeMap ℕ PhaseTable → SystemPhases
 with_tables station tables = record { station = Some station; tables = tables }
 
 -- a message with a cell, of the station that is known
-pub phases-own : (p : SystemPhases) (tables : BTreeMap ℕ PhaseTable) (named : Option ℕ) (m : AnyMessage) (ms : List AnyMessage) (known : ℕ) → (length (phase_cells m) == 0) ≡ false
+pub phases-own : (p : SystemPhases) (tables : BTreeMap ℕ PhaseTable) (named : Option ℕ) (m : AnyMessage) (ms : List AnyMessage) (known : ℕ) → (length (cells_beside_gps m) == 0) ≡ false
     → known ≡ unwrap_or p.station (station_of m) → known ≡ station_of m → ((xs : List AnyMessage) → HasPhaseTables p.tables xs → HasPhaseTables tables (m ∷ xs))
     → HasSystemPhases named ms p → HasSystemPhases named (m ∷ ms) (with_tables known tables)
 phases-own p tables named m ms known some is same takes has = record {
@@ -277,7 +263,7 @@ phases-own p tables named m ms known some is same takes has = record {
 }
 
 -- and of another one
-pub phases-other : (p : SystemPhases) (named : Option ℕ) (m : AnyMessage) (ms : List AnyMessage) (known : ℕ) → (length (phase_cells m) == 0) ≡ false
+pub phases-other : (p : SystemPhases) (named : Option ℕ) (m : AnyMessage) (ms : List AnyMessage) (known : ℕ) → (length (cells_beside_gps m) == 0) ≡ false
     → known ≡ unwrap_or p.station (station_of m) → known ≢ station_of m → HasSystemPhases named ms p → HasSystemPhases named (m ∷ ms) (with_tables known p.tables)
 phases-other p named m ms known some is other has = record {
   station = ap Some is ∙ known-after p named m ms some has.station;

@@ -1,7 +1,7 @@
 -- Messages of other systems than GPS, and SBAS of 1004: their times, and the satellites and codes of their cells.
 -- Lists of messages and entries are newest first.
 -- Source: RTCM 10403.3, messages 1004, 1012, and 1081 to 1137
-use Rattle.std.specs.Prelude.{ℕ, ◌/◌, ◌%◌, ◌^◌, ◌==◌, ℤ, Bool, true, false, ◌&&◌, ◌||◌, List, [], flat_map, filter, replicate, Option, None, Some, if◌then◌else◌}
+use Rattle.std.specs.Prelude.{ℕ, ◌/◌, ◌%◌, ◌^◌, ◌==◌, Bool, true, false, ◌&&◌, ◌||◌, List, [], flat_map, filter, Option, None, Some, if◌then◌else◌}
 use Rattle.std.specs.List.{list_any, filter_map}
 use Rattle.rtk_message.specs.declared.any_message.AnyMessage.{AnyMessage}
 use Rattle.rtk_message.specs.declared.any_message.AnyMessage.TheVariants as any
@@ -18,6 +18,7 @@ use Rattle.rtk_obs.specs.GlonassCells.{entries_of_1012}
 use Rattle.rtk_obs.specs.GlonassTime.{glonass_tow}
 use Rattle.rtk_obs.specs.SbasCells.{signals_of_1004}
 use Rattle.rtk_obs.specs.SignalCells.{signal_entries}
+use Rattle.rtk_survey.specs.PhaseChannels.{phase_channels}
 use Rattle.rtk_survey.specs.Tracing.{is_numbered, is_beside_gps, has_value}
 
 -- a message of another system than GPS, of this number
@@ -25,10 +26,6 @@ abbrev pub is_beside_numbered : ℕ → AnyMessage → Bool
 is_beside_numbered n m = is_beside_gps m && is_numbered n m
 
 -- ---- satellites and codes
-
--- no slot of GLONASS has a channel
-abbrev pub no_channels : List (Option ℤ)
-no_channels = replicate 27 None
 
 -- table
 abbrev pub is_other_system : System → Bool
@@ -51,12 +48,11 @@ sbas_cells_of_four (Arp1005 m) = []
 sbas_cells_of_four (Arp1006 m) = []
 sbas_cells_of_four (Msm1074 m) = []
 
--- the cells of other systems than GPS of a message. Those of GLONASS have no phase: it would depend on the channels,
--- which a capture need not tell
+-- the cells of other systems than GPS of a message. A phase of GLONASS counts on any channel
 abbrev pub cells_beside_gps : AnyMessage → List SignalEntry
 cells_beside_gps (any.Message m) = sbas_cells_of_four m
-cells_beside_gps (any.Msm m) = if is_other_system m.system then signal_entries no_channels m else []
-cells_beside_gps (any.Obs1012 m) = entries_of_1012 no_channels m.satellites
+cells_beside_gps (any.Msm m) = if is_other_system m.system then signal_entries (phase_channels (any.Msm m)) m else []
+cells_beside_gps (any.Obs1012 m) = entries_of_1012 (phase_channels (any.Obs1012 m)) m.satellites
 
 -- the cells of messages
 abbrev pub cells_beside : List AnyMessage → List SignalEntry

@@ -1,6 +1,6 @@
 -- How often messages tell each frequency channel of each slot of GLONASS. Lists of messages are newest first.
 -- Source: RTCM 10403.3, DF038, DF040, DF394 and DF419
-use Rattle.std.specs.Prelude.{◌≡◌, ℕ, ◌+◌, ◌-◌, ◌*◌, ◌/◌, ◌%◌, ◌^◌, ◌==◌, ◌<◌, ◌≤◌, Bool, true, false, not, ◌&&◌, List, [], ◌∷◌, slice_get, count_ones, nat_lt, Option, None, Some, unwrap_or, if◌then◌else◌}
+use Rattle.std.specs.Prelude.{◌≡◌, ℕ, ◌+◌, ◌-◌, ◌*◌, ◌/◌, ◌%◌, ◌^◌, ◌==◌, ◌<◌, ◌≤◌, Bool, true, false, not, ◌&&◌, List, [], ◌∷◌, length, slice_get, count_ones, nat_lt, Option, None, Some, unwrap_or, if◌then◌else◌}
 use Rattle.std.specs.BTreeMap.{BTreeMap, get}
 use Rattle.std.specs.Ordering.{nat_cmp}
 use Rattle.rtk_message.specs.declared.any_message.AnyMessage.{AnyMessage}
@@ -67,10 +67,11 @@ field_told (any.Obs1012 m) slot = field_in_1012 slot m.satellites
 abbrev pub tells_field : ℕ → ℕ → AnyMessage → Bool
 tells_field slot field m = is_field (field_told m slot) field
 
-abbrev pub is_of_glonass : AnyMessage → Bool
-is_of_glonass (any.Message m) = false
-is_of_glonass (any.Msm m) = is_glonass m.system
-is_of_glonass (any.Obs1012 m) = true
+-- a message of GLONASS with such fields: a 1012, or an MSM5 or MSM7 with a satellite
+abbrev pub tells_channels : AnyMessage → Bool
+tells_channels (any.Message m) = false
+tells_channels (any.Msm m) = is_glonass m.system && not (length m.extended == 0)
+tells_channels (any.Obs1012 m) = true
 
 -- formula
 -- the place of a slot, 1 to 27, and of a field that tells a channel, 0 to 20: 7 more than the channel, which is -7 to +13

@@ -24,6 +24,7 @@ pub mod Nameless
 pub mod NextCommand
 pub mod NumberLaws
 pub mod Parting
+pub mod PhaseChannels
 pub mod Phases
 pub mod Placing
 pub mod Points

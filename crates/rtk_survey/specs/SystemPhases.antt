@@ -1,20 +1,16 @@
 -- How many phases the satellites of other systems than GPS have in each code, by the messages of one station (this
 -- project's rule). Lists of messages and entries are newest first.
-use Rattle.std.specs.Prelude.{◌≡◌, ℕ, ◌<◌, ◌+◌, ◌*◌, ◌==◌, ℤ, pos, ◌-ℤ◌, Bool, ◌&&◌, List, [], ◌∷◌, length, filter, flat_map, map, get_or, is_some, nat_lt, Option, None, Some, unwrap_or, if◌then◌else◌}
+use Rattle.std.specs.Prelude.{◌≡◌, ℕ, ◌<◌, ◌+◌, ◌*◌, ◌==◌, Bool, ◌&&◌, List, [], ◌∷◌, length, filter, get_or, is_some, Option, None, Some, unwrap_or, if◌then◌else◌}
 use Rattle.std.specs.BTreeMap.{BTreeMap, get}
-use Rattle.std.specs.List.{list_any, range_with_len}
+use Rattle.std.specs.List.{list_any}
 use Rattle.std.specs.Ordering.{nat_cmp}
 use Rattle.rtk_message.specs.declared.any_message.AnyMessage.{AnyMessage}
-use Rattle.rtk_message.specs.declared.any_message.AnyMessage.TheVariants as any
 use Rattle.rtk_message.specs.AnyDecoded.{station_of}
 use Rattle.rtk_obs.specs.declared.any_code.AnyCode.{AnyCode}
 use Rattle.rtk_obs.specs.declared.signal_cells.SignalEntry.{SignalEntry}
 use Rattle.rtk_obs.specs.AnyCode.{place_of}
-use Rattle.rtk_obs.specs.GlonassCells.{entries_of_1012}
 use Rattle.rtk_obs.specs.SatelliteIndex.{bit_at}
-use Rattle.rtk_obs.specs.SignalCells.{signal_entries}
-use Rattle.rtk_survey.specs.BesideGps.{cells_beside_gps}
-use Rattle.rtk_survey.specs.Channels.{field_told, is_of_glonass}
+use Rattle.rtk_survey.specs.BesideGps.{cells_beside, cells_beside_gps}
 use Rattle.rtk_survey.specs.Counting.{count_of}
 use Rattle.rtk_survey.specs.Phases.{no_phases}
 use Rattle.rtk_survey.specs.ReadFrames.{messages_from}
@@ -22,38 +18,6 @@ use Rattle.rtk_survey.specs.Tracing.{is_numbered, has_value}
 use Rattle.rtk_survey.specs.declared.phases.PhaseCount.{PhaseCount}
 use Rattle.rtk_survey.specs.declared.system_phases.PhaseTable.{PhaseTable}
 use Rattle.rtk_survey.specs.declared.system_phases.SystemPhases.{SystemPhases}
-
--- ---- the cells
-
--- constant
--- the field of the channel on which phases of a slot are counted, 7 more than the channel: that of the message, if it
--- tells a channel from -7 to +6, or else that of channel 0
-abbrev pub phase_field : Option ℕ → ℕ
-phase_field None = 7
-phase_field (Some field) = if nat_lt field 14 then field else 7
-
--- formula
--- whether a message gives a phase of GLONASS does not depend on the channel, which the capture need not tell: so each
--- slot has one here
-abbrev pub phase_channel : AnyMessage → ℕ → Option ℤ
-phase_channel m slot = Some (pos (phase_field (field_told m slot)) -ℤ pos 7)
-
-abbrev pub phase_channels : AnyMessage → List (Option ℤ)
-phase_channels m = map (phase_channel m) (range_with_len 1 27)
-
--- the cells of a message of GLONASS, with their phases
-abbrev pub glonass_phase_cells : AnyMessage → List SignalEntry
-glonass_phase_cells (any.Message m) = []
-glonass_phase_cells (any.Msm m) = signal_entries (phase_channels (any.Msm m)) m
-glonass_phase_cells (any.Obs1012 m) = entries_of_1012 (phase_channels (any.Obs1012 m)) m.satellites
-
--- the cells of other systems than GPS of a message, with their phases
-abbrev pub phase_cells : AnyMessage → List SignalEntry
-phase_cells m = if is_of_glonass m then glonass_phase_cells m else cells_beside_gps m
-
--- the cells of the messages of this number, which are of one system
-abbrev pub phase_cells_numbered : ℕ → List AnyMessage → List SignalEntry
-phase_cells_numbered number ms = flat_map phase_cells (filter (is_numbered number) ms)
 
 -- ---- the counts
 
@@ -91,15 +55,15 @@ abbrev pub table_of_phases : Option PhaseTable → List PhaseCount
 table_of_phases None = []
 table_of_phases (Some t) = t.counts.items
 
--- a table for each number of messages
+-- a table for each number of messages, which are of one system
 abbrev pub HasPhaseTables : BTreeMap ℕ PhaseTable → List AnyMessage → Type 0
-HasPhaseTables tables ms = (n : ℕ) → CountsSignalPhases (table_of_phases (get nat_cmp tables n)) (phase_cells_numbered n ms)
+HasPhaseTables tables ms = (n : ℕ) → CountsSignalPhases (table_of_phases (get nat_cmp tables n)) (cells_beside (filter (is_numbered n) ms))
 
 -- ---- the station
 
 -- the station that is known after a message: the first with a cell of another system than GPS, if none was known
 abbrev pub cells_station_after : Option ℕ → AnyMessage → Option ℕ
-cells_station_after known m = if length (phase_cells m) == 0 then known else Some (unwrap_or known (station_of m))
+cells_station_after known m = if length (cells_beside_gps m) == 0 then known else Some (unwrap_or known (station_of m))
 
 -- the station that is named, or else the first one with such a cell
 abbrev pub cells_station : Option ℕ → List AnyMessage → Option ℕ

@@ -1,25 +1,20 @@
 //! Messages of other systems than GPS, and SBAS of 1004: which they are, their times and their cells.
 
-ghost use Rattle.std.specs.Prelude.{◌≡◌, ◌/◌, ◌%◌, ◌^◌, ◌<◌, [], filter, if◌then◌else◌};
+ghost use Rattle.std.specs.Prelude.{◌≡◌, ◌/◌, ◌%◌, ◌^◌, ◌<◌, filter};
 ghost use Rattle.rtk_message.specs.AnyDecoded.{IsValid};
-ghost use Rattle.rtk_message.specs.MsmForm.{IsValid as IsValidMsm};
 ghost use Rattle.rtk_message.specs.Decoded.{IsValid as IsValidFour};
 ghost use Rattle.rtk_message.specs.Obs1004.{IsValid as IsValid1004};
-ghost use Rattle.rtk_message.specs.Obs1012.{IsValid as IsValid1012};
 ghost use Rattle.rtk_obs.specs.Clocks.{beidou_tow};
-ghost use Rattle.rtk_obs.specs.GlonassCells.{entries_of_1012};
 ghost use Rattle.rtk_obs.specs.GlonassTime.{glonass_tow};
 ghost use Rattle.rtk_obs.specs.SbasCells.{signals_of_1004};
-ghost use Rattle.rtk_obs.specs.SignalCells.{signal_entries};
 ghost use Rattle.rtk_survey.specs.BesideGps as spec;
 ghost use Rattle.rtk_survey.specs.Tracing.{is_beside_gps};
 
+use crate::phase_channels::phase_channels;
 use crate::sbas::have_sbas;
 use arrayvec::ArrayVec;
-use rtk_message::{AnyMessage, Message, Msm, Obs1004, Obs1012, System};
-use rtk_obs::{
-    Channels, SignalEntry, WEEK_MS, put_entries_1012, put_signal_entries, put_signals_1004,
-};
+use rtk_message::{AnyMessage, Message, Obs1004, System};
+use rtk_obs::{SignalEntry, WEEK_MS, put_entries_1012, put_signal_entries, put_signals_1004};
 
 const DAY_MS: u64 = 86_400_000;
 
@@ -99,28 +94,6 @@ fn is_other_system(system: System) -> bool
     }
 }
 
-// Puts the cells of an MSM over a list, if it is of another system than GPS.
-fn put_cells_of_other(message: &Msm, found: &mut ArrayVec<SignalEntry, 64>)
-    requires { IsValidMsm message.now }
-    ensures { found.new.items ≡ (if spec.is_other_system message.now.system then signal_entries spec.no_channels message.now else []) }
-{
-    if is_other_system(message.system) {
-        let channels = Channels::new();
-        put_signal_entries(message, &channels, found);
-    } else {
-        found.clear();
-    }
-}
-
-// Puts the cells of a 1012 over a list.
-fn put_cells_1012(message: &Obs1012, found: &mut ArrayVec<SignalEntry, 64>)
-    requires { IsValid1012 message.now }
-    ensures { found.new.items ≡ entries_of_1012 spec.no_channels message.now.satellites }
-{
-    let channels = Channels::new();
-    put_entries_1012(message, &channels, found);
-}
-
 // Is it a cell of another system than GPS?
 fn is_beside_entry(entry: &SignalEntry) -> bool
     ensures { result ≡ spec.is_beside_entry entry.now }
@@ -166,7 +139,15 @@ pub(crate) fn put_cells_beside_gps(message: &AnyMessage, found: &mut ArrayVec<Si
 {
     match message {
         AnyMessage::Message(message) => put_sbas_of_four(message, found),
-        AnyMessage::Msm(message) => put_cells_of_other(message, found),
-        AnyMessage::Obs1012(message) => put_cells_1012(message, found),
+        AnyMessage::Msm(msm) => {
+            if is_other_system(msm.system) {
+                put_signal_entries(msm, &phase_channels(message), found);
+            } else {
+                found.clear();
+            }
+        }
+        AnyMessage::Obs1012(legacy) => {
+            put_entries_1012(legacy, &phase_channels(message), found);
+        }
     }
 }

@@ -14,7 +14,7 @@ use std::alloc::{AllocError, Global};
 use std::collections::BTreeMap;
 
 /// The slots of GLONASS: 1 to 27.
-const SLOTS: u8 = 28;
+pub(crate) const SLOTS: u8 = 28;
 
 /// The fields that tell a channel (DF040): 0 to 20, 7 more than the channel.
 pub(crate) const FIELDS: u16 = 21;
@@ -181,13 +181,13 @@ pub(crate) fn no_channels_told(alloc: Global) -> BTreeMap<u16, u64>
     BTreeMap::new(alloc)
 }
 
-/// Is it a message of GLONASS?
-pub(crate) fn is_of_glonass(message: &AnyMessage) -> bool
-    ensures { result ≡ spec.is_of_glonass message.now }
+/// Has a message of GLONASS fields that tell channels? An MSM4 or MSM6 has none.
+pub(crate) fn tells_channels(message: &AnyMessage) -> bool
+    ensures { result ≡ spec.tells_channels message.now }
 {
     match message {
         AnyMessage::Message(_) => false,
-        AnyMessage::Msm(message) => is_glonass(message.system),
+        AnyMessage::Msm(message) => is_glonass(message.system) && message.extended.len() != 0,
         AnyMessage::Obs1012(_) => true,
     }
 }
@@ -199,7 +199,7 @@ pub(crate) fn take_channels(
 ) -> Result<(), AllocError>
     ensures { OnOk result ((ms : List AnyMessage) → spec.CountsChannels counts.old ms → spec.CountsChannels counts.new (message.now ∷ ms)) }
 {
-    if is_of_glonass(message) {
+    if tells_channels(message) {
         take_slots(counts, message)
     } else {
         Ok(())

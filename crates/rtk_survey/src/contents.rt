@@ -1,13 +1,11 @@
 //! What the frames of a capture hold, as far as they were read.
 
-ghost use Rattle.std.specs.Prelude.{◌≡◌, ◌+◌, ◌∷◌, [], List, ℕ, Option, Ok, Err, OnOk};
+ghost use Rattle.std.specs.Prelude.{◌≡◌, ◌+◌, ◌∷◌, [], List, Option, Ok, Err, OnOk};
 ghost use Rattle.std.specs.List.{cons_option};
 ghost use Rattle.rtk_bits.specs.Bits.{bits};
-ghost use Rattle.rtk_message.specs.AnyDecoded.{IsValid};
 ghost use Rattle.rtk_message.specs.declared.any_message.AnyMessage.{AnyMessage};
 ghost use Rattle.rtk_survey.specs.BesideGps.{cells_beside_gps};
 ghost use Rattle.rtk_survey.specs.Contents.{AreStations, CountsBeside, CountsWeeks, HasSystemTellings, HoldsFrames, others_held};
-ghost use Rattle.rtk_survey.specs.Counting.{shown_count};
 ghost use Rattle.rtk_survey.specs.DateMessages.{date_in};
 ghost use Rattle.rtk_survey.specs.EquipmentMessages.{equipment_in};
 ghost use Rattle.rtk_survey.specs.ReadFrames.{ReadFrame, read_frame};
@@ -171,7 +169,6 @@ impl Contents {
         entries: &[CellEntry],
         signals: &[SignalEntry],
     ) -> Result<(), AllocError>
-        requires valid { IsValid message.now }
         requires entries { entries.now ≡ entries_of_message message.now }
         requires signals { signals.now ≡ cells_beside_gps message.now }
         ensures { OnOk result ((q : Option Target) (before : List ReadFrame) → HoldsFrames q before self.old

@@ -66,6 +66,7 @@ mod msm_parts;
 mod nameless;
 mod next_command;
 mod parting;
+mod phase_channels;
 mod phases;
 mod placing;
 mod points;

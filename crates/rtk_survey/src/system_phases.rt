@@ -1,24 +1,17 @@
 //! How many phases the satellites of other systems than GPS have in each code.
 
-ghost use Rattle.std.specs.Prelude.{◌≡◌, ◌≢◌, ◌≤◌, ◌<◌, ◌-ℤ◌, ℕ, pos, true, List, Option, [], ◌∷◌, ◌++◌, OnOk};
+ghost use Rattle.std.specs.Prelude.{◌≡◌, ℕ, List, Option, [], ◌∷◌, ◌++◌, OnOk};
 ghost use Rattle.std.specs.BTreeMap.{get};
 ghost use Rattle.std.specs.Option.{option_copied};
 ghost use Rattle.std.specs.Ordering.{nat_cmp};
-ghost use Rattle.rtk_message.specs.AnyDecoded.{IsValid};
 ghost use Rattle.rtk_message.specs.declared.any_message.AnyMessage.{AnyMessage};
-ghost use Rattle.rtk_obs.specs.Carriers.{IsSlot, channel_at};
 ghost use Rattle.rtk_obs.specs.declared.signal_cells.SignalEntry.{SignalEntry};
 ghost use Rattle.rtk_survey.specs.BesideGps.{cells_beside_gps};
-ghost use Rattle.rtk_survey.specs.Channels.{is_of_glonass};
 ghost use Rattle.rtk_survey.specs.SystemPhases as spec;
 
-use crate::channels::{field_told, is_of_glonass};
 use crate::phases::PhaseCount;
-use arrayvec::ArrayVec;
 use rtk_message::AnyMessage;
-use rtk_obs::{
-    AnyCode, Channel, Channels, SatelliteIndex, SignalEntry, put_entries_1012, put_signal_entries,
-};
+use rtk_obs::{AnyCode, SatelliteIndex, SignalEntry};
 use std::alloc::{AllocError, Global};
 use std::collections::BTreeMap;
 
@@ -27,15 +20,6 @@ const CODES: usize = 16;
 
 /// The places of a table: those of the mask bits (DF394) below 64.
 const PLACES: usize = 1024;
-
-/// The slots of GLONASS: 1 to 27.
-const SLOTS_END: u8 = 28;
-
-/// The fields that tell a channel that RINEX has, -7 to +6, are below it.
-const FIELDS_END: u8 = 14;
-
-/// The field that tells channel 0.
-const FIELD_OF_0: u8 = 7;
 
 /// The phases of a station in the messages of one number. The table is made with the first cell.
 #[derive(Drop)]
@@ -52,66 +36,6 @@ pub struct SystemPhases {
     /// By the number of the message (DF002).
     pub tables: BTreeMap<u16, PhaseTable>,
 }
-
-// ---- the cells of GLONASS
-
-// The field of the channel on which phases are counted.
-fn phase_field(field: Option<u8>) -> u8
-    ensures value { result ≡ spec.phase_field field }
-    ensures bound { result < 14 }
-{
-    match field {
-        Some(field) if field < FIELDS_END => field,
-        _ => FIELD_OF_0,
-    }
-}
-
-// The channel that a field tells.
-fn channel_of_field(field: u8) -> Channel
-    requires { field < 14 }
-    ensures { result ≡ pos field -ℤ pos 7 }
-{
-    let Some(channel) = Channel::new(field as i8 - 7) else {
-        unreachable!();
-    };
-    channel
-}
-
-// Sets the channel of a slot on which its phases are counted.
-fn set_slot(channels: &mut Channels, message: &AnyMessage, slot: u8)
-    requires { (1 ≤ slot) × (slot < 28) }
-    ensures own { channel_at channels.new slot ≡ spec.phase_channel message.now slot }
-    ensures others { (s : ℕ) → IsSlot s → s ≢ slot → channel_at channels.new s ≡ channel_at channels.old s }
-{
-    let channel = channel_of_field(phase_field(field_told(message, slot)));
-    channels.set(slot, channel);
-}
-
-// The channels on which the phases of a message are counted.
-fn phase_channels(message: &AnyMessage) -> Channels
-    ensures { (slot : ℕ) → IsSlot slot → channel_at result slot ≡ spec.phase_channel message.now slot }
-{
-    let mut channels = Channels::new();
-    for slot in 1u8..SLOTS_END {
-        set_slot(&mut channels, message, slot);
-    }
-    channels
-}
-
-// Puts the cells of a message of GLONASS with their phases over a list.
-fn put_glonass_cells(message: &AnyMessage, found: &mut ArrayVec<SignalEntry, 64>)
-    requires { IsValid message.now }
-    ensures { found.new.items ≡ spec.glonass_phase_cells message.now }
-{
-    let channels = phase_channels(message);
-    match message {
-        AnyMessage::Message(_) => found.clear(),
-        AnyMessage::Msm(msm) => put_signal_entries(msm, &channels, found),
-        AnyMessage::Obs1012(legacy) => put_entries_1012(legacy, &channels, found),
-    }
-}
-
-// ---- tables
 
 // The place of a satellite and a code in the table of their system.
 fn place_of_phase(satellite: SatelliteIndex, code: AnyCode) -> usize
@@ -178,7 +102,7 @@ fn take_numbered(
     message: &AnyMessage,
     cells: &[SignalEntry],
 ) -> Result<(), AllocError>
-    requires { cells.now ≡ spec.phase_cells message.now }
+    requires { cells.now ≡ cells_beside_gps message.now }
     ensures { OnOk result ((ms : List AnyMessage) → spec.HasPhaseTables tables.old ms
         → spec.HasPhaseTables tables.new (message.now ∷ ms)) }
 {
@@ -199,14 +123,14 @@ impl SystemPhases {
         }
     }
 
-    // A message more with cells of other systems than GPS, if it has one.
-    fn take_cells(
+    /// A message more, with its cells of other systems than GPS.
+    pub(crate) fn count_phases(
         &mut self,
         alloc: Global,
         message: &AnyMessage,
         cells: &[SignalEntry],
     ) -> Result<(), AllocError>
-        requires { cells.now ≡ spec.phase_cells message.now }
+        requires { cells.now ≡ cells_beside_gps message.now }
         ensures { OnOk result ((named : Option ℕ) (ms : List AnyMessage) → spec.HasSystemPhases named ms self.old
             → spec.HasSystemPhases named (message.now ∷ ms) self.new) }
     {
@@ -220,38 +144,6 @@ impl SystemPhases {
             return take_numbered(alloc, &mut self.tables, message, cells);
         }
         Ok(())
-    }
-
-    // A message of GLONASS more. Its cells take 4 KB of the stack.
-    #[inline(never)]
-    fn take_glonass(&mut self, alloc: Global, message: &AnyMessage) -> Result<(), AllocError>
-        requires valid { IsValid message.now }
-        requires glonass { is_of_glonass message.now ≡ true }
-        ensures { OnOk result ((named : Option ℕ) (ms : List AnyMessage) → spec.HasSystemPhases named ms self.old
-            → spec.HasSystemPhases named (message.now ∷ ms) self.new) }
-    {
-        let mut cells = ArrayVec::new();
-        put_glonass_cells(message, &mut cells);
-        self.take_cells(alloc, message, cells.as_slice())
-    }
-
-    /// A message more, with its cells of other systems than GPS. Those of GLONASS are made anew with their phases.
-    pub(crate) fn count_phases(
-        &mut self,
-        alloc: Global,
-        message: &AnyMessage,
-        signals: &[SignalEntry],
-    ) -> Result<(), AllocError>
-        requires valid { IsValid message.now }
-        requires signals { signals.now ≡ cells_beside_gps message.now }
-        ensures { OnOk result ((named : Option ℕ) (ms : List AnyMessage) → spec.HasSystemPhases named ms self.old
-            → spec.HasSystemPhases named (message.now ∷ ms) self.new) }
-    {
-        if is_of_glonass(message) {
-            self.take_glonass(alloc, message)
-        } else {
-            self.take_cells(alloc, message, signals)
-        }
     }
 }
 

@@ -1,9 +1,7 @@
 //! The station of a conversion: the one that is named, or else the first one that has an observation of a system that
 //! dates.
 
-ghost use Rattle.std.specs.Prelude.{◌≡◌, ◌≢◌, ℕ, List, [], ◌∷◌, length, Option, Some, Ok, Err, true, OnOk};
-ghost use Rattle.rtk_bits.specs.Bits.{bits};
-ghost use Rattle.rtk_message.specs.AnyDecoded.{IsValid};
+ghost use Rattle.std.specs.Prelude.{◌≡◌, ℕ, List, [], ◌∷◌, length, Option, Some, Ok, Err, true, OnOk};
 ghost use Rattle.rtk_message.specs.declared.any_message.AnyMessage.{AnyMessage};
 ghost use Rattle.rtk_message.specs.declared.any_fault.AnyFault.{AnyFault};
 ghost use Rattle.rtk_message.specs.AnyDecoded.{station_of};
@@ -322,7 +320,6 @@ impl TargetSurvey {
         signals: &[SignalEntry],
         frame: u64,
     ) -> Result<(), AllocError>
-        requires valid { IsValid message.now }
         requires entries { entries.now ≡ entries_of_message message.now }
         requires signals { signals.now ≡ cells_beside_gps message.now }
         ensures { OnOk result ((q : Target) (fs : List ReadFrame) (payload : List ℕ) → frame ≡ shown_count (length fs)
@@ -389,7 +386,6 @@ pub(crate) fn take_target_message(
     signals: &[SignalEntry],
     frame: u64,
 ) -> Result<(), AllocError>
-    requires valid { IsValid message.now }
     requires entries { entries.now ≡ entries_of_message message.now }
     requires signals { signals.now ≡ cells_beside_gps message.now }
     ensures { OnOk result ((q : Option Target) (fs : List ReadFrame) (payload : List ℕ) → frame ≡ shown_count (length fs)
