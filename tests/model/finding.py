@@ -17,7 +17,7 @@ from pathlib import Path
 from typing import NamedTuple
 
 import stages
-from channels import orbit_of, phase_channels
+from channels import orbit_of
 from choosing import Allowed, Chosen, Sent, Wanted, choose, has_value_of_1012, leap_of
 from clock_spans import CLOCKS, DAY, Going, Marked, going, placed
 from clocks import leap_seconds_at, near_of_span
@@ -445,7 +445,7 @@ def station_of_cells(capture: Capture, named: int | None) -> int | None:
     """The station whose phases of other systems than GPS are counted: the one that is named, else the first that has a cell of one."""
     if named is not None:
         return named
-    has_cell = (it for it in capture.messages() if any(satellite[0] != "G" for satellite, _, _ in cells_in(it, {})))
+    has_cell = (it for it in capture.messages() if any(satellite[0] != "G" for satellite, _, _ in cells_in(it)))
     return next((it.header["station"] for it in has_cell), None)
 
 
@@ -458,7 +458,7 @@ def few_phases(captures: list[Capture], station: int, named: int | None, chosen:
         for is_counted in [station_of_cells(capture, named) == station]
         for it in capture.of_station(station)
         if it.header["number"] in chosen.numbers
-        for satellite, code, cell in cells_in(it, phase_channels(it))
+        for satellite, code, cell in cells_in(it)
         if satellite[0] == "G" or is_counted
     ]
     shown = {(satellite, name) for _, satellite, name, cell in cells if has_value(cell)}

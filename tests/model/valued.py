@@ -4,6 +4,7 @@ from __future__ import annotations
 
 from functools import lru_cache
 
+from channels import phase_channels
 from messages import Cell, cells_of
 from mixed_cells import MixedCell, all_cells, cells_of_1004, cells_of_1012
 from msm import LEGACY, LEGACY_GLONASS, system_of
@@ -15,8 +16,8 @@ def has_value(cell: Cell) -> bool:
     return (cell.range, cell.phase, cell.strength) != (None, None, None)
 
 
-def cells_in(message: Message, channels: dict[int, int]) -> list[MixedCell]:
-    """The cells of observations, none of a message of the station."""
+def cells_in(message: Message) -> list[MixedCell]:
+    """The cells of observations, none of a message of the station. A phase of GLONASS counts on any channel."""
     system, number = system_of(message), message.header["number"]
     if system is None:
         return []
@@ -24,13 +25,14 @@ def cells_in(message: Message, channels: dict[int, int]) -> list[MixedCell]:
         return cells_of_1004(message, True)
     if system is GPS:
         return [(f"G{satellite:02}", code, cell) for satellite, code, cell in cells_of(message)]
+    channels = phase_channels(message)
     return cells_of_1012(message, channels) if number == LEGACY_GLONASS else all_cells(message, channels)
 
 
 @lru_cache(10_000)
 def shown_in(message: Message) -> list[tuple[str, str]]:
-    """The satellites and codes with a value. GLONASS has no phases here, since no channel is given."""
-    return [(satellite, code) for satellite, code, cell in cells_in(message, {}) if has_value(cell)]
+    """The satellites and codes with a value."""
+    return [(satellite, code) for satellite, code, cell in cells_in(message) if has_value(cell)]
 
 
 def name_of_code(letter: str, code: str) -> str:
