@@ -12,11 +12,10 @@ ghost use Rattle.rtk_survey.specs.Tracing.{is_beside_gps};
 
 use crate::phase_channels::phase_channels;
 use crate::sbas::have_sbas;
+use crate::telling::DAY_MS;
 use arrayvec::ArrayVec;
 use rtk_message::{AnyMessage, Message, Obs1004, System};
 use rtk_obs::{SignalEntry, WEEK_MS, put_entries_1012, put_signal_entries, put_signals_1004};
-
-const DAY_MS: u64 = 86_400_000;
 
 /// By how much GPS time is ahead of BeiDou time.
 const BEIDOU_MS: u64 = 14_000;

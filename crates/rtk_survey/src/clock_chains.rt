@@ -8,7 +8,7 @@ ghost use Rattle.std.specs.Prelude.{◌≡◌, ◌<◌, ◌≤◌, length, drop,
 ghost use Rattle.rtk_survey.specs.Chains as spec;
 
 use crate::beside_gps::told_time;
-use crate::telling::DAY_MS;
+use crate::telling::{DAY_MS, HALF_DAY_MS};
 use arrayvec::ArrayVec;
 use rtk_message::{AnyMessage, Message, System};
 use rtk_obs::WEEK_MS;
@@ -28,9 +28,6 @@ const TIME_OF_DAY: u32 = 1 << 27;
 
 /// A day (DF416) that is unknown.
 const UNKNOWN_DAY: u32 = 7;
-
-/// Half a day.
-const HALF_DAY_MS: u64 = 43_200_000;
 
 /// The clock of a message.
 #[derive(Clone, Copy, Debug, PartialEq, Eq)]

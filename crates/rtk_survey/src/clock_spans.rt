@@ -14,13 +14,11 @@ use crate::clock_chains::tells_day;
 use crate::clock_marks::{ClockMarks, opened_moment};
 use crate::span::{Span, followed};
 use crate::system_msm::gives_value;
-use crate::telling::{DAY_MS, dated};
+use crate::telling::{DAY_MS, HALF_DAY_MS, dated};
 use rtk_message::{AnyMessage, System};
 use rtk_obs::{GpsMs, LAST_MS, SignalEntry};
 use std::alloc::{AllocError, Global};
 use std::collections::BTreeMap;
-
-const HALF_DAY_MS: u64 = 43_200_000;
 
 /// A clock that is followed.
 #[derive(Clone, Copy, Debug, PartialEq, Eq)]

@@ -5,11 +5,8 @@ ghost use Rattle.rtk_survey.specs.FarDates as spec;
 
 use crate::date_message::{DateMessage, UtcDate};
 use crate::span::Span;
-use crate::telling::{moment_of, told_by_utc};
+use crate::telling::{HALF_DAY_MS, moment_of, told_by_utc};
 use rtk_obs::GpsMs;
-
-/// Half a day.
-const FAR_MS: u64 = 43_200_000;
 
 /// The date of a 1013 or a 1029, and the epoch beside the message as it dates it.
 #[derive(Clone, Copy, Debug, PartialEq, Eq)]
@@ -23,7 +20,7 @@ fn is_far(date: UtcDate, epoch: u64) -> bool
     ensures { result ≡ spec.is_far_from_epoch date epoch }
 {
     let moment = moment_of(date).ms();
-    FAR_MS < epoch.saturating_sub(moment) || FAR_MS < moment.saturating_sub(epoch)
+    HALF_DAY_MS < epoch.saturating_sub(moment) || HALF_DAY_MS < moment.saturating_sub(epoch)
 }
 
 fn far_from_epoch(date: UtcDate, epoch: Option<u64>) -> Option<FarDate>

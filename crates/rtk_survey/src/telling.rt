@@ -9,6 +9,8 @@ use rtk_obs::{GpsMs, HALF_WEEK_MS, WEEK_MS};
 
 pub(crate) const DAY_MS: u64 = 86_400_000;
 
+pub(crate) const HALF_DAY_MS: u64 = 43_200_000;
+
 /// The Modified Julian Day of 1980-01-06.
 const FIRST_DAY: u64 = 44_244;
 
