@@ -7,13 +7,13 @@ use Rattle.rtk_survey.proofs.ChannelLemmas.{untold}
 use Rattle.rtk_survey.proofs.PhaseChannelLemmas.{channels-are}
 use Rattle.rtk_survey.proofs.phase_channels.phase_channels.Goals as goal
 
-pub returns-then-tells_channels : goal.returns-then-tells_channels
-returns-then-tells_channels c =
+pub returns-then-not-tells_channels : goal.returns-then-not-tells_channels
+returns-then-not-tells_channels c =
     let m = c.args.message.now in
     let good : AreChannels c.on_channel_0.result = search rules in
     channels-are c.on_channel_0.result m good (λ slot is.
     c.on_channel_0.ensures slot is
-    ∙ sym (ap (λ (field : Option ℕ). Some (pos (phase_field field) -ℤ pos 7)) (untold m slot (sym c.tells_channels.ensures ∙ c.if-tells_channels.false))))
+    ∙ sym (ap (λ (field : Option ℕ). Some (pos (phase_field field) -ℤ pos 7)) (untold m slot (sym c.tells_channels.ensures ∙ c.if-not-tells_channels.true))))
 
 pub loop-slot-init : goal.loop-slot-init
 loop-slot-init c = λ s is before. let from = is.0 in absurd (omega (arith, from, before))
