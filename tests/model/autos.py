@@ -6,7 +6,6 @@ import re
 from random import Random
 
 import finding
-import stages
 from auto_lines import Asked, auto_text, name_of, refusal_pattern
 from captures import LAST_MADE
 from choosing import Wanted
@@ -54,7 +53,7 @@ def some_wanted(rng: Random, setup: Setup | Options) -> Wanted:
         "--doppler": {"doppler": True},
     }
     for word in rng.sample(sorted(given), rng.choice((0, 0, 1, 2))):
-        if word in stages.WORDS and not (word == "--codes" and wanted.systems or word == "--systems" and wanted.names):
+        if not (word == "--codes" and wanted.systems or word == "--systems" and wanted.names):
             wanted = wanted._replace(**given[word])
     return wanted
 

@@ -16,7 +16,6 @@ from math import dist
 from pathlib import Path
 from typing import NamedTuple
 
-import stages
 from channels import orbit_of
 from choosing import Allowed, Chosen, Sent, Wanted, choose, has_value_of_1012, leap_of
 from clock_spans import CLOCKS, DAY, Going, Marked, going, placed
@@ -79,7 +78,7 @@ def date_of(payload: bytes) -> Fields | None:
                 bits.take(8)
         elif number == 1019:
             fields = bits.take_row(EPHEMERIS)
-        elif number in OTHER_EPHEMERIDES and stages.DATES_BY_SYSTEMS:
+        elif number in OTHER_EPHEMERIDES:
             fields = bits.take_row(OTHER_EPHEMERIDES[number][0])
         else:
             return None
@@ -529,7 +528,7 @@ def find(texts: list[bytes], now: int, wanted: Wanted = Wanted()) -> Found:
     alone = [[at for it, its in of.items() for at in placed(it, its, own, half, leap_now)] for of, own in zip(clocks, named)]
     links = links_of([of or other for of, other in zip(epochs, alone)], wanted.as_given)
     moments = [{it: placed(it, its, own, half, seconds) for it, its in of.items()} for of, own in zip(clocks, named)]
-    middle = near_with_1012(every, clocks, moments) if stages.TAKES_1012 else None
+    middle = near_with_1012(every, clocks, moments)
     orbits = [it for capture in everything for it in capture.orbits]
     allowed = Allowed(span, near, middle is not None)
     chosen = choose(sent, links, orbits, allowed, wanted)
