@@ -10,7 +10,7 @@ use Rattle.rtk_tracking.specs.Epochs.{capped, newest_moment}
 use Rattle.rtk_tracking.specs.Interval.{missing_in}
 use Rattle.rtk_chart.specs.Chart.{slips_at, returns_at, rises_at}
 use Rattle.rtk_chart.specs.Scale.{scale_of}
-use Rattle.rtk_chart.specs.Grid.{bins_of, outages_of, gaps_of}
+use Rattle.rtk_chart.specs.Grid.{bins_of, outages_of}
 use Rattle.rtk_chart.specs.Means.{all_without, columns_of}
 use Rattle.rtk_chart.specs.MixedChart.{no_drawn_numbers}
 use Rattle.rtk_chart.specs.SvgPicture.{band_top, bands_text, svg_of_none}

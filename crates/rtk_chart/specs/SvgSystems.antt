@@ -15,7 +15,7 @@ use Rattle.rtk_tracking.specs.Epochs.{capped, newest_first}
 use Rattle.rtk_tracking.specs.Interval.{interval_of_epochs, missing_in}
 use Rattle.rtk_chart.specs.Grid.{bins_of, outages_of, gaps_of}
 use Rattle.rtk_chart.specs.Groups.{drawn_in_order, listed_in, first_group, second_group, group_epochs}
-use Rattle.rtk_chart.specs.Means.{no_strengths, all_without, columns_of, bins_per_column}
+use Rattle.rtk_chart.specs.Means.{all_without, columns_of, bins_per_column}
 use Rattle.rtk_chart.specs.MixedChart.{no_drawn_numbers, drawn_numbers_at, both_numbers}
 use Rattle.rtk_chart.specs.Scale.{scale_of}
 use Rattle.rtk_chart.specs.SvgPath.{tracked_counts}

@@ -1,4 +1,4 @@
-use Rattle.std.proofs.Common.{◌≡◌, [], List, Option, map, ap, subst, ◌∙◌}
+use Rattle.std.proofs.Common.{◌≡◌, [], List, Option, ap, ◌∙◌}
 use Rattle.rtk_obs.specs.declared.code.Band.{Band}
 use Rattle.rtk_rinex.specs.Record.{EpochTableView}
 use Rattle.rtk_tracking.specs.Epochs.{newest_first}
