@@ -122,6 +122,7 @@ svg_heading system top = number_between (codes "<text class='system' x='110' y='
 abbrev pub heading_if_first : Bool → System → ℕ → List ℕ
 heading_if_first first system top = if first then svg_heading system top else []
 
+-- formula
 -- how high it is
 abbrev pub heading_height : Bool → ℕ
 heading_height first = if first then 34 else 0
