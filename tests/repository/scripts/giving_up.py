@@ -27,7 +27,7 @@ ANSWER = rf"(?:return )?(?:{FAULT}|fail\(rt, {FAULT}\)|Err\((?:{FAULT}|fail\(rt,
 
 # What requests name as their sizes.
 SIZES = {
-    "::with_capacity(": {"alloc, text.len()", "alloc, readers.len()", "alloc, READ_AT_ONCE, joined", "alloc, READ_AT_ONCE, reader",
+    "::with_capacity(": {"alloc, text.len()", "alloc, readers.len()", "alloc, READ_AT_ONCE, reader",
         "alloc, room, Resumed::new(to)"},
     ".reserve(": set(),
     ".reserve_exact(": set(),
