@@ -1,5 +1,5 @@
--- The lines of captures whose clocks of GLONASS and BeiDou a person should know of: none of their dates counts, or they
--- fall (this project's rule).
+-- The lines of captures whose clocks of GLONASS and BeiDou a person should know of: none of their dates counts, they fall, or
+-- another message than those of the station tells the day of their 1012 (this project's rule).
 use Rattle.std.specs.Prelude.{ℕ, Bool, true, false, not, ◌&&◌, ◌||◌, is_some, is_none, List, [], ◌++◌, codes, Option, None, Some, if◌then◌else◌}
 use Rattle.std.specs.Borrow.{Bor}
 use Rattle.rtk_setup.specs.Setup.{SetupView}
@@ -7,8 +7,9 @@ use Rattle.rtk_survey.specs.declared.clock_spans.ClockSpan.{ClockSpan}
 use Rattle.rtk_survey.specs.declared.clock_spans.StationClocks.{StationClocks}
 use Rattle.rtk_survey.specs.declared.span.Span.{Span}
 use Rattle.rtk_survey.specs.declared.survey.CaptureSurvey.{CaptureSurvey}
+use Rattle.rtk_survey.specs.declared.tellings.Told.{Told}
 use Rattle.rtk_captures.specs.CaptureNames.{capture_name, lines_by}
-use Rattle.rtk_captures.specs.Lists.{undated_line, name_line}
+use Rattle.rtk_captures.specs.Lists.{date_line, undated_line, name_line}
 use Rattle.rtk_captures.specs.StationCaptures.{capture_of}
 use Rattle.rtk_captures.specs.declared.span_line.DateSource.{DateSource}
 use Rattle.rtk_captures.specs.declared.span_line.DateSource.TheVariants.{Words, Station, OtherStation, Ephemerides, OtherEphemerides}
@@ -60,10 +61,26 @@ abbrev pub falling_clock_line : TakenClocks → Bool → StationCapture → Stat
 falling_clock_line taken takes_1012 c s name =
     if taken_clock_falls taken takes_1012 s && not (epochs_fall c.span) then name_line (codes " time-falls ") name else []
 
--- both lines of a capture
+-- formula
+-- the moment near which the first 1012 of a capture is dated
+unfoldable pub day_line : Told → List ℕ → List ℕ
+day_line t name = codes " day-of-1012" ++ date_line t name
+
+abbrev pub day_line_if_any : Option Told → List ℕ → List ℕ
+day_line_if_any None name = []
+day_line_if_any (Some t) name = day_line t name
+
+-- a capture without an epoch names a moment, but no 1013 or 1029 of the station does, and it has a 1012 with a value, and
+-- 1012 are converted, or left out since they can't be dated. An ephemeris names the time that it is of, which may be hours off
+abbrev pub day_line_of : Bool → Bool → StationCapture → StationClocks → List ℕ → List ℕ
+day_line_of takes_1012 leaves_1012 c s name =
+    if (takes_1012 || leaves_1012) && (is_some s.glonass_day && not c.is_own_moment) then day_line_if_any c.moment name else []
+
+-- all lines of a capture
 unfoldable pub clock_notes : DateSource → TakenClocks → Bool → Bool → StationCapture → StationClocks → List ℕ → List ℕ
 clock_notes source taken takes_1012 leaves_1012 c s name =
     undated_clock_line source taken takes_1012 leaves_1012 c s name ++ falling_clock_line taken takes_1012 c s name
+    ++ day_line_of takes_1012 leaves_1012 c s name
 
 abbrev pub clock_notes_in : ℕ → DateSource → TakenClocks → Bool → Bool → CaptureSurvey → List ℕ → List ℕ
 clock_notes_in station source taken takes_1012 leaves_1012 s name = clock_notes source taken takes_1012 leaves_1012 (capture_of station s) (clocks_in_survey station s) name

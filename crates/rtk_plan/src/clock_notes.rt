@@ -1,5 +1,5 @@
-//! The lines of captures whose clocks of GLONASS and BeiDou a person should know of: none of their dates counts, or they
-//! fall.
+//! The lines of captures whose clocks of GLONASS and BeiDou a person should know of: none of their dates counts, they fall,
+//! or another message than those of the station tells the day of their 1012.
 //!
 //! If memory is refused, a first part of what is put may stand there.
 
@@ -10,9 +10,10 @@ ghost use Rattle.rtk_plan.specs.ClockReach.{clocks_taken};
 use crate::clock_reach::{TakenClocks, clocks_in_survey, clocks_taken};
 use crate::planning::Plan;
 use rtk_captures::{
-    Captures, DateSource, StationCapture, capture_of, put_name_line, put_undated_line,
+    Captures, DateSource, StationCapture, capture_of, put_date_line, put_name_line,
+    put_undated_line,
 };
-use rtk_survey::{CaptureSurvey, ClockSpan, Span, StationClocks};
+use rtk_survey::{CaptureSurvey, ClockSpan, Span, StationClocks, Told};
 use std::alloc::AllocError;
 
 fn clock_falls(known: &Option<ClockSpan>) -> bool
@@ -121,7 +122,45 @@ fn put_falling_clock(
     }
 }
 
-// Appends both lines of a capture.
+// Appends the moment near which the first 1012 of a capture is dated.
+fn put_day(lines: &mut Vec<u8>, told: &Told, name: &str) -> Result<(), AllocError>
+    ensures { OnOk result (lines.new.items ≡ lines.old.items ++ spec.day_line told.now name.now) }
+{
+    lines.extend_from_slice(b" day-of-1012")?;
+    put_date_line(lines, told, name)?;
+    Ok(())
+}
+
+fn put_day_if_any(lines: &mut Vec<u8>, told: &Option<Told>, name: &str) -> Result<(), AllocError>
+    ensures { OnOk result (lines.new.items ≡ lines.old.items ++ spec.day_line_if_any told.now name.now) }
+{
+    match told {
+        Some(told) => put_day(lines, told, name),
+        None => Ok(()),
+    }
+}
+
+// Appends that moment, if a capture has 1012 and another message than a 1013 or a 1029 of the station names it: an ephemeris
+// names the time that it is of, which may be hours off.
+fn put_day_of(
+    lines: &mut Vec<u8>,
+    takes_1012: bool,
+    leaves_1012: bool,
+    capture: &StationCapture,
+    clocks: &StationClocks,
+    name: &str,
+) -> Result<(), AllocError>
+    ensures { OnOk result (lines.new.items ≡ lines.old.items
+        ++ spec.day_line_of takes_1012 leaves_1012 capture.now clocks.now name.now) }
+{
+    if (takes_1012 || leaves_1012) && (clocks.glonass_day.is_some() && !capture.is_own_moment) {
+        put_day_if_any(lines, &capture.moment, name)
+    } else {
+        Ok(())
+    }
+}
+
+// Appends all lines of a capture.
 fn put_clock_notes(
     lines: &mut Vec<u8>,
     source: DateSource,
@@ -145,6 +184,7 @@ fn put_clock_notes(
         name,
     )?;
     put_falling_clock(lines, taken, takes_1012, capture, clocks, name)?;
+    put_day_of(lines, takes_1012, leaves_1012, capture, clocks, name)?;
     Ok(())
 }
 
