@@ -7,14 +7,13 @@ pub returns : goal.returns
 unfolding clock_notes
 returns c =
     let taken = c.args.taken in
-    let takes = c.args.takes_1012 in
     let leaves = c.args.leaves_1012 in
     let capture = c.args.capture.now in
     let clocks = c.args.clocks.now in
     let name = c.args.name.now in
-    let a : List ℕ = undated_clock_line c.args.source taken takes leaves capture clocks name in
-    let b : List ℕ = falling_clock_line taken takes capture clocks name in
-    let d : List ℕ = day_line_of takes leaves capture clocks name in
+    let a : List ℕ = undated_clock_line c.args.source taken leaves capture clocks name in
+    let b : List ℕ = falling_clock_line taken capture clocks name in
+    let d : List ℕ = day_line_of taken leaves capture clocks name in
     c.in_ok-put_day_of.ensures
     ∙ ap (λ (l : List ℕ). l ++ d) (c.in_ok-put_falling_clock.ensures ∙ ap (λ (l : List ℕ). l ++ b) c.in_ok-put_undated_clock.ensures)
     ∙ three-parts c.args.lines.now.items a b d
