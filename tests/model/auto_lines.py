@@ -249,6 +249,7 @@ def date_lines(found: Found, asked: Asked, texts: list[bytes]) -> list[str]:
     for at in range(len(texts)):
         lines += [f" undated {name_of(at)}: dated near the others"] * (at in found.unnamed)
         lines += [f" time-falls {name_of(at)}"] * (at in found.falling)
+        lines += [f" day-of-1012{date_text(it.fields, it.first, name_of(at))}" for of, it in found.days.items() if of == at]
     firsts = [epochs[0] if epochs else found.near for epochs in found.epochs]
     for at, first in zip(kept, firsts):
         lines += [f" other-date{date_text(it.fields, it.first, name_of(at))}" for it in told[at] + passed[at] if it.first != first]
