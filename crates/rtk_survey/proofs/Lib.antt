@@ -13,7 +13,7 @@ pub mod FrameLemmas
 pub mod FramePlaceLemmas
 pub mod FreshLemmas
 pub mod HeadLemmas
-pub mod LeapLemmas
+mod LeapLemmas
 pub mod LineLemmas
 pub mod LineTellingLemmas
 pub mod ListLemmas

@@ -111,6 +111,7 @@ pub use clock_chains::ClockTold;
 pub use clock_chains::DayOffset;
 pub use clock_lines::compared_clocks;
 pub use clock_lines::put_clock_line;
+pub use clock_lines::table_seconds_at;
 pub use clock_lines::told_offset;
 pub use clock_marks::ClockMarks;
 pub use clock_marks::opened_moment;
