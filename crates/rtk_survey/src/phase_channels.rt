@@ -55,17 +55,25 @@ fn on_channel_0() -> Channels
     channels
 }
 
-/// The channels on which the phases of a message are counted.
-pub(crate) fn phase_channels(message: &AnyMessage) -> Channels
-    ensures { result ≡ spec.phase_channels message.now }
+// Each slot is on the channel that the message tells, or else on channel 0.
+fn on_told_channels(message: &AnyMessage) -> Channels
+    ensures { (slot : ℕ) → IsSlot slot → channel_at result slot ≡ spec.phase_channel message.now slot }
 {
-    // most messages tell no channel of any slot
-    if !tells_channels(message) {
-        return on_channel_0();
-    }
     let mut channels = Channels::new();
     for slot in 1..SLOTS {
         set_slot(&mut channels, message, slot);
     }
     channels
+}
+
+/// The channels on which the phases of a message are counted.
+pub(crate) fn phase_channels(message: &AnyMessage) -> Channels
+    ensures { result ≡ spec.phase_channels message.now }
+{
+    // most messages tell no channel of any slot
+    if tells_channels(message) {
+        on_told_channels(message)
+    } else {
+        on_channel_0()
+    }
 }

@@ -1,7 +1,7 @@
 use Rattle.std.proofs.Common.{◌≡◌, ◌<◌, ℕ}
 use Rattle.rtk_obs.specs.Carriers.{IsSlot, channel_at}
 use Rattle.rtk_survey.specs.PhaseChannels.{phase_channel}
-use Rattle.rtk_survey.proofs.phase_channels.phase_channels.Given as goal
+use Rattle.rtk_survey.proofs.phase_channels.on_told_channels.Given as goal
 
 -- the slots before this one have their channels
 abbrev pub invariant-loop-slot : goal.invariant-loop-slot
