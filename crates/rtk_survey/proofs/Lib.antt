@@ -1,5 +1,6 @@
 pub mod AlikeLemmas
 pub mod BitLemmas
+pub mod BitMarkLemmas
 pub mod ChannelLemmas
 pub mod ChannelLineLemmas
 pub mod ClockSpanLemmas

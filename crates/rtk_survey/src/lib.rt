@@ -37,6 +37,7 @@
 #![tactic(auto)]
 
 mod beside_gps;
+mod bit_marks;
 mod capture_dates;
 mod channel_lines;
 mod channels;
@@ -100,6 +101,7 @@ mod wrong_clocks;
 
 pub use beside_gps::is_beside_gps;
 pub use beside_gps::told_time;
+pub use bit_marks::BitMarks;
 pub use capture_dates::CaptureDates;
 pub use channel_lines::put_field_channel;
 pub use channels::count_of_field;
