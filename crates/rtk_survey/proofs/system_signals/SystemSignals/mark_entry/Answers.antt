@@ -16,7 +16,7 @@ returns-then-has_value c = λ es stands.
           ∙ ap (λ (b : Bool). (x.satellite == n) || b) (stands.satellites n)
           ∙ ap (λ (b : Bool). (b && (x.satellite == n)) || list_any (gives_index n) es) (sym valued);
       codes = λ n.
-          c.mark-2.ensures n ∙ ap (λ (k : ℕ). (k == n) || is_marked_in s.codes.words n) c.number.ensures.value
+          c.mark-then-has_value.ensures n ∙ ap (λ (k : ℕ). (k == n) || is_marked_in s.codes.words n) c.number.ensures.value
           ∙ ap (λ (b : Bool). (number_of x.code == n) || b) (stands.codes n)
           ∙ ap (λ (b : Bool). (b && (number_of x.code == n)) || list_any (gives_number n) es) (sym valued);
     }
