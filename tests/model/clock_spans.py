@@ -72,7 +72,6 @@ def moved(moments: list[int], last: int) -> list[int]:
     return [it + last - moments[-1] for it in moments]
 
 
-# pins: marks_with_date, is_marked_by
 def going(clock: str, entries: Iterable[Marked]) -> Going:
     """How a clock goes in the messages of a station, between its epochs, or before the first of them between its dates."""
     moments: list[int] = []
@@ -100,7 +99,7 @@ def going(clock: str, entries: Iterable[Marked]) -> Going:
     return Going(moments, seen is not None)
 
 
-# pins: clock_lead, placed_clock_span, placed_in_middle
+# pins: clock_lead, placed_clock_span, placed_in_middle, midway, middle_of_span
 def placed(clock: str, it: Going, told: int | None, middle: int, seconds: int) -> list[int]:
     """The moments of a clock. If nothing dates them, the first is near the moment that another message tells, or else their middle is
     near that of the epochs."""

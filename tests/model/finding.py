@@ -562,7 +562,6 @@ def in_week_of(near: int | None, at: int) -> int:
     return at if near is None else dated(near, at % WEEK_MS)
 
 
-# pins: own_reference, week_by
 def own_dates(now: int, capture: Capture, station: int, near: int | None) -> dict[int, int]:
     """The moments that 1013 and 1029 of the station name, by their places. If a moment is given, it tells the week of the first."""
     named = {at: moment_named(now, it) for at, it in waiting_in(capture) if it.get("station") == station}

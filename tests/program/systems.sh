@@ -450,7 +450,6 @@ legacy with_a_lone_1012 2020-01-25T02:16:02 '1C,R1C,R2P --window 4096 --channels
 R12_LATER=3F40017829B800818318EAEE800097221CA7FACFF289C97E
 AT_1430=3F5001E5F965F40048
 python3 "$here/framed.py" $G05_1004 >of_gps.rtcm; python3 "$here/framed.py" $R12_LATER $AT_1430 >of_1012.rtcm
-# pins: own_reference, week_by
 for near_ in '' '--near 2020-01-25T00:00:00'; do
     run auto $near_ --made $made --marker BASE of_gps.rtcm of_1012.rtcm; grep '^>' out | cut -c 1-29 >told
     printf '> 2020 01 25 02 16  0.0000000\n> 2020 01 25 14 30 18.0000000\n' >want; same "auto_1012_alone${near_% *}" told want
