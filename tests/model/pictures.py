@@ -250,7 +250,7 @@ SIGNS = [
 ]
 
 
-# pins: edge_of, middle_of, run_part, mark_part, path_start, runs_path, marks_path, level_path
+# pins: edge_of, SvgPath.middle_of, run_part, mark_part, path_start, runs_path, marks_path, level_path
 # pins: outage_boxes, missing_paths, lock_paths, shows, column_numbers, drawn_bar, SvgPicture.code_line, line_if_had, band_height, band_top, band_start, band_text
 # pins: spacing_of, line_top, line_start, code_start, name_start, name_drop
 # pins: band_if_drawn, bands_text, gaps_band, satellites_band, step_part, label_start, tick_text, ticks_text, svg_tick_step
