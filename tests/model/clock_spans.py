@@ -99,7 +99,7 @@ def going(clock: str, entries: Iterable[Marked]) -> Going:
     return Going(moments, seen is not None)
 
 
-# pins: clock_lead, placed_clock_span, ClockReach.middle_of, middle_of_span
+# pins: clock_lead, placed_clock_span, placed_in_middle, midway, middle_of_span
 def placed(clock: str, it: Going, told: int | None, middle: int, seconds: int) -> list[int]:
     """The moments of a clock. If nothing dates them, the first is near the moment that another message tells, or else their middle is
     near that of the epochs."""

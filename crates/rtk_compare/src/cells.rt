@@ -174,8 +174,9 @@ fn tell_cell(
     }
 }
 
-// Does what `compare_cell` does, whatever both files show.
-fn compare_other_cell(
+/// Adds the differences of a cell, if there is a place to tell them at, and notes the cell. Both files show Doppler
+/// shifts, or not.
+pub(crate) fn compare_cell(
     track: &mut Track,
     shifts: bool,
     old: &Observed,
@@ -201,32 +202,10 @@ fn is_same(old: &Observed, new: &Observed) -> bool
     old == new
 }
 
-// Do both files show the same, after phases that do not differ by rolls?
-fn shows_same(track: &Track, old: &Observed, new: &Observed) -> bool
+/// Do both files show the same, after phases that do not differ by rolls? Then nothing is told of the cell.
+pub(crate) fn shows_same(track: &Track, old: &Observed, new: &Observed) -> bool
     ensures same { IsTrue result → old.now ≡ new.now }
     ensures rolls { (earlier : List (Pair Observed)) → IsTrackOf track.now earlier → IsTrue result → rolls_held earlier ≡ pos 0 }
 {
     track.rolls == 0 && is_same(old, new)
-}
-
-/// Adds the differences of a cell, if there is a place to tell them at, and notes the cell. Both files show Doppler
-/// shifts, or not.
-pub(crate) fn compare_cell(
-    track: &mut Track,
-    shifts: bool,
-    old: &Observed,
-    new: &Observed,
-    place: &Option<Place>,
-    findings: &mut Findings,
-)
-    ensures lines { (earlier : List (Pair Observed)) → IsTrackOf track.old earlier
-        → Adds findings.old findings.new (lines_if_told shifts place.now earlier (pair old.now new.now)) }
-    ensures track { (earlier : List (Pair Observed)) → IsTrackOf track.old earlier → IsTrackOf track.new (pair old.now new.now ∷ earlier) }
-{
-    // Most cells are of this kind, and nothing is told of them.
-    if shows_same(track, old, new) {
-        track.note(old, new, 0);
-    } else {
-        compare_other_cell(track, shifts, old, new, place, findings);
-    }
 }

@@ -15,7 +15,7 @@ ghost use Rattle.rtk_compare.specs.Steps.Readers.{AreRowsOf};
 ghost use Rattle.rtk_compare.specs.Steps.Sides.{IsNextSide};
 ghost use Rattle.rtk_compare.specs.Steps.Rows.{row_view, is_alone, is_gone_row, place_at, gone_line, lines_told, NotesRow, next_view, observed_of, next_rows, Rise, ComparesRows};
 
-use crate::cells::compare_cell;
+use crate::cells::{compare_cell, shows_same};
 use crate::difference::{Class, Place, What};
 use crate::findings::Findings;
 use crate::row_reader::RowReader;
@@ -125,8 +125,13 @@ fn compare_code(
 {
     let old = shown_at(row.old, code.old);
     let new = shown_at(row.new, code.new);
-    let place = row.place_of(code, time);
-    compare_cell(track, code.shifts, &old, &new, &place, findings);
+    // Most cells are of this kind, and nothing is told of them.
+    if shows_same(track, &old, &new) {
+        track.note(&old, &new, 0);
+    } else {
+        let place = row.place_of(code, time);
+        compare_cell(track, code.shifts, &old, &new, &place, findings);
+    }
 }
 
 // Compares a satellite. Its differences are added if there is a time, that of its epoch.

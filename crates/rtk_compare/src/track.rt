@@ -28,6 +28,9 @@ fn nearest_rolls(distance: u64) -> u64
     ensures value { result ≡ nearest_rolls distance }
     ensures bound { result < 2 ^ 63 }
 {
+    if distance <= ROLL / 2 {
+        return 0;
+    }
     let whole = distance / ROLL;
     if distance % ROLL > ROLL / 2 {
         whole + 1
@@ -40,6 +43,9 @@ fn nearest_rolls(distance: u64) -> u64
 pub(crate) fn beside_rolls(distance: u64) -> u64
     ensures { result ≡ beside_rolls distance }
 {
+    if distance <= ROLL / 2 {
+        return distance;
+    }
     let part = distance % ROLL;
     part.min(ROLL - part)
 }

@@ -6,17 +6,17 @@ use Rattle.rtk_survey.specs.declared.survey.CaptureSurvey.{CaptureSurvey}
 use Rattle.rtk_systems.specs.SlotChannels.{AreSecondsChosen}
 use Rattle.rtk_captures.specs.Dating.{ArePlaced, IsNearOf, IsSpanOf, captures_of}
 use Rattle.rtk_captures.specs.declared.span_line.DatedSpan.{DatedSpan}
-use Rattle.rtk_plan.specs.ClockReach.{middle_of, clock_dating, clocks_taken, has_far_clock}
+use Rattle.rtk_plan.specs.ClockReach.{midway, clock_dating, clocks_taken, has_far_clock}
 use Rattle.rtk_plan.specs.Plan.{HaveFarClocks}
 use Rattle.rtk_plan.specs.declared.clock_reach.ClockDating.{ClockDating}
 use Rattle.rtk_plan.specs.declared.clock_reach.TakenClocks.{TakenClocks}
 
 pub far-clocks : (ss : List CaptureSurvey) (given : Option ℕ) (station : ℕ) (s : SetupView) (first n : ℕ) (placed : List (Option Placed)) (span : DatedSpan) (way : ClockDating) (taken : TakenClocks) (near : ℕ) (ps : List (Option Placed)) (has : Bool)
     → IsNearOf given (captures_of ss station) first → ArePlaced given (captures_of ss station) placed → IsSpanOf given (captures_of ss station) station span → AreSecondsChosen s.leap_seconds first n
-    → way ≡ clock_dating given station n (middle_of span.from span.until) → taken ≡ clocks_taken s → near ≡ s.near → ps ≡ placed
+    → way ≡ clock_dating given station n (midway span.from span.until) → taken ≡ clocks_taken s → near ≡ s.near → ps ≡ placed
     → has_far_clock way taken near ps ss ≡ has → HaveFarClocks ss given station s has
 far-clocks ss given station s first n placed span way taken near ps has is are spans said by_way by_taken by_near by_placed far =
-    let own : ClockDating = clock_dating given station n (middle_of span.from span.until) in (
+    let own : ClockDating = clock_dating given station n (midway span.from span.until) in (
       first,
       is,
       (

@@ -15,7 +15,7 @@ use Rattle.rtk_captures.specs.Linking.{links_found}
 use Rattle.rtk_plan.specs.LinkPlaces.{places_among_links, AreLinksOf}
 use Rattle.rtk_plan.specs.Plan.{IsChosenStation, kinds_found, codes_chosen, AreSystemsTaken, AreCodesChosen, marker_chosen, converts_1012, near_chosen, near_in_reach, near_with_1012, codes_taken_from, AreLeapSecondsOf, IsNear1012, IsSetupFor}
 use Rattle.rtk_captures.specs.Dating.{captures_of, some_out_of_reach, IsBaseOf, IsReachOf, ArePlaced, IsNearOf, IsSpanOf, AreStrays}
-use Rattle.rtk_plan.specs.ClockReach.{middle_of, clock_dating}
+use Rattle.rtk_plan.specs.ClockReach.{midway, clock_dating}
 use Rattle.rtk_plan.specs.Near1012.{ends_after, middle_up, middle_down, middle_second, dates_ends, can_date, near_of_ends, near_between}
 use Rattle.rtk_captures.specs.Reach.{least_told, placed_if_any, reach_after, second_of}
 use Rattle.rtk_systems.specs.SlotChannels.{IsGlonassFound, AreSecondsChosen}
@@ -112,9 +112,9 @@ one-links false given ss station xs ys is also =
     let leap : is.2.2.2.0 ≡ also.2.2.2.0 =
     one-seconds None is.2.2.0 is.2.2.2.0 also.2.2.2.0 is.2.2.2.1 (subst (λ (t : ℕ). AreSecondsChosen None t also.2.2.2.0) (sym first) also.2.2.2.1) in
     is.2.2.2.2
-    ∙ ap (λ (ps : List (Option Placed)). links_found cs (places_among_links (clock_dating given station is.2.2.2.0 (middle_of is.2.0.from is.2.0.until)) ps 0 ss)) placed
-    ∙ ap (λ (x : DatedSpan). links_found cs (places_among_links (clock_dating given station is.2.2.2.0 (middle_of x.from x.until)) also.0 0 ss)) span
-    ∙ ap (λ (n : ℕ). links_found cs (places_among_links (clock_dating given station n (middle_of also.2.0.from also.2.0.until)) also.0 0 ss)) leap ∙ sym also.2.2.2.2
+    ∙ ap (λ (ps : List (Option Placed)). links_found cs (places_among_links (clock_dating given station is.2.2.2.0 (midway is.2.0.from is.2.0.until)) ps 0 ss)) placed
+    ∙ ap (λ (x : DatedSpan). links_found cs (places_among_links (clock_dating given station is.2.2.2.0 (midway x.from x.until)) also.0 0 ss)) span
+    ∙ ap (λ (n : ℕ). links_found cs (places_among_links (clock_dating given station n (midway also.2.0.from also.2.0.until)) also.0 0 ss)) leap ∙ sym also.2.2.2.2
 
 one-1012 : (ss : List CaptureSurvey) (given : Option ℕ) (station : ℕ) (seconds : Option ℕ) (first : ℕ) (a b : Option ℕ)
     → IsNear1012 ss given station seconds first a → IsNear1012 ss given station seconds first b → a ≡ b
@@ -123,9 +123,9 @@ one-1012 ss given station seconds first a b is also =
     let placed : is.0 ≡ also.0 = one-placed given cs is.0 also.0 is.1 also.1 in
     let span : is.2.0 ≡ also.2.0 = one-span given cs station is.2.0 also.2.0 is.2.1 also.2.1 in
     let leap : is.2.2.0 ≡ also.2.2.0 = one-seconds seconds first is.2.2.0 also.2.2.0 is.2.2.1 also.2.2.1 in
-    is.2.2.2 ∙ ap (λ (ps : List (Option Placed)). near_with_1012 ss (clock_dating given station is.2.2.0 (middle_of is.2.0.from is.2.0.until)) cs ps is.2.0.from is.2.0.until) placed
-    ∙ ap (λ (x : DatedSpan). near_with_1012 ss (clock_dating given station is.2.2.0 (middle_of x.from x.until)) cs also.0 x.from x.until) span
-    ∙ ap (λ (n : ℕ). near_with_1012 ss (clock_dating given station n (middle_of also.2.0.from also.2.0.until)) cs also.0 also.2.0.from also.2.0.until) leap ∙ sym also.2.2.2
+    is.2.2.2 ∙ ap (λ (ps : List (Option Placed)). near_with_1012 ss (clock_dating given station is.2.2.0 (midway is.2.0.from is.2.0.until)) cs ps is.2.0.from is.2.0.until) placed
+    ∙ ap (λ (x : DatedSpan). near_with_1012 ss (clock_dating given station is.2.2.0 (midway x.from x.until)) cs also.0 x.from x.until) span
+    ∙ ap (λ (n : ℕ). near_with_1012 ss (clock_dating given station n (midway also.2.0.from also.2.0.until)) cs also.0 also.2.0.from also.2.0.until) leap ∙ sym also.2.2.2
 
 abbrev setup_with : ℕ → ℕ → List ℕ → List AnyCode → Option GlonassView → ℕ → Bool → ℕ → SystemKinds → Option ℕ → Bool → SetupView
 setup_with station near marker listed glonass made doppler window kinds leap_seconds takes_1012 =
@@ -248,7 +248,7 @@ other-whole : (ss : List CaptureSurvey) (given : Option ℕ) (station : ℕ) (se
     → IfSome other (λ n. n % 1000 ≡ 0)
 other-whole ss given station seconds first other is =
     let cs : List StationCapture = captures_of ss station in
-    let e : Ends = ends_after (clock_dating given station is.2.2.0 (middle_of is.2.0.from is.2.0.until)) (record { from = is.2.0.from; until = is.2.0.until }) ss is.0 in
+    let e : Ends = ends_after (clock_dating given station is.2.2.0 (midway is.2.0.from is.2.0.until)) (record { from = is.2.0.from; until = is.2.0.until }) ss is.0 in
     subst (λ (o : Option ℕ). IfSome o (λ n. n % 1000 ≡ 0)) (sym is.2.2.2) (reach-whole cs is.0 (near_between e) (between-whole e))
 
 chosen-whole : (takes : Bool) (first : ℕ) (other : Option ℕ) → first % 1000 ≡ 0 → IfSome other (λ n. n % 1000 ≡ 0) → near_chosen takes first other % 1000 ≡ 0

@@ -13,7 +13,7 @@ use Rattle.rtk_plan.specs.KnownLines.{leaves_long, skipped_line, skipped_lines, 
 use Rattle.rtk_survey.specs.Surveys.{places_of}
 use Rattle.rtk_captures.specs.Linking.{kept_in_order, captures_of_link, is_nonempty, joined_links, links_found, one_place, links_as_given}
 use Rattle.rtk_plan.specs.LinkPlaces.{places_among_links, AreLinksOf}
-use Rattle.rtk_plan.specs.ClockReach.{middle_of, clock_dating}
+use Rattle.rtk_plan.specs.ClockReach.{midway, clock_dating}
 use Rattle.rtk_plan.specs.declared.clock_reach.ClockDating.{ClockDating}
 use Rattle.rtk_survey.specs.declared.survey.CaptureSurvey.{CaptureSurvey}
 use Rattle.rtk_captures.specs.Dating.{captures_of}
@@ -299,7 +299,7 @@ links-take : (as_given : Bool) (given : Option ℕ) (ss : List CaptureSurvey) (s
 links-take true given ss station links is p lt = ap (λ (ls : List (List ℕ)). times_taken p ls) is ∙ as-given-take (captures_of ss station) p lt
 links-take false given ss station links is p lt =
     let cs : List StationCapture = captures_of ss station in
-    let way : ClockDating = clock_dating given station is.2.2.2.0 (middle_of is.2.0.from is.2.0.until) in
+    let way : ClockDating = clock_dating given station is.2.2.2.0 (midway is.2.0.from is.2.0.until) in
     let places : List (Option Placed) = places_among_links way is.0 0 ss in
     let each : length places ≡ length cs = as-many-places way is.0 0 ss ∙ sym (length-map ss (capture_of station)) in
     ap (λ (ls : List (List ℕ)). times_taken p ls) is.2.2.2.2 ∙ found-take cs places p each lt

@@ -57,8 +57,8 @@ span_of_clock GlonassDay s = s.glonass_day
 
 -- formula
 -- the middle of two moments
-abbrev pub middle_of : ℕ → ℕ → ℕ
-middle_of from until = (from + until) / 2
+abbrev pub midway : ℕ → ℕ → ℕ
+midway from until = (from + until) / 2
 
 -- how clocks of a station are dated: by these leap seconds, and in captures without epochs near a moment that is given, or by
 -- what the captures name, or in the middle of the epochs of the others
@@ -108,8 +108,9 @@ placed_near way clock near k =
 -- formula
 -- the middle of the first and the last moment of a clock
 abbrev pub middle_of_span : Span → ℕ
-middle_of_span s = middle_of s.least s.greatest
+middle_of_span s = midway s.least s.greatest
 
+-- formula
 -- with the middle of its moments near the middle of the epochs of the others
 abbrev pub placed_in_middle : ClockDating → FollowedClock → ClockSpan → Placed
 placed_in_middle way clock k =

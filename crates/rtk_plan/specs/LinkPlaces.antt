@@ -9,7 +9,7 @@ use Rattle.rtk_captures.specs.Dating.{ArePlaced, IsNearOf, IsSpanOf, captures_of
 use Rattle.rtk_captures.specs.Linking.{links_found, links_as_given}
 use Rattle.rtk_captures.specs.Reach.{reach_with}
 use Rattle.rtk_captures.specs.declared.span_line.DatedSpan.{DatedSpan}
-use Rattle.rtk_plan.specs.ClockReach.{middle_of, clock_dating, clock_placed, placed_or_none}
+use Rattle.rtk_plan.specs.ClockReach.{midway, clock_dating, clock_placed, placed_or_none}
 use Rattle.rtk_plan.specs.declared.clock_reach.ClockDating.{ClockDating}
 
 -- the first and the last message of a capture without an epoch
@@ -35,4 +35,4 @@ AreLinksOf false given ss station links =
     × ((span : DatedSpan) × IsSpanOf given (captures_of ss station) station span
     × ((first : ℕ) × IsNearOf given (captures_of ss station) first
     × ((n : ℕ) × AreSecondsChosen None first n
-    × (links ≡ links_found (captures_of ss station) (places_among_links (clock_dating given station n (middle_of span.from span.until)) placed 0 ss)))))
+    × (links ≡ links_found (captures_of ss station) (places_among_links (clock_dating given station n (midway span.from span.until)) placed 0 ss)))))

@@ -15,7 +15,7 @@ use Rattle.rtk_systems.specs.declared.system_flags.SystemFlags.{SystemFlags}
 use Rattle.rtk_captures.specs.declared.span_line.DatedSpan.{DatedSpan}
 use Rattle.rtk_systems.specs.ClockOffsets.{systems_with_clocks}
 use Rattle.rtk_systems.specs.FoundSeconds.{asks_glonass, AreSecondsOfSetup}
-use Rattle.rtk_plan.specs.ClockReach.{middle_of, clock_dating, clocks_taken, has_far_clock}
+use Rattle.rtk_plan.specs.ClockReach.{midway, clock_dating, clocks_taken, has_far_clock}
 use Rattle.rtk_plan.specs.Near1012.{ends_after, near_between}
 use Rattle.rtk_systems.specs.SlotChannels.{AreSecondsChosen, IsGlonassFound}
 use Rattle.rtk_systems.specs.SystemFlags.{in_both, flags_listed}
@@ -102,7 +102,7 @@ IsNear1012 ss given station seconds first near =
     (placed : List (Option Placed)) × ArePlaced given (captures_of ss station) placed
     × ((span : DatedSpan) × IsSpanOf given (captures_of ss station) station span
     × ((n : ℕ) × AreSecondsChosen seconds first n
-    × (near ≡ near_with_1012 ss (clock_dating given station n (middle_of span.from span.until)) (captures_of ss station) placed span.from span.until)))
+    × (near ≡ near_with_1012 ss (clock_dating given station n (midway span.from span.until)) (captures_of ss station) placed span.from span.until)))
 
 -- the messages of which a setup takes values
 abbrev pub taken_messages : SetupView → TakenMessages
@@ -136,7 +136,7 @@ HaveFarClocks ss given station s has =
     × ((placed : List (Option Placed)) × ArePlaced given (captures_of ss station) placed
     × ((span : DatedSpan) × IsSpanOf given (captures_of ss station) station span
     × ((n : ℕ) × AreSecondsChosen s.leap_seconds first n
-    × (has ≡ has_far_clock (clock_dating given station n (middle_of span.from span.until)) (clocks_taken s) s.near placed ss))))
+    × (has ≡ has_far_clock (clock_dating given station n (midway span.from span.until)) (clocks_taken s) s.near placed ss))))
 
 -- ---- all of it
 

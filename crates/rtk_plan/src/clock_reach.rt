@@ -91,8 +91,8 @@ fn span_of_clock(clock: FollowedClock, clocks: &StationClocks) -> Option<ClockSp
 
 // ---- one clock
 
-fn middle_of(from: GpsMs, until: GpsMs) -> u64
-    ensures value { result ≡ spec.middle_of from until }
+fn midway(from: GpsMs, until: GpsMs) -> u64
+    ensures value { result ≡ spec.midway from until }
     ensures bound { result ≤ LAST_MS }
 {
     (from.ms() + until.ms()) / 2
@@ -100,9 +100,9 @@ fn middle_of(from: GpsMs, until: GpsMs) -> u64
 
 // The middle of the epochs.
 fn middle_of_epochs(epochs: &DatedSpan) -> GpsMs
-    ensures { result ≡ spec.middle_of epochs.now.from epochs.now.until }
+    ensures { result ≡ spec.midway epochs.now.from epochs.now.until }
 {
-    let Some(middle) = GpsMs::new(middle_of(epochs.from, epochs.until)) else {
+    let Some(middle) = GpsMs::new(midway(epochs.from, epochs.until)) else {
         unreachable!();
     };
     middle
@@ -125,7 +125,7 @@ impl ClockDating {
         given: Option<Reference>,
         epochs: &DatedSpan,
     ) -> ClockDating
-        ensures { result ≡ spec.clock_dating given station seconds (spec.middle_of epochs.now.from epochs.now.until) }
+        ensures { result ≡ spec.clock_dating given station seconds (spec.midway epochs.now.from epochs.now.until) }
     {
         ClockDating {
             station,
@@ -242,7 +242,7 @@ fn placed_near(way: &ClockDating, clock: FollowedClock, near: GpsMs, known: &Clo
 fn middle_of_span(span: &Span) -> u64
     ensures { result ≡ spec.middle_of_span span.now }
 {
-    middle_of(span.least, span.greatest)
+    midway(span.least, span.greatest)
 }
 
 // With the middle of its moments near the middle of the epochs of the others.

@@ -4,7 +4,7 @@ use Rattle.rtk_captures.specs.Dating.{ArePlaced, IsNearOf, IsSpanOf, captures_of
 use Rattle.rtk_captures.specs.Linking.{links_found}
 use Rattle.rtk_captures.specs.declared.station_capture.StationCapture.{StationCapture}
 use Rattle.rtk_survey.specs.declared.placing.Placed.{Placed}
-use Rattle.rtk_plan.specs.ClockReach.{middle_of, clock_dating}
+use Rattle.rtk_plan.specs.ClockReach.{midway, clock_dating}
 use Rattle.rtk_plan.specs.LinkPlaces.{places_among_links}
 use Rattle.rtk_plan.specs.declared.clock_reach.ClockDating.{ClockDating}
 use Rattle.rtk_plan.proofs.link_places.links_by_places.Goals as goal
@@ -19,7 +19,7 @@ returns c = IfOk-weaker c.links_found.result _ _ (λ links found.
     let n = c.seconds_chosen-seconds.result in
     let placed = c.args.dating.now.placed.items in
     let span = c.args.dating.now.span in
-    let own : ClockDating = clock_dating given station n (middle_of span.from span.until) in (
+    let own : ClockDating = clock_dating given station n (midway span.from span.until) in (
       placed,
       subst (λ (xs : List StationCapture). ArePlaced given xs placed) c.requires.captures c.requires.placed,
       (
