@@ -1,19 +1,17 @@
 -- A cell of which both files show the same, after phases that do not differ by rolls: nothing is told of it.
 use Rattle.std.proofs.Common.{◌≡◌, ℕ, Bool, true, false, not, ◌&&◌, cond, Option, Some, None, List, [], ◌∷◌, ◌++◌, ℤ, pos, neg_ℤ, refl, sym, ap, ◌∙◌, arith}
-use Rattle.std.specs.Prelude.{◌-ℤ◌, unsigned_abs, int_lt, is_some, is_none}
+use Rattle.std.specs.Prelude.{◌-ℤ◌, unsigned_abs, int_lt}
 use Rattle.std.specs.Ordering.{int_eq}
 use Rattle.std.proofs.lemmas.Int.{ints}
 use Rattle.std.proofs.lemmas.Bool.Decides.{Decides-int_eq}
 use Rattle.rtk_rinex.specs.declared.epoch_table.Observed.{Observed}
-use Rattle.rtk_compare.specs.declared.difference.Class.{Class}
-use Rattle.rtk_compare.specs.declared.difference.What.{What}
 use Rattle.rtk_compare.specs.declared.difference.Place.{Place}
 use Rattle.rtk_compare.specs.declared.difference.Difference.{Difference}
 use Rattle.rtk_compare.specs.declared.distances.Distances.{Distances}
 use Rattle.rtk_compare.specs.Pairs.{Pair}
 use Rattle.rtk_compare.specs.Phases.{nearest_rolls, beside_rolls, rolls_from, rolls_of_phases, rolls_of, rolls_or_none, rolls_kept, begins_anew, rolls_held}
 use Rattle.rtk_compare.specs.Distances.{apart, strength_value, are_due, are_some, distances_of}
-use Rattle.rtk_compare.specs.Cells.{told_if, is_gone, is_other_number, gone_lines, value_lines, have_phases, slip_lines, half_lines, shift_lines, cell_lines}
+use Rattle.rtk_compare.specs.Cells.{is_gone, is_other_number, gone_lines, value_lines, have_phases, slip_lines, half_lines, shift_lines, cell_lines}
 use Rattle.rtk_compare.specs.Steps.Tracks.{pair, lines_if_told}
 
 none-apart : (a : ℤ) → unsigned_abs (a -ℤ a) ≡ 0

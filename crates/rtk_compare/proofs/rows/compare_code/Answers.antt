@@ -1,4 +1,4 @@
-use Rattle.std.proofs.Common.{◌≡◌, ◌∙◌, refl, sym, ap, ◌∷◌, Option}
+use Rattle.std.proofs.Common.{◌∙◌, refl, sym, ap, ◌∷◌, Option}
 use Rattle.rtk_rinex.specs.declared.epoch_table.Observed.{Observed}
 use Rattle.rtk_compare.specs.declared.difference.Place.{Place}
 use Rattle.rtk_compare.specs.Phases.{rolls_held}
