@@ -343,7 +343,7 @@ class Found(NamedTuple):
     few: list[str]  # codes with few phases
     stray: tuple[int, list[int]] | None  # an epoch more than a day after all others, and the captures that have it
     is_long: bool  # GLONASS is asked for, and 1012 with a value are not dated right near any moment
-    unnamed: list[int]  # captures without an epoch that name no date, and have messages of GLONASS or BeiDou that are converted
+    unnamed: list[int]  # captures without an epoch that name no date, and have clocks that are converted and no word dates
     falling: list[int]  # captures in which a clock of these falls, and no epoch
     days: dict[int, Told]  # by capture what names the day of its 1012, if the capture has no epoch and no date of the station
 
@@ -546,13 +546,14 @@ def find(texts: list[bytes], now: int, wanted: Wanted = Wanted()) -> Found:
     letters = {*chosen.letters, *[DAY] * chosen.with_1012}
     taken = [{it: its for it, its in of.items() if it in letters} for of in clocks]
     leaves_1012 = middle is None and GLONASS.letter in wanted.letters and any(has_value_of_1012(it) for it in messages)
-    undated = [own is None and not of and bool(it or leaves_1012 and DAY in clock) for own, of, it, clock in zip(owns, epochs, taken, clocks)]
     has_day = [DAY in clock and (chosen.with_1012 or leaves_1012) for clock in clocks]
+    by_words = wanted.near is not None  # which tells the week, and so not the day of 1012
+    undated = [own is None and not of and (has or bool(it) and not by_words) for own, of, it, has in zip(owns, epochs, taken, has_day)]
     days = {at: it for at, it, has in zip(places, owns, has_day) if has and it is not None and it.fields.get("station") != number}
     return Found(
         number, chosen, near, None if by is None else by.fields, [[places[at] for at in link] for link in links], epochs,
         [places[at] for at, of in enumerate(epochs) if not of], skipped, few_phases(captures, number, wanted.station, chosen), stray_of(epochs, places),
-        leaves_1012, [at for at, is_undated in zip(places, undated) if is_undated and wanted.near is None],
+        leaves_1012, [at for at, is_undated in zip(places, undated) if is_undated],
         [at for at, of, it in zip(places, epochs, taken) if any(its.falls for its in it.values()) and of == sorted(of)], days,
     )
 

@@ -459,6 +459,9 @@ python3 "$here/framed.py" $R12_LATER 3F5002E5F965F40048 >of_other.rtcm
 # pins: day_line
 for capture in of_1012 of_other; do run auto --made $made --marker BASE of_gps.rtcm $capture.rtcm; grep '^ day-of-1012' err; done >told
 echo ' day-of-1012 2020-01-25T14:30:00 by 1013 of station 2 in of_other.rtcm' >want; same auto_day_of_1012 told want
+# No word tells the day of 1012: --near tells the week.
+python3 "$here/framed.py" $R12_LATER >of_none.rtcm; run auto --near 2020-01-25T00:00:00 --made $made --marker BASE of_gps.rtcm of_none.rtcm
+grep '^ undated' err >told; echo ' undated of_none.rtcm: dated near the others' >want; same auto_1012_of_no_day told want
 # `summary` says the word where the times lie near the date of a 1013: of the same day, and not of half a day later.
 next_of() { python3 "$here/framed.py" "$@" >dated.rtcm; run summary dated.rtcm; sed -n 's/^ next .* --codes //p' out >told; }
 # pins: is_time_near, words_with_1012

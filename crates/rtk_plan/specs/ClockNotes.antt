@@ -21,10 +21,13 @@ abbrev pub clock_falls : Option ClockSpan → Bool
 clock_falls None = false
 clock_falls (Some k) = k.falls
 
--- a clock that is converted has messages with values
-abbrev pub has_taken_clock : TakenClocks → StationClocks → Bool
-has_taken_clock taken s =
-    (taken.glonass && is_some s.glonass) || ((taken.glonass_day && is_some s.glonass_day) || (taken.beidou && is_some s.beidou))
+-- a clock that is converted and tells the time of week has messages with values
+abbrev pub has_week_clock : TakenClocks → StationClocks → Bool
+has_week_clock taken s = (taken.glonass && is_some s.glonass) || (taken.beidou && is_some s.beidou)
+
+-- there are 1012 with values, and 1012 are converted, or left out since they can't be dated
+abbrev pub has_day_clock : TakenClocks → Bool → StationClocks → Bool
+has_day_clock taken leaves_1012 s = (taken.glonass_day || leaves_1012) && is_some s.glonass_day
 
 -- such a clock tells an earlier time after a later one
 abbrev pub taken_clock_falls : TakenClocks → StationClocks → Bool
@@ -38,18 +41,18 @@ is_by_words (OtherStation number station) = false
 is_by_words Ephemerides = false
 is_by_words (OtherEphemerides number) = false
 
--- a capture without an epoch tells no date, and words date none
-abbrev pub tells_no_date : DateSource → StationCapture → Bool
-tells_no_date source c = not (is_by_words source) && (is_none c.span && is_none c.moment)
+-- a capture without an epoch tells no date
+abbrev pub tells_no_date : StationCapture → Bool
+tells_no_date c = is_none c.span && is_none c.moment
 
--- a clock that is converted has messages with values, or one of 1012 that are left out since they can't be dated
-abbrev pub has_noted_clock : TakenClocks → Bool → StationClocks → Bool
-has_noted_clock taken leaves_1012 s = has_taken_clock taken s || (leaves_1012 && is_some s.glonass_day)
+-- clocks that no word dates: words tell the week, and so not the day of 1012
+abbrev pub has_noted_clock : DateSource → TakenClocks → Bool → StationClocks → Bool
+has_noted_clock source taken leaves_1012 s = has_day_clock taken leaves_1012 s || (not (is_by_words source) && has_week_clock taken s)
 
 -- such a capture has such clocks
 abbrev pub undated_clock_line : DateSource → TakenClocks → Bool → StationCapture → StationClocks → List ℕ → List ℕ
 undated_clock_line source taken leaves_1012 c s name =
-    if tells_no_date source c && has_noted_clock taken leaves_1012 s then undated_line name else []
+    if tells_no_date c && has_noted_clock source taken leaves_1012 s then undated_line name else []
 
 abbrev pub epochs_fall : Option Span → Bool
 epochs_fall None = false
@@ -70,11 +73,11 @@ abbrev pub day_line_if_any : Option Told → List ℕ → List ℕ
 day_line_if_any None name = []
 day_line_if_any (Some t) name = day_line t name
 
--- a capture without an epoch names a moment, but no 1013 or 1029 of the station does, and it has a 1012 with a value, and
--- 1012 are converted, or left out since they can't be dated. An ephemeris names the time that it is of, which may be hours off
+-- a capture without an epoch has 1012 and names a moment, but no 1013 or 1029 of the station does: an ephemeris names the time
+-- that it is of, which may be hours off
 abbrev pub day_line_of : TakenClocks → Bool → StationCapture → StationClocks → List ℕ → List ℕ
 day_line_of taken leaves_1012 c s name =
-    if (taken.glonass_day || leaves_1012) && (is_some s.glonass_day && not c.is_own_moment) then day_line_if_any c.moment name else []
+    if has_day_clock taken leaves_1012 s && not c.is_own_moment then day_line_if_any c.moment name else []
 
 -- all lines of a capture
 unfoldable pub clock_notes : DateSource → TakenClocks → Bool → StationCapture → StationClocks → List ℕ → List ℕ

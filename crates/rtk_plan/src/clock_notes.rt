@@ -25,13 +25,18 @@ fn clock_falls(known: &Option<ClockSpan>) -> bool
     }
 }
 
-// Has a clock that is converted messages with values?
-fn has_taken_clock(taken: TakenClocks, clocks: &StationClocks) -> bool
-    ensures { result ≡ spec.has_taken_clock taken clocks.now }
+// Has a clock that is converted and tells the time of week messages with values?
+fn has_week_clock(taken: TakenClocks, clocks: &StationClocks) -> bool
+    ensures { result ≡ spec.has_week_clock taken clocks.now }
 {
-    (taken.glonass && clocks.glonass.is_some())
-        || ((taken.glonass_day && clocks.glonass_day.is_some())
-            || (taken.beidou && clocks.beidou.is_some()))
+    (taken.glonass && clocks.glonass.is_some()) || (taken.beidou && clocks.beidou.is_some())
+}
+
+// Are there 1012 with values, which are converted, or left out since they can't be dated?
+fn has_day_clock(taken: TakenClocks, leaves_1012: bool, clocks: &StationClocks) -> bool
+    ensures { result ≡ spec.has_day_clock taken leaves_1012 clocks.now }
+{
+    (taken.glonass_day || leaves_1012) && clocks.glonass_day.is_some()
 }
 
 // Does such a clock tell an earlier time after a later one?
@@ -55,11 +60,11 @@ fn is_by_words(source: DateSource) -> bool
     }
 }
 
-// Tells a capture without an epoch no date, and do words date none?
-fn tells_no_date(source: DateSource, capture: &StationCapture) -> bool
-    ensures { result ≡ spec.tells_no_date source capture.now }
+// Tells a capture without an epoch no date?
+fn tells_no_date(capture: &StationCapture) -> bool
+    ensures { result ≡ spec.tells_no_date capture.now }
 {
-    !is_by_words(source) && (capture.span.is_none() && capture.moment.is_none())
+    capture.span.is_none() && capture.moment.is_none()
 }
 
 fn epochs_fall(epochs: &Option<Span>) -> bool
@@ -71,11 +76,17 @@ fn epochs_fall(epochs: &Option<Span>) -> bool
     }
 }
 
-// Has such a clock messages with values, or one of 1012 that are left out since they can't be dated?
-fn has_noted_clock(taken: TakenClocks, leaves_1012: bool, clocks: &StationClocks) -> bool
-    ensures { result ≡ spec.has_noted_clock taken leaves_1012 clocks.now }
+// Are there clocks that no word dates? Words tell the week, and so not the day of 1012.
+fn has_noted_clock(
+    source: DateSource,
+    taken: TakenClocks,
+    leaves_1012: bool,
+    clocks: &StationClocks,
+) -> bool
+    ensures { result ≡ spec.has_noted_clock source taken leaves_1012 clocks.now }
 {
-    has_taken_clock(taken, clocks) || (leaves_1012 && clocks.glonass_day.is_some())
+    has_day_clock(taken, leaves_1012, clocks)
+        || (!is_by_words(source) && has_week_clock(taken, clocks))
 }
 
 // Appends the line of such a capture, if it has such clocks.
@@ -91,7 +102,7 @@ fn put_undated_clock(
     ensures { OnOk result (lines.new.items ≡ lines.old.items
         ++ spec.undated_clock_line source taken leaves_1012 capture.now clocks.now name.now) }
 {
-    if tells_no_date(source, capture) && has_noted_clock(taken, leaves_1012, clocks) {
+    if tells_no_date(capture) && has_noted_clock(source, taken, leaves_1012, clocks) {
         put_undated_line(lines, name)
     } else {
         Ok(())
@@ -147,9 +158,7 @@ fn put_day_of(
     ensures { OnOk result (lines.new.items ≡ lines.old.items
         ++ spec.day_line_of taken leaves_1012 capture.now clocks.now name.now) }
 {
-    if (taken.glonass_day || leaves_1012)
-        && (clocks.glonass_day.is_some() && !capture.is_own_moment)
-    {
+    if has_day_clock(taken, leaves_1012, clocks) && !capture.is_own_moment {
         put_day_if_any(lines, &capture.moment, name)
     } else {
         Ok(())
