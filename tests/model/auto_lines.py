@@ -9,9 +9,8 @@ from itertools import groupby
 from typing import Iterable, NamedTuple
 
 import finding
-import stages
 from captures import LAST_MADE
-from choosing import NOT_TOLD, Wanted
+from choosing import DATING, NOT_TOLD, Wanted
 from clocks import leap_seconds_at
 from finding import Found, Stopped
 from lost import nameless_lines, position_lines, refused_lines
@@ -102,7 +101,7 @@ def refusal_pattern(stopped: Stopped, asked: Asked, texts: list[bytes]) -> str:
 
 def stations_text(stations: tuple[object, ...], captures: list[finding.Capture]) -> str:
     """A line for each of these stations and each capture with observations of it, with how many epochs its messages have."""
-    times = {(it, at): [of.header["tow"] for of in capture.of_station(it) if (letter_of(of) or "-") in stages.DATING]
+    times = {(it, at): [of.header["tow"] for of in capture.of_station(it) if (letter_of(of) or "-") in DATING]
              for it in stations for at, capture in enumerate(captures, 1) if it in capture.observing()}
     return "".join(f" station {it} in {name_of(at - 1)}: {len(list(groupby(of)))} epochs\n" for (it, at), of in times.items())
 
@@ -170,7 +169,7 @@ def auto_text(found: Found, asked: Asked, due: Conversion, texts: list[bytes]) -
     lines += date_lines(found, asked, texts)
     lines += found.chosen.clocks
     lines += [f" unchecked {letter}" for letter in found.chosen.unchecked]
-    lines += leap_lines(found, asked, texts) if stages.SETS_LEAP_SECONDS else []
+    lines += leap_lines(found, asked, texts)
     lines += [f" few-phases {code}: its satellites have more than twice as many in another code" for code in found.few]
     lines += slot_lines(found)
     lines += late_lines(found, asked, due)
@@ -250,6 +249,7 @@ def date_lines(found: Found, asked: Asked, texts: list[bytes]) -> list[str]:
     for at in range(len(texts)):
         lines += [f" undated {name_of(at)}: dated near the others"] * (at in found.unnamed)
         lines += [f" time-falls {name_of(at)}"] * (at in found.falling)
+        lines += [f" day-of-1012{date_text(it.fields, it.first, name_of(at))}" for of, it in found.days.items() if of == at]
     firsts = [epochs[0] if epochs else found.near for epochs in found.epochs]
     for at, first in zip(kept, firsts):
         lines += [f" other-date{date_text(it.fields, it.first, name_of(at))}" for it in told[at] + passed[at] if it.first != first]
@@ -321,7 +321,7 @@ def left_out_lines(found: Found, texts: list[bytes], has_doppler: bool) -> list[
     read = [read_message(it.payload, MSMS) for text in texts for it in frames_of(text)]
     own = [it for it in read if isinstance(it, Message) and it.header["station"] == found.station]
     others = Counter(it.number for it in read if isinstance(it, Refusal) and it.fault == "M2")
-    gps = {LEGACY, *MSMS} if stages.TELLS_1004 else {*MSMS}
+    gps = {LEGACY, *MSMS}
     others.update(it.header["number"] for it in own if it.header["number"] in gps)
     others.update(it.number for it in read if isinstance(it, Refusal) and it.number in MSMS)  # they tell no station
     told = {*gps, *UNTAKEN, *range(1009, 1013), *(it for it in range(1081, 1138) if 1 <= it % 10 <= 7)}
@@ -329,11 +329,10 @@ def left_out_lines(found: Found, texts: list[bytes], has_doppler: bool) -> list[
     of_gps = [it for it in numbers if it in gps]
     lines = [f" not in the file: GPS {it}, {others[it]} messages" for it in of_gps]
     lines += [] if has_doppler else doppler_lines(found, texts)
-    sbas = 0 if stages.CONVERTS_SBAS and SBAS.letter in chosen.kinds else sum(has_sbas(it) for it in own)
+    sbas = 0 if SBAS.letter in chosen.kinds else sum(has_sbas(it) for it in own)
     lines += [f" not in the file: SBAS of 1004, {sbas} messages"] * (sbas > 0)
-    is_long = stages.TAKES_1012 and found.is_long
     return lines + [
-        f" untaken GLONASS {it} {others[it]}: more than a day" if it == LEGACY_GLONASS and is_long
+        f" untaken GLONASS {it} {others[it]}: more than a day" if it == LEGACY_GLONASS and found.is_long
         else f" not in the file: {system_text(it)} {it}, {others[it]} messages"
         for it in numbers
         if it not in of_gps
@@ -369,9 +368,8 @@ def slot_lines(found: Found) -> list[str]:
     slots, lines = found.chosen.slots, []
     if slots is None:
         return []
-    if stages.TELLS_CHANNELS:
-        lines += [f" channels-alike {channel} {slot_names(its)}" for channel, its in sorted(slots.alike.items())]
-        lines += [f" several-channels R{slot:02} {' '.join(map(str, its))}" for slot, its in sorted(slots.several.items())]
+    lines += [f" channels-alike {channel} {slot_names(its)}" for channel, its in sorted(slots.alike.items())]
+    lines += [f" several-channels R{slot:02} {' '.join(map(str, its))}" for slot, its in sorted(slots.several.items())]
     header = "as a header's GLONASS SLOT / FRQ # of the same days has them"
     lines += [f" no-channel {slot_names(slots.without)}: give --channels, {header}"] * bool(slots.without)
     return lines + [f" other-channel R{slot:02} {slots.channels[slot]}: messages tell {' '.join(map(str, its))}"

@@ -59,6 +59,14 @@ def is_told_a_channel_that_no_file_has(found: Found) -> bool:
     return slots is not None and any(its[-1] > LAST_CHANNEL for its in slots.several.values())
 
 
+def is_told_channels_alike(found: Found) -> bool:
+    return found.chosen.slots is not None and found.chosen.slots.alike != {}
+
+
+def is_told_another_channel_than_is_given(found: Found) -> bool:
+    return found.chosen.slots is not None and found.chosen.slots.others != {}
+
+
 def is_given_leap_seconds(found: Found) -> bool:
     return found.chosen.leap is not None
 
@@ -66,7 +74,8 @@ def is_given_leap_seconds(found: Found) -> bool:
 MARKS = (
     has_three_systems, leaves_a_wrong_clock_out, keeps_a_clock_that_is_off, tells_a_clock_of_glonass, takes_kinds_that_differ,
     takes_several_links_of_several_systems, takes_channels, takes_a_channel_of_1020, lacks_some_channels, has_no_channel,
-    is_told_several_channels_of_a_slot, is_told_a_channel_that_no_file_has, is_given_leap_seconds,
+    is_told_several_channels_of_a_slot, is_told_a_channel_that_no_file_has, is_told_channels_alike, is_told_another_channel_than_is_given,
+    is_given_leap_seconds,
 )  # fmt: skip
 
 

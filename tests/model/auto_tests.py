@@ -9,7 +9,6 @@ import sys
 from collections import Counter
 from typing import Iterable
 
-import stages
 import worked_rows as rows
 from auto_lines import Asked, auto_text
 from chains import Date, is_wrong, offset_lines, offsets_of, told_offset
@@ -117,12 +116,11 @@ def leap_seconds_by_clocks() -> None:
     chosen = chosen_in(text, leap=17)
     same("given", (chosen.leap, chosen.clocks, chosen.letters), (17, [], "GR"))
     same("given and wrong", chosen_in(text, leap=18).wrong, "R")
-    if stages.SETS_LEAP_SECONDS:
-        same("found", (chosen_in(text).leap, chosen_in(text).clocks), (17, []))
-        same("behind", chosen_in(epoch(NOON, (GPS, 0), (GLONASS, -1000))).leap, 19)
-        mixed = [epoch(NOON, *ahead), epoch(NOON + 5000, (GPS, 0), (GLONASS, 2000))]
-        same("captures that differ", chosen_in(*mixed).leap, None)
-        same("no whole second", chosen_in(epoch(NOON, (GPS, 0), (GLONASS, 1001))).wrong, "R")
+    same("found", (chosen_in(text).leap, chosen_in(text).clocks), (17, []))
+    same("behind", chosen_in(epoch(NOON, (GPS, 0), (GLONASS, -1000))).leap, 19)
+    mixed = [epoch(NOON, *ahead), epoch(NOON + 5000, (GPS, 0), (GLONASS, 2000))]
+    same("captures that differ", chosen_in(*mixed).leap, None)
+    same("no whole second", chosen_in(epoch(NOON, (GPS, 0), (GLONASS, 1001))).wrong, "R")
 
 
 @test
@@ -165,25 +163,24 @@ def kinds_by_epochs() -> None:
 def channels_of_slots() -> None:
     told = {1: Counter({3: 2, -7: 2, 6: 1}), 2: Counter({1: 3}), 5: Counter({6: 1})}
     orbits = {2: Counter({2: 9}), 3: Counter({-1: 1, -4: 1}), 9: Counter({0: 1})}
-    got = slots_of((4, 3, 2, 1, 1), told, orbits, None, True)
+    got = slots_of((4, 3, 2, 1, 1), told, orbits, None)
     same("channels", (got.channels, got.by_orbits, got.without), ({1: -7, 2: 1, 3: -4}, [3], [4]))
     same("several", got.several, {1: [-7, 3, 6], 3: [-4, -1]})
-    got = slots_of((1, 4), told, orbits, {4: 6, 7: 1}, True)
-    due = ({4: 6, 7: 1, 1: -7}, []) if stages.JOINS_CHANNELS else ({4: 6, 7: 1}, [1])
-    same("given", (got.channels, got.without), due)
+    got = slots_of((1, 4), told, orbits, {4: 6, 7: 1})
+    same("given", (got.channels, got.without), ({4: 6, 7: 1, 1: -7}, []))
     alike = {slot: Counter({-7: 1}) for slot in (1, 2, 3, 25)}
-    got = slots_of((1, 2, 3, 25), alike, orbits, None, True)
+    got = slots_of((1, 2, 3, 25), alike, orbits, None)
     same("alike", (got.alike, got.channels), ({-7: [1, 2, 3]}, {1: -7, 2: 2, 3: -4, 25: -7}))
     same("alike and of 1020", (got.several, got.others), ({2: [-7, 2], 3: [-7, -4, -1]}, {}))
-    got = slots_of((1, 5, 9), told, orbits, {1: 0, 5: 0, 9: 4}, True)
+    got = slots_of((1, 5, 9), told, orbits, {1: 0, 5: 0, 9: 4})
     same("given otherwise", (got.several, got.others), ({1: [-7, 3, 6]}, {1: [-7, 3, 6], 5: [6]}))
     above = {8: Counter({10: 2})}
-    got = slots_of((8,), above, {8: Counter({3: 1})}, None, True)
+    got = slots_of((8,), above, {8: Counter({3: 1})}, None)
     same("above +6", (got.channels, got.several, got.others), ({8: 3}, {8: [3, 10]}, {}))
-    got = slots_of((8,), above, {}, None, True)
+    got = slots_of((8,), above, {}, None)
     same("above +6 alone", (got.without, got.several), ([8], {}))
-    same("above +6 and given", slots_of((8,), above, {}, {8: 3}, True).others, {8: [10]})
-    same("two alike", slots_of((1, 2, 25), alike, orbits, None, True).alike, {})
+    same("above +6 and given", slots_of((8,), above, {}, {8: 3}).others, {8: [10]})
+    same("two alike", slots_of((1, 2, 25), alike, orbits, None).alike, {})
     same("a 1020", orbit_of(bytes.fromhex("3FC050") + bytes(42)), (1, 1))
     same("a 1020 of +13", orbit_of(bytes.fromhex("3FC068") + bytes(42)), (1, 13))
     same("a 1020 of none", orbit_of(bytes.fromhex("3FC06A") + bytes(42)), None)
@@ -199,6 +196,7 @@ def channels_in_the_command() -> None:
     orbit = frame_of(bytes.fromhex("3FC288") + bytes(42))  # slot 10
     slots = chosen_in(unknown).slots
     same("none", (slots.channels, slots.without), ({}, [10]))
+    same("a code that is not listed", chosen_in(unknown, names=("1C", "R2P")).slots.without, [10])
     same("a 1020", chosen_in(unknown + orbit).slots.channels, {10: -3})
     same("no code of it", chosen_in(unknown, systems="G").slots, None)
 

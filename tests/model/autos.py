@@ -6,7 +6,6 @@ import re
 from random import Random
 
 import finding
-import stages
 from auto_lines import Asked, auto_text, name_of, refusal_pattern
 from captures import LAST_MADE
 from choosing import Wanted
@@ -42,9 +41,10 @@ def some_wanted(rng: Random, setup: Setup | Options) -> Wanted:
     wanted = Wanted(
         rng.choice((None, setup.station)), rng.choice((None, None, None, setup.near)), rng.random() < 0.2, rng.random() < 0.4
     )  # fmt: skip
+    count = rng.choice((0, 0, 1, 2))
     if isinstance(setup, Options):
         station, near = rng.choice((None, *[setup.station] * 3)), rng.choice((None, setup.near))
-        wanted = wanted._replace(station=station, near=near)
+        wanted, count = wanted._replace(station=station, near=near), rng.randint(0, 3)
     given = {
         "--systems": {"systems": "".join(some_letters(rng, LETTERS))},
         "--codes": {"names": names_of(rng, some_letters(rng, LETTERS))},
@@ -53,8 +53,8 @@ def some_wanted(rng: Random, setup: Setup | Options) -> Wanted:
         "--leap-seconds": {"leap": rng.choice((17, 18, rng.randrange(100)))},
         "--doppler": {"doppler": True},
     }
-    for word in rng.sample(sorted(given), rng.choice((0, 0, 1, 2))):
-        if word in stages.WORDS and not (word == "--codes" and wanted.systems or word == "--systems" and wanted.names):
+    for word in rng.sample(sorted(given), count):
+        if not (word == "--codes" and wanted.systems or word == "--systems" and wanted.names):
             wanted = wanted._replace(**given[word])
     return wanted
 

@@ -6,7 +6,6 @@ from __future__ import annotations
 from collections import Counter
 from typing import Iterable, NamedTuple, Optional
 
-import stages
 from clocks import DAY_MS, glonass_moment, leap_seconds_at
 from model import dated
 from msm import letter_of
@@ -141,9 +140,6 @@ def unchecked(messages: list[Message], letters: Iterable[str], offsets: Offsets)
 
 def clock_lines(messages: list[Message], letters: list[str], near: int | None) -> list[str]:
     """The lines of a summary, of these systems, which have values; the station's first date is this moment."""
-    if not stages.SUMMARIZES_GLONASS:
-        offsets = offsets_of(messages)
-        return [line for letter in WITH_LINE for line in offset_lines(letter, offsets[letter])]
     offsets = offsets_of(messages, None if near is None else Date(near, own=False))
     lines = [line for letter in f"R{WITH_LINE}" for line in offset_lines(letter, offsets[letter])]
     with_values = [it for it in messages if letter_of(it) in letters]

@@ -5,7 +5,6 @@ from __future__ import annotations
 from collections import Counter
 from typing import Iterable, NamedTuple, Optional
 
-import stages
 from messages import set_bits
 from msm import LEGACY_GLONASS, letter_of
 from systems import GLONASS
@@ -88,17 +87,16 @@ def alike_of(told: dict[int, Optional[int]]) -> dict[int, list[int]]:
     return {channel: its for channel, its in slots.items() if len(its) > MOST_ALIKE}
 
 
-def slots_of(shown: Iterable[int], by_rows: Told, by_orbits: Told, given: Optional[dict[int, int]], doubts: bool) -> Slots:
+def slots_of(shown: Iterable[int], by_rows: Told, by_orbits: Told, given: Optional[dict[int, int]]) -> Slots:
     """What is found of the slots that have a cell: a given channel, else that of most entries of observations, else that of most 1020.
-    Of slots that are alike by observations a 1020 goes before these, if such are doubted."""
+    Of slots that are alike by observations a 1020 goes before these."""
     shown = sorted(set(shown))
     nothing: Counter[int] = Counter()
     own = {slot: most_told(by_rows.get(slot, nothing)) for slot in shown}
     alike = alike_of(own)
-    doubted = {slot for its in alike.values() for slot in its if doubts}
+    doubted = {slot for its in alike.values() for slot in its}
     channels, from_orbits = dict(given or {}), []
-    open_slots = shown if given is None or stages.JOINS_CHANNELS else []
-    for slot in (it for it in open_slots if it not in channels):
+    for slot in (it for it in shown if it not in channels):
         channel = own[slot]
         of_orbit = most_told(by_orbits.get(slot, nothing))
         is_by_orbit = of_orbit is not None and (channel is None or slot in doubted)
@@ -108,7 +106,7 @@ def slots_of(shown: Iterable[int], by_rows: Told, by_orbits: Told, given: Option
             channels[slot] = found
     listed = {slot: {*by_rows.get(slot, nothing)} for slot in shown}
     for slot in shown:
-        listed[slot] |= {*by_orbits.get(slot, nothing)} if doubts and (own[slot] is None or slot in doubted) else set()
+        listed[slot] |= {*by_orbits.get(slot, nothing)} if own[slot] is None or slot in doubted else set()
     several = {slot: sorted(its) for slot, its in listed.items() if len(its) > 1}
     others = {slot: sorted(by_rows[slot]) for slot, its in listed.items() if slot in by_rows and channels.get(slot, min(its)) not in its}
     return Slots(channels, from_orbits, [slot for slot in shown if slot not in channels], several, alike, others)

@@ -6,7 +6,6 @@ from collections import Counter
 from itertools import groupby
 from typing import Iterable, NamedTuple, Optional
 
-import stages
 from chains import Date, Offsets, is_wrong, offset_lines, offsets_of, signed, told_offset, unchecked
 from channels import Slots, slots_of, told_by, told_by_orbits
 from clocks import DAY_MS, LEAP_ROWS, glonass_parts, leap_seconds_at
@@ -18,6 +17,7 @@ from wire import WEEK_MS, Message
 DEFAULT_KIND = 4
 MOST_LEAP_SECONDS = 99
 NOT_TOLD = 255  # leap seconds of a 1013
+DATING = "GEJSI"  # the systems whose observations can tell the station, the dates and the spans of captures
 
 
 class Wanted(NamedTuple):
@@ -42,13 +42,13 @@ class Wanted(NamedTuple):
         if self.names is not None:
             asked = {letter_of_name(it) for it in self.names}
         else:
-            asked = set(stages.TAKEN if self.systems is None else self.systems)
+            asked = set(LETTERS if self.systems is None else self.systems)
         return "".join(it for it in LETTERS if it in asked)
 
     @property
     def dating(self) -> str:
         """The systems whose observations tell the station, dates and spans: those that are asked for, or else all that can."""
-        return "".join(it for it in stages.DATING if it in self.letters) or stages.DATING
+        return "".join(it for it in DATING if it in self.letters) or DATING
 
 
 class Sent(NamedTuple):
@@ -91,7 +91,7 @@ class Chosen(NamedTuple):
 
 def numbers_of(kinds: dict[str, int], with_1012: bool) -> set[int]:
     """The numbers of the observations that are taken with these kinds."""
-    of_legacy = GPS.letter in kinds or (stages.CONVERTS_SBAS and SBAS.letter in kinds)
+    of_legacy = GPS.letter in kinds or SBAS.letter in kinds
     legacy = [LEGACY] * of_legacy + [LEGACY_GLONASS] * (with_1012 and GLONASS.letter in kinds)
     return {*legacy, *(number_of(BY_LETTER[it], kind) for it, kind in kinds.items())}
 
@@ -153,7 +153,7 @@ def right_leap_seconds(captures: list[Sent], first: int, last: int, date: Date) 
 
 def leap_of(captures: list[Sent], span: tuple[int, int], near: int, wanted: Wanted) -> int | None:
     """The leap seconds that are given, or those by which GLONASS is right; nothing if the table has them."""
-    if wanted.leap is not None or not stages.SETS_LEAP_SECONDS or GLONASS.letter not in wanted.letters:
+    if wanted.leap is not None or GLONASS.letter not in wanted.letters:
         return wanted.leap
     date = Date(near)
     is_off = is_wrong(total_offsets(captures, date)[GLONASS.letter])
@@ -163,12 +163,11 @@ def leap_of(captures: list[Sent], span: tuple[int, int], near: int, wanted: Want
 # ---------------------------------------------------------------- all of it
 
 
-def slots_shown(messages: Iterable[Message], numbers: set[int], names: Iterable[str]) -> list[int]:
-    """The slots of GLONASS with a value of a listed code, or of any one."""
-    names = names if stages.LISTED_SLOTS else NAMES
-    codes = {name[1:] for name in names if letter_of_name(name) == GLONASS.letter}
+def slots_shown(messages: Iterable[Message], numbers: set[int]) -> list[int]:
+    """The slots of GLONASS with a value, also of a code that is not listed: `convert` reports the slots of its messages without
+    looking at their codes."""
     taken = [it for it in messages if it.header["number"] in numbers and letter_of(it) == GLONASS.letter]
-    return [int(satellite[1:]) for it in taken for satellite, code in shown_in(it) if code in codes]
+    return [int(satellite[1:]) for it in taken for satellite, _ in shown_in(it)]
 
 
 # pins: flag_of, in_both, flags_listed, dating_among
@@ -201,7 +200,7 @@ def choose(captures: list[Sent], links: list[list[int]], orbits: list[tuple[int,
     names = names_chosen(messages, numbers_of(kinds, with_1012), letters, wanted)
     kinds = {it: kind for it, kind in kinds.items() if it in map(letter_of_name, names)}
     lines = [line for it in compared for line in offset_lines(it, offsets[it])]
-    alone = unchecked(messages, kinds, offsets) if stages.TELLS_UNCHECKED else []
+    alone = unchecked(messages, kinds, offsets)
     chosen = Chosen(names, kinds, None, leap, lines, wrong, "".join(alone), False)
     if GLONASS.letter not in kinds:
         return chosen
@@ -216,5 +215,5 @@ def has_value_of_1012(message: Message) -> bool:
 # pins: is_slot_in, IsToldChannel, channel_fields
 def slots_chosen(messages: list[Message], orbits: list[tuple[int, int]], chosen: Chosen, wanted: Wanted) -> Slots:
     """The channels of GLONASS."""
-    shown = slots_shown(messages, chosen.numbers, chosen.names)
-    return slots_of(shown, told_by(messages), told_by_orbits(orbits), wanted.channels, stages.TELLS_CHANNELS)
+    shown = slots_shown(messages, chosen.numbers)
+    return slots_of(shown, told_by(messages), told_by_orbits(orbits), wanted.channels)

@@ -16,7 +16,6 @@ from math import dist
 from pathlib import Path
 from typing import NamedTuple
 
-import stages
 from channels import orbit_of
 from choosing import Allowed, Chosen, Sent, Wanted, choose, has_value_of_1012, leap_of
 from clock_spans import CLOCKS, DAY, Going, Marked, going, placed
@@ -79,7 +78,7 @@ def date_of(payload: bytes) -> Fields | None:
                 bits.take(8)
         elif number == 1019:
             fields = bits.take_row(EPHEMERIS)
-        elif number in OTHER_EPHEMERIDES and stages.DATES_BY_SYSTEMS:
+        elif number in OTHER_EPHEMERIDES:
             fields = bits.take_row(OTHER_EPHEMERIDES[number][0])
         else:
             return None
@@ -301,13 +300,14 @@ def second_begins(capture: Capture, told: list[Told], station: int) -> int | Non
     return capture.places[min(second, max(breaks, default=(0, second))[1])]
 
 
-def passed_over(told: list[Told], station: int) -> tuple[list[Told], list[Told]]:
-    """Those by 1019, if the station tells its own date, which counts, or if another system tells an earlier week; and those of
-    other stations, if the station or a 1019 tells one."""
+def passed_over(told: list[Told], station: int) -> tuple[list[Told], list[Told], list[Told]]:
+    """Those by 1019, if the station tells its own date, which counts, or if another system tells an earlier week; those of other
+    stations, if the station or a 1019 tells one; and those by 1042, 1045 and 1046, if others count."""
     own = [it for it in told if it.fields.get("station") == station]
     weeks = [it for it in told if "week" in it.fields]
     others = [it for it in told if "station" in it.fields and it not in own]
-    return weeks if own or is_rolled_over(told) else [], others if own or weeks else []
+    systems = systems_in(told)
+    return weeks if own or is_rolled_over(told) else [], others if own or weeks else [], [] if counting(told, station) == systems else systems
 
 
 def chain(first: int, times: list[int]) -> list[int]:
@@ -345,6 +345,7 @@ class Found(NamedTuple):
     is_long: bool  # GLONASS is asked for, and 1012 with a value are not dated right near any moment
     unnamed: list[int]  # captures without an epoch that name no date, and have messages of GLONASS or BeiDou that are converted
     falling: list[int]  # captures in which a clock of these falls, and no epoch
+    days: dict[int, Told]  # by capture what names the day of its 1012, if the capture has no epoch and no date of the station
 
 
 def station_of(captures: list[Capture], named: int | None) -> int:
@@ -529,7 +530,7 @@ def find(texts: list[bytes], now: int, wanted: Wanted = Wanted()) -> Found:
     alone = [[at for it, its in of.items() for at in placed(it, its, own, half, leap_now)] for of, own in zip(clocks, named)]
     links = links_of([of or other for of, other in zip(epochs, alone)], wanted.as_given)
     moments = [{it: placed(it, its, own, half, seconds) for it, its in of.items()} for of, own in zip(clocks, named)]
-    middle = near_with_1012(every, clocks, moments) if stages.TAKES_1012 else None
+    middle = near_with_1012(every, clocks, moments)
     orbits = [it for capture in everything for it in capture.orbits]
     allowed = Allowed(span, near, middle is not None)
     chosen = choose(sent, links, orbits, allowed, wanted)
@@ -546,11 +547,13 @@ def find(texts: list[bytes], now: int, wanted: Wanted = Wanted()) -> Found:
     taken = [{it: its for it, its in of.items() if it in letters} for of in clocks]
     leaves_1012 = middle is None and GLONASS.letter in wanted.letters and any(has_value_of_1012(it) for it in messages)
     undated = [own is None and not of and bool(it or leaves_1012 and DAY in clock) for own, of, it, clock in zip(owns, epochs, taken, clocks)]
+    has_day = [DAY in clock and (chosen.with_1012 or leaves_1012) for clock in clocks]
+    days = {at: it for at, it, has in zip(places, owns, has_day) if has and it is not None and it.fields.get("station") != number}
     return Found(
         number, chosen, near, None if by is None else by.fields, [[places[at] for at in link] for link in links], epochs,
         [places[at] for at, of in enumerate(epochs) if not of], skipped, few_phases(captures, number, wanted.station, chosen), stray_of(epochs, places),
         leaves_1012, [at for at, is_undated in zip(places, undated) if is_undated and wanted.near is None],
-        [at for at, of, it in zip(places, epochs, taken) if any(its.falls for its in it.values()) and of == sorted(of)],
+        [at for at, of, it in zip(places, epochs, taken) if any(its.falls for its in it.values()) and of == sorted(of)], days,
     )
 
 

@@ -8,7 +8,6 @@ from __future__ import annotations
 
 import sys
 
-import stages
 import worked_rows as rows
 from clocks import DAY_MS, UNKNOWN_DAY, clock_of, glonass_clock, glonass_parts
 from mixed_model import Options, convert_mixed
@@ -179,8 +178,6 @@ def slots_of_a_1012() -> None:
 
 @test
 def sbas_of_a_1004() -> None:
-    if not stages.CONVERTS_SBAS:
-        return
     entries = [{"satellite": 5, "l1_range": 5_000_000}, rows.OF_SBAS, {**rows.OF_SBAS, "l1_cnr": 4}]
     shown = [("S29", ["37175538.352", "195358771.586", "44.000"])]
     for codes, due in (("1C,S1C", shown), ("S1C", shown), ("1C", [])):

@@ -9,7 +9,6 @@ from dataclasses import replace
 from random import Random
 from typing import Callable, Iterable, Mapping, Sequence
 
-import stages
 from captures import CALM_WINDOW, LAST_MADE, LAST_NEAR, NEARS, STEPS, Capture, any_marker, any_times, any_window, dealt, with_noise
 from clocks import DAY_MS, LEAP_ROWS, clock_of, leap_seconds_at
 from mixed_model import Options
@@ -79,7 +78,7 @@ class Making:
             msm=msm or some_kinds(rng),
             channels=some_channels(rng, true) if "R" in letters else None,
             leap=rng.choice((None, None, None, *some_leaps(rng, near))) if "R" in letters else None,
-            with_1012=stages.CONVERTS_1012 and "R" in letters and rng.random() < 0.3,
+            with_1012="R" in letters and rng.random() < 0.3,
         )
         # Doppler is refused where a listed system has a kind without rates
         has_rates = all(self.options.kinds[it] in (5, 7) for it in self.options.codes)
@@ -303,7 +302,7 @@ def before_msm(rng: Random, turn: int, letters: str) -> Capture:
     chosen = some_letters(rng, letters, "G", "R", *rng.choice(((), ("S",))))
     window, is_calm = rng.choice((CALM_WINDOW, CALM_WINDOW, 4)), rng.random() < 0.6
     making = Making(rng, chosen, some_near(rng), window, is_calm, rng.choice((pick_any, pick_near_lock(1000))))
-    making.take(with_1012=stages.CONVERTS_1012 and "R" in chosen and rng.random() < 0.9)
+    making.take(with_1012="R" in chosen and rng.random() < 0.9)
     making.sender.satellites += rng.sample(range(40, 59), 2) * rng.choice((0, 1, 2)) + rng.sample(range(1, 33), 4)
     making.sender.most = rng.choice((3, 8, 31))
     making.sender.legacies = dict.fromkeys(making.sender.legacies, rng.choice((0.6, 1)))

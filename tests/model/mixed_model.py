@@ -9,7 +9,6 @@ from __future__ import annotations
 from dataclasses import dataclass
 from typing import Iterable, Mapping, Optional
 
-import stages
 from clocks import moment_of
 from messages import Cell, Refusal
 from mixed_cells import Channels, MixedCell, all_cells, cells_of_1004, cells_of_1012, has_sbas, marked_slots
@@ -86,7 +85,7 @@ class Taking:
         )
         self.letters = self.file.letters
         self.with_1012 = options.with_1012
-        self.with_sbas = stages.CONVERTS_SBAS and SBAS.letter in self.letters
+        self.with_sbas = SBAS.letter in self.letters
         numbers = [number_of(BY_LETTER[it], options.kinds[it]) for it in self.letters]
         self.numbers = frozenset(numbers + [LEGACY_GLONASS] * options.with_1012)
         self.read_before: dict[bytes, Message | Refusal] = {}  # links tell the same

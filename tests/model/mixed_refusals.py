@@ -15,7 +15,6 @@ from itertools import combinations
 from pathlib import Path
 from typing import NamedTuple, Optional, Union
 
-import stages
 from program import Ended, Program
 from systems import SYSTEMS
 
@@ -128,8 +127,6 @@ def needs() -> list[Fault]:
 
 def needs_of_1012() -> list[Fault]:
     """A 1012 is of GLONASS. It is looked for behind the channels, and before the links."""
-    if not stages.CONVERTS_1012:
-        return []
     without = {"with_1012": "", "codes": "1C,E1X", "channels": None}
     return [
         fault(NEEDS_R, **without),
@@ -189,7 +186,7 @@ ACCEPTED = (
     {"--msm": "7,E7"},
     {"--leap-seconds": "0"},
     {"--leap-seconds": "99"},
-    *({"--with-1012": ""} for _ in range(stages.CONVERTS_1012)),
+    {"--with-1012": ""},
     {"--doppler": "", "--msm": "7"},
     {"--doppler": "", "--msm": "4,G5,R7"},
     {"--doppler": "", "--msm": "5,E4", "--codes": "1C"},

@@ -2,7 +2,6 @@
 
 from __future__ import annotations
 
-import stages
 from clocks import DAY_MS, UNKNOWN_DAY, glonass_clock, is_clock
 from messages import Refusal, read_message
 from systems import GLONASS, GPS, TYPES, System
@@ -71,9 +70,7 @@ def read_frame(payload: bytes) -> Message | Refusal:
     read = read_message(payload, MSMS)
     if not isinstance(read, Refusal) or read.fault != "M2":
         return read
-    if stages.FINDS_1012:
-        return read_any(payload, BESIDE_GPS | {LEGACY_GLONASS}, True)
-    return read_any(payload, BESIDE_GPS)
+    return read_any(payload, BESIDE_GPS | {LEGACY_GLONASS}, True)
 
 
 def _read_msm(payload: bytes, number: int, takes_unknown_day: bool) -> Message | Refusal:

@@ -19,7 +19,6 @@ from random import Random
 from typing import Callable, Iterable, NamedTuple, Optional
 
 import qualities
-import stages
 from captures import Capture
 from checker import fault
 from damages import damaged_file
@@ -196,7 +195,7 @@ def with_dates(rng: Random, setup: Setup, text: bytes) -> bytes:
     for _ in range(rng.choice((0, 1, 1, 1, 1, 2, 3))):
         at = max(0, setup.near + rng.choice((0, 0, 0, rng.randint(-WEEK_MS, WEEK_MS)))) // 1000
         dates = [(1013, SYSTEM_PARAMETERS), (1029, TEXT), (1019, EPHEMERIS)]
-        if stages.DATES_BY_SYSTEMS and rng.random() < 0.3:
+        if rng.random() < 0.3:
             dates = [(it, fields) for it, (fields, *_) in OTHER_EPHEMERIDES.items()]
         number, table = rng.choice(dates)
         values = {it.name: pick_any(rng, it) for it in table} | {

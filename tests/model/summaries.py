@@ -184,7 +184,7 @@ def command_words(messages: list[Message], near: int | None, times: list[int]) -
     if GLONASS.letter not in kinds:
         return words
     told = told_by(messages)
-    slots = sorted({*slots_shown(messages, numbers_of(kinds, with_1012), NAMES)})
+    slots = sorted({*slots_shown(messages, numbers_of(kinds, with_1012))})
     found = {slot: most_told(told[slot]) for slot in slots if slot in told}
     channels = ",".join(f"{slot}:{channel}" for slot, channel in found.items() if channel is not None) or "none"
     return f"{words} --channels {channels}{' --with-1012' * with_1012}"

@@ -203,13 +203,15 @@ for row in 'by_galileo 1045 2' 'by_galileo_later 1046 2' 'by_beidou 1042 3'; do
     set -- $row
     finds $1 "$noon until $noon by $2" "$one_command $1" "$3 $(($3 - 1)) 0 0 1 0 0 0 1" 0 ''
 done
-# A date of another station counts before the week of Galileo; and a 1019 of the same week does.
-finds by_other_and_galileo "$noon until $noon by 1013 of station 7" "$one_command by_other_and_galileo" '3 2 0 0 1 0 0 0 1' 0 ''
+# A date of another station counts before the week of Galileo, which is told if it is another one; and a 1019 of the same week does.
+finds by_other_and_galileo "$noon until $noon by 1013 of station 7" "$one_command by_other_and_galileo" '3 2 0 0 1 0 0 0 1' 0 '' \
+    ' other-date 2024-05-10T12:00:00 by 1045 in by_other_and_galileo'
 finds same_system_week "$noon until $noon by 1019 (or 2004-10-01, 2044-01-01)" "$one_command same_system_week" '3 2 0 0 1 0 0 0 1' 0 ''
 # The week of Galileo tells that the 1019 means the week 1,024 before the latest one.
 finds rolled_over "2004-10-01T12:00:00 until 2004-10-01T12:00:00 by 1045" "$(command 2004-10-01T12:00:00) rolled_over" '3 2 0 0 1 0 0 0 1' 0 '' \
     ' other-date 2024-05-17T12:00:00 by 1019 in rolled_over'
-finds own_and_rolled_over "$two 1013" "$one_command own_and_rolled_over" '5 3 0 0 2 0 0 0 2' 0 one.rnx
+finds own_and_rolled_over "$two 1013" "$one_command own_and_rolled_over" '5 3 0 0 2 0 0 0 2' 0 one.rnx \
+    ' other-date 2004-10-01T12:00:00 by 1045 in own_and_rolled_over'
 # pins: weeks_ms, neighbours_text, week_text
 finds by_week "$noon until $noon by 1019 (or 2004-10-01, 2044-01-01)" "$one_command by_week" '2 1 0 0 1 0 0 0 1' 0 ''
 for row in '1981-01-01 1980-01-20 1999-09-05' '2024-06-01 2019-04-21 1999-09-05, 2038-12-05' '2100-12-31 2097-10-20 2078-03-06'; do
@@ -250,7 +252,8 @@ finds 'one to_come' "$noon until 2024-05-17T12:00:02 by 1013" "cat one to_come |
 # pins: ephemeris_to_come, system_week_to_come
 finds galileo_to_come "$two 1013" "$one_command galileo_to_come" '4 2 0 0 2 0 0 0 2' 0 one.rnx \
     ' other-date 2024-06-02T01:00:00 by 1046 in galileo_to_come: it is after the time of making'
-finds galileo_of_now "$two 1013" "$one_command galileo_of_now" '4 2 0 0 2 0 0 0 2' 0 one.rnx
+finds galileo_of_now "$two 1013" "$one_command galileo_of_now" '4 2 0 0 2 0 0 0 2' 0 one.rnx \
+    ' other-date 2024-05-31T12:00:00 by 1046 in galileo_of_now'
 # A date that is more than half a day from the epoch beside it dates that by its week, and is told.
 # pins: is_far_from_epoch, far_head, far_epoch
 finds tuesday '2024-05-24T12:00:00 until 2024-05-24T12:00:01 by 1013' "$(command 2024-05-24T12:00:00) tuesday" "$counts" 0 '' \

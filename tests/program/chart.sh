@@ -178,6 +178,11 @@ chart mixed
 sed -n "s/.*class='system' x='110' y='\([0-9]*\)'>\(.*\)<.*/\1 \2/p" out >got
 printf '%s\n' '134 GPS' '192 GLONASS' '274 Galileo' '332 BeiDou' '390 QZSS' '448 SBAS' '506 NavIC' >want
 same systems_of_mixed_in_svg got want
+# A name is 34 units high, and the band of a satellite of one or two codes 24. GLONASS has two satellites, other systems have one.
+# pins: heading_height
+sed -n "s/^<g transform='translate(0 \([0-9]*\))'>$/\1/p" out >got
+printf '%s\n' 0 58 140 198 256 314 372 536 >want # behind the bands come the lines of the codes that satellites have nowhere
+same bands_of_mixed_in_svg got want
 # pins: never_group
 sed -n "s/.*class='never' x='110' y='\([0-9]*\)'>\(.*\)<.*/\1 \2/p" out >got
 printf '%s\n' '18 never R2P: R26' '42 never C6I: C41' '66 never C7I: C41' '90 never C5P: C41' >want

@@ -455,6 +455,11 @@ for near_ in '' '--near 2020-01-25T00:00:00'; do
     run auto $near_ --made $made --marker BASE of_gps.rtcm of_1012.rtcm; grep '^>' out | cut -c 1-29 >told
     printf '> 2020 01 25 02 16  0.0000000\n> 2020 01 25 14 30 18.0000000\n' >want; same "auto_1012_alone${near_% *}" told want
 done
+# A line names the message that tells the day of 1012, if it is none of the station: here the same 1013 of another station.
+python3 "$here/framed.py" $R12_LATER 3F5002E5F965F40048 >of_other.rtcm
+# pins: day_line
+for capture in of_1012 of_other; do run auto --made $made --marker BASE of_gps.rtcm $capture.rtcm; grep '^ day-of-1012' err; done >told
+echo ' day-of-1012 2020-01-25T14:30:00 by 1013 of station 2 in of_other.rtcm' >want; same auto_day_of_1012 told want
 # `summary` says the word where the times lie near the date of a 1013: of the same day, and not of half a day later.
 next_of() { python3 "$here/framed.py" "$@" >dated.rtcm; run summary dated.rtcm; sed -n 's/^ next .* --codes //p' out >told; }
 # pins: is_time_near, words_with_1012

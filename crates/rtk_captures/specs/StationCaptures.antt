@@ -1,5 +1,5 @@
 -- What a capture tells of a station, by its survey (this project's rule).
-use Rattle.std.specs.Prelude.{ℕ, ◌+◌, ◌-◌, ◌==◌, Bool, false, is_some, min, List, [], ◌∷◌, length, Option, None, Some, unwrap_or, if◌then◌else◌}
+use Rattle.std.specs.Prelude.{ℕ, ◌+◌, ◌-◌, ◌==◌, Bool, false, ◌&&◌, ◌||◌, is_some, min, List, [], ◌∷◌, length, Option, None, Some, unwrap_or, if◌then◌else◌}
 use Rattle.rtk_survey.specs.Contents.{station_in}
 use Rattle.rtk_survey.specs.CaptureDates.{no_dates, do_system_weeks_decide, counting, is_own, own_moment_of}
 use Rattle.rtk_survey.specs.Parting.{parted_frame}
@@ -93,6 +93,16 @@ weeks_passed_over t = if do_system_weeks_decide t then t.weeks.items else beside
 
 abbrev pub others_passed_over : Tellings → List Told
 others_passed_over t = beside_others t.own.items t.weeks.items t.others.items
+
+-- the first epochs that ephemerides of other systems tell count: no other message tells one, or they tell that the week of GPS
+-- is an earlier one
+abbrev pub do_system_weeks_count : Tellings → Bool
+do_system_weeks_count t =
+    (length t.own.items == 0) && (do_system_weeks_decide t || ((length t.weeks.items == 0) && (length t.others.items == 0)))
+
+-- those that do not count
+abbrev pub system_weeks_passed_over : Tellings → List Told
+system_weeks_passed_over t = if do_system_weeks_count t then [] else t.system_weeks.items
 
 abbrev pub first_told : List Told → Option Told
 first_told [] = None

@@ -76,8 +76,8 @@ pub use reach::{Base, is_out_of_reach, least_told, near_of, place_captures, reac
 pub use refusal::{PlanFault, Refusal, refused};
 pub use span_line::{DateSource, DatedSpan, put_span};
 pub use station_capture::{
-    StationCapture, capture_of, captures_of, is_station, others_passed_over, span_in, to_come_told,
-    weeks_passed_over,
+    StationCapture, capture_of, captures_of, is_station, others_passed_over, span_in,
+    system_weeks_passed_over, to_come_told, weeks_passed_over,
 };
 pub use times::put_time;
 pub use waiting_dates::dates_without_epoch;

@@ -173,6 +173,25 @@ pub fn others_passed_over(told: &Tellings) -> &[Told]
     &[]
 }
 
+// Do the first epochs count that 1042, 1045 and 1046 tell?
+fn do_system_weeks_count(told: &Tellings) -> bool
+    ensures { result ≡ spec.do_system_weeks_count told.now }
+{
+    told.own.is_empty()
+        && (told.do_system_weeks_decide() || (told.weeks.is_empty() && told.others.is_empty()))
+}
+
+/// The first epochs that 1042, 1045 and 1046 tell and that do not count, since other messages tell some.
+pub fn system_weeks_passed_over(told: &Tellings) -> &[Told]
+    ensures { result.now ≡ spec.system_weeks_passed_over told.now }
+{
+    if do_system_weeks_count(told) {
+        &[]
+    } else {
+        told.system_weeks.as_slice()
+    }
+}
+
 fn first_told(told: &[Told]) -> Option<Told>
     ensures { result ≡ spec.first_told told.now }
 {

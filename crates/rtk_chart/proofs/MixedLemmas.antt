@@ -1,19 +1,19 @@
 -- The picture of a file of any systems, from what was read of it.
-use Rattle.std.proofs.Common.{◌≡◌, ◌<◌, ◌+◌, ◌-◌, ◌++◌, ◌==◌, ◌||◌, ℕ, Bool, List, [], ◌∷◌, length, map, Option, Some, None, refl, sym, ap, subst, ◌∙◌, arith}
+use Rattle.std.proofs.Common.{◌≡◌, ◌+◌, ◌-◌, ◌++◌, ◌==◌, ◌||◌, ℕ, Bool, List, [], ◌∷◌, length, map, Option, Some, None, refl, sym, ap, subst, ◌∙◌, arith}
 use Rattle.std.specs.List.{range_with_len}
-use Rattle.std.proofs.lemmas.List.{length-map, map_push}
+use Rattle.std.proofs.lemmas.List.{map_push}
 use Rattle.rtk_message.specs.declared.system.System.{System}
 use Rattle.rtk_obs.specs.declared.any_code.AnyCode.{AnyCode}
 use Rattle.rtk_rinex.specs.Record.{EpochTableView}
 use Rattle.rtk_tracking.specs.Epochs.{capped, newest_moment}
 use Rattle.rtk_tracking.specs.Interval.{missing_in, missing_before}
-use Rattle.rtk_chart.specs.Chart.{slips_at, returns_at, rises_at}
+use Rattle.rtk_chart.specs.Chart.{slips_at, returns_at}
 use Rattle.rtk_chart.specs.Scale.{scale_of, bin_at}
 use Rattle.rtk_chart.specs.Grid.{bins_of, outages_of, gaps_of, recorded_of, has_missing, has_missing_before, has_record}
-use Rattle.rtk_chart.specs.Groups.{title_of, listed_in, group_epochs}
-use Rattle.rtk_chart.specs.MixedChart.{DrawnView, both_numbers, drawn_numbers_at, with_satellites, with_listed, drawn_of_system, then_system, drawn_systems, systems_picture, systems_at, systems_of_epochs}
+use Rattle.rtk_chart.specs.Groups.{title_of}
+use Rattle.rtk_chart.specs.MixedChart.{DrawnView, both_numbers, with_satellites, with_listed, drawn_of_system, then_system, drawn_systems, systems_picture, systems_at, systems_of_epochs}
 use Rattle.rtk_chart.specs.TextPicture.{satellites_in, satellite_rows, never_in_line, all_never_lines, text_of_none}
-use Rattle.rtk_chart.specs.Steps.Pictures.{numbers_of_grid, with_grid}
+use Rattle.rtk_chart.specs.Steps.Pictures.{with_grid}
 use Rattle.rtk_chart.specs.Steps.Standing.{StandsForGrid, bare_epoch, bare_epochs}
 use Rattle.rtk_chart.specs.declared.choice.Choice.{Choice}
 use Rattle.rtk_chart.specs.declared.drawn.DrawnNumbers.{DrawnNumbers}

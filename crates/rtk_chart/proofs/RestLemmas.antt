@@ -26,7 +26,7 @@ use Rattle.rtk_chart.specs.Chart.{slips_at, returns_at, rises_at, svg_at}
 use Rattle.rtk_chart.specs.Heading.{seconds_text}
 use Rattle.rtk_chart.specs.Scale.{IsScale}
 use Rattle.rtk_chart.specs.Grid.{bin_in, bins_of, outages_of, gaps_of, has_missing, tracking_in, trackings_in}
-use Rattle.rtk_chart.specs.Means.{number_of, bands_of, columns_of, bins_per_column, mean_of, mean_at, of_band, least_mean, greatest_mean}
+use Rattle.rtk_chart.specs.Means.{bands_of, columns_of, bins_per_column, mean_of, mean_at, of_band, least_mean, greatest_mean}
 use Rattle.rtk_chart.specs.Signs.{is_tracked, is_never}
 use Rattle.rtk_chart.specs.Ticks.{tick_at, tick_label}
 use Rattle.rtk_chart.specs.TextPicture.{gps_names, satellite_label, satellites_in}

@@ -4,7 +4,7 @@ use Rattle.std.proofs.Math.Nat.{mul-div_cancel_left}
 use Rattle.std.proofs.lemmas.List.{drop_more}
 use Rattle.std.proofs.lemmas.Nat.{mul-le}
 use Rattle.rtk_chart.specs.Scale.{longest_bin}
-use Rattle.rtk_chart.specs.SvgPath.{edge_of, middle_of, run_part, runs_from, mark_part, marks_from, tracked_in, step_part, steps_from}
+use Rattle.rtk_chart.specs.SvgPath.{edge_of, middle_of, run_part, runs_from, mark_part, marks_from, step_part, steps_from}
 use Rattle.rtk_chart.specs.SvgStrip.{depth_part, depths_from}
 use Rattle.rtk_chart.specs.SvgPicture.{line_if_had, code_lines, never_if_lacked, never_texts}
 use Rattle.rtk_chart.specs.declared.groups.Names.{Names}

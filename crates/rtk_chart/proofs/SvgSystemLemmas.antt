@@ -10,7 +10,7 @@ use Rattle.rtk_tracking.specs.Epochs.{capped, newest_moment}
 use Rattle.rtk_tracking.specs.Interval.{missing_in}
 use Rattle.rtk_chart.specs.Chart.{slips_at, returns_at, rises_at}
 use Rattle.rtk_chart.specs.Scale.{scale_of}
-use Rattle.rtk_chart.specs.Grid.{bins_of, outages_of, gaps_of}
+use Rattle.rtk_chart.specs.Grid.{bins_of, outages_of}
 use Rattle.rtk_chart.specs.Means.{all_without, columns_of}
 use Rattle.rtk_chart.specs.MixedChart.{no_drawn_numbers}
 use Rattle.rtk_chart.specs.SvgPicture.{band_top, bands_text, svg_of_none}
@@ -107,10 +107,10 @@ abbrev svg_by : System → Bool → List (List ℕ) → Names → SvgView → Li
 svg_by system first listed names v bins outages slips returns rises lower upper =
     with_svg_bins system first listed names bins outages (record { satellites = satellites_in bins; slips = slips; returns = returns; rises = rises }) lower upper v
 
-pub svg-grid-is : (s : Scale) (system : System) (first : Bool) (listed : List AnyCode) (ns : List (List ℕ)) (bs : List (Option Band)) (us : List Strengths) (names : Names) (grid : Grid) (es : List EpochTableView) (v : SvgView)
-    → ns ≡ map name_of listed → bs ≡ map lower_of listed → StandsForGrid grid s bs es → us ≡ columns_of s (map upper_of listed) es
+pub svg-grid-is : (s : Scale) (system : System) (first : Bool) (listed : List AnyCode) (ns : List (List ℕ)) (us : List Strengths) (names : Names) (grid : Grid) (es : List EpochTableView) (v : SvgView)
+    → ns ≡ map name_of listed → StandsForGrid grid s (map lower_of listed) es → us ≡ columns_of s (map upper_of listed) es
     → with_svg_grid system first ns names grid us v ≡ with_svg_epochs s system first listed names es v
-svg-grid-is s system first listed ns bs us names grid es v named banded stands above =
+svg-grid-is s system first listed ns us names grid es v named stands above =
     let all : List (List ℕ) = map name_of listed in
     let low : List Strengths = columns_of s (map lower_of listed) es in
     ap (λ (x : List (List ℕ)). with_svg_grid system first x names grid us v) named
@@ -119,8 +119,7 @@ svg-grid-is s system first listed ns bs us names grid es v named banded stands a
     ∙ ap (λ (n : ℕ). svg_by system first all names v (bins_of s es) (outages_of s es) n grid.returns grid.rises grid.strengths.items us) stands.slips
     ∙ ap (λ (n : ℕ). svg_by system first all names v (bins_of s es) (outages_of s es) (slips_at s es) n grid.rises grid.strengths.items us) stands.returns
     ∙ ap (λ (n : ℕ). svg_by system first all names v (bins_of s es) (outages_of s es) (slips_at s es) (returns_at s es) n grid.strengths.items us) stands.rises
-    ∙ ap (λ (x : List Strengths). svg_by system first all names v (bins_of s es) (outages_of s es) (slips_at s es) (returns_at s es) (rises_at s es) x us)
-    (stands.strengths ∙ ap (λ (x : List (Option Band)). columns_of s x es) banded)
+    ∙ ap (λ (x : List Strengths). svg_by system first all names v (bins_of s es) (outages_of s es) (slips_at s es) (returns_at s es) (rises_at s es) x us) stands.strengths
     ∙ ap (λ (x : List Strengths). svg_by system first all names v (bins_of s es) (outages_of s es) (slips_at s es) (returns_at s es) (rises_at s es) low x) above
 
 pub drawn-is : (s : Scale) (bs : List (Option Band)) (grid : Grid) (es : List EpochTableView) → StandsForGrid grid s bs es

@@ -15,7 +15,7 @@ use Rattle.rtk_tracking.specs.Epochs.{capped, newest_first}
 use Rattle.rtk_tracking.specs.Interval.{interval_of_epochs, missing_in}
 use Rattle.rtk_chart.specs.Grid.{bins_of, outages_of, gaps_of}
 use Rattle.rtk_chart.specs.Groups.{drawn_in_order, listed_in, first_group, second_group, group_epochs}
-use Rattle.rtk_chart.specs.Means.{no_strengths, all_without, columns_of, bins_per_column}
+use Rattle.rtk_chart.specs.Means.{all_without, columns_of, bins_per_column}
 use Rattle.rtk_chart.specs.MixedChart.{no_drawn_numbers, drawn_numbers_at, both_numbers}
 use Rattle.rtk_chart.specs.Scale.{scale_of}
 use Rattle.rtk_chart.specs.SvgPath.{tracked_counts}
@@ -122,6 +122,7 @@ svg_heading system top = number_between (codes "<text class='system' x='110' y='
 abbrev pub heading_if_first : Bool → System → ℕ → List ℕ
 heading_if_first first system top = if first then svg_heading system top else []
 
+-- formula
 -- how high it is
 abbrev pub heading_height : Bool → ℕ
 heading_height first = if first then 34 else 0

@@ -17,6 +17,7 @@ use crate::group_rows::{fill_moments, survey_moments};
 use crate::scale::{MOST_BINS, Scale};
 use crate::svg_axis::{put_gaps, put_satellites, put_ticks};
 use crate::svg_drawn::{SvgDrawn, svg_of_systems};
+use crate::svg_never::NEVER_STEP;
 use crate::svg_picture::{put_counts, put_legend, put_span, put_start, svg_of_none};
 use crate::svg_strip::{put_strip, strip_height};
 use crate::svg_text::put_between;
@@ -151,7 +152,7 @@ fn put_svg_body(
     requires gaps { length gaps.now ≤ 1440 }
     ensures { OnOk result (text.new.items ≡ text.old.items ++ systems_svg_body scale.now (svg_view_of drawn.now) gaps.now) }
 {
-    let end = drawn.top + 24 * drawn.lines;
+    let end = drawn.top + NEVER_STEP * drawn.lines;
     let strips = strip_height(drawn.lower.as_slice()) + strip_height(drawn.upper.as_slice());
     text.extend_from_slice(drawn.bands.as_slice())?;
     put_never_group(text, drawn)?;
@@ -185,7 +186,7 @@ fn systems_svg(
     put_start(
         &mut text,
         marker,
-        drawn.top + 24 * drawn.lines + strips + 230,
+        drawn.top + NEVER_STEP * drawn.lines + strips + 230,
     )?;
     put_span(&mut text, scale)?;
     put_counts(

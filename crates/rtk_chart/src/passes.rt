@@ -36,7 +36,9 @@ pub(crate) fn survey_records(
     Ok(survey)
 }
 
-// Some record of a table has a row of a chosen satellite.
+// Some record of a table has a row of a chosen satellite. It is no part of its caller, so that its epoch has left the stack
+// before the picture is drawn.
+#[inline(never)]
 fn has_chosen(table: &TextTable<'_>, chosen: &Chosen) -> bool
     ensures { HoldsOfEpochs table.now.text (λ es. result ≡ list_any (has_row chosen.now) es) }
 {

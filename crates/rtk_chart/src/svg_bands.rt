@@ -15,8 +15,8 @@ use crate::text_picture::drawn_before;
 use crate::time_bin::TimeBin;
 use std::alloc::{AllocError, Global};
 
-// Where the first band begins, from the top, in units of SVG.
-const TOP: u64 = 140;
+/// Where the first band begins, from the top, in units of SVG.
+pub(crate) const TOP: u64 = 140;
 
 const STRIPE_START: &[u8] = b"</title>\n<rect class='b";
 

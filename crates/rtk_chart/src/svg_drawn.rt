@@ -1,12 +1,14 @@
 //! What is drawn in an SVG picture of the satellites of a file of any systems, system by system.
 
-ghost use Rattle.std.specs.Prelude.{◌≡◌, ◌≤◌, ◌<◌, ◌+◌, ◌++◌, ◌==◌, true, not, length, IfOk, OnOk};
+ghost use Rattle.std.specs.Prelude.{◌≡◌, ◌≤◌, ◌<◌, ◌+◌, ◌++◌, ◌==◌, true, not, length, map, IfOk, OnOk};
 ghost use Rattle.rtk_rinex.specs.MixedHead.{IsMixedList};
-ghost use Rattle.rtk_chart.specs.Groups.{first_group, second_group, HoldsOfMixed};
+ghost use Rattle.rtk_chart.specs.Groups.{first_group, second_group, group_epochs, HoldsOfMixed};
+ghost use Rattle.rtk_chart.specs.Means.{columns_of};
 ghost use Rattle.rtk_chart.specs.Scale.{IsScale};
+ghost use Rattle.rtk_chart.specs.Steps.Standing.{StandsForGrid};
 ghost use Rattle.rtk_chart.specs.Steps.SvgParts.{svg_view_of, with_svg_sums, with_svg_grid};
 ghost use Rattle.rtk_chart.specs.SvgPicture.{bands_text};
-ghost use Rattle.rtk_chart.specs.SvgSystems.{nothing_in_svg, svg_title, svg_heading, heading_if_first, heading_height, moved_bands, is_group_drawn, with_svg_group, with_second_group, with_svg_system, svg_of_systems};
+ghost use Rattle.rtk_chart.specs.SvgSystems.{nothing_in_svg, svg_title, svg_heading, heading_if_first, heading_height, moved_bands, lower_of, upper_of, is_group_drawn, with_svg_group, with_second_group, with_svg_system, svg_of_systems};
 ghost use Rattle.rtk_chart.specs.TextPicture.{satellites_in};
 ghost use Rattle.rtk_chart.specs.declared.spacing.Spacing.TheVariants.{Close};
 
@@ -17,8 +19,8 @@ use crate::group_rows::fill_group;
 use crate::groups::{Group, Names, SYSTEMS, first_group, second_group};
 use crate::spacing::Spacing;
 use crate::strengths::{MOST_COLUMNS, Strengths};
-use crate::svg_bands::{band_top, put_bands};
-use crate::svg_never::{lacked_before, put_never_texts};
+use crate::svg_bands::{TOP, band_top, put_bands};
+use crate::svg_never::{NEVER_DROP, NEVER_STEP, lacked_before, put_never_texts};
 use crate::svg_steps::tracked_counts;
 use crate::svg_sums::{columns_with, counts_with, lower_bands, names_of, upper_bands};
 use crate::svg_text::put_between;
@@ -26,6 +28,15 @@ use crate::text_picture::drawn_before;
 use rtk_message::System;
 use rtk_obs::AnyCode;
 use std::alloc::{AllocError, Global};
+
+/// How far below the bands before it the name of a system stands, in units of SVG.
+const HEADING_DROP: u64 = 28;
+
+/// How high such a name is.
+const HEADING_HEIGHT: u64 = 34;
+
+/// Where the first name begins. The first band is then where it is in a picture of GPS.
+const FIRST_HEADING: u64 = TOP - HEADING_HEIGHT;
 
 /// What is drawn of some satellites.
 #[derive(Drop)]
@@ -67,7 +78,12 @@ fn put_svg_heading(text: &mut Vec<u8>, system: System, top: u64) -> Result<(), A
     requires { top ≤ 1_000_000 }
     ensures { OnOk result (text.new.items ≡ text.old.items ++ svg_heading system top) }
 {
-    put_between(text, b"<text class='system' x='110' y='", top + 28, b"'>")?;
+    put_between(
+        text,
+        b"<text class='system' x='110' y='",
+        top + HEADING_DROP,
+        b"'>",
+    )?;
     text.extend_from_slice(svg_title(system))?;
     text.extend_from_slice(b"</text>\n")?;
     Ok(())
@@ -94,7 +110,7 @@ fn heading_height(first: bool) -> u64
     ensures value { result ≡ heading_height first }
     ensures bound { result ≤ 34 }
 {
-    if first { 34 } else { 0 }
+    if first { HEADING_HEIGHT } else { 0 }
 }
 
 // Appends the bands of a grid, of which the first begins so far from the top.
@@ -116,7 +132,7 @@ fn put_moved_bands(
     put_between(
         text,
         b"<g transform='translate(0 ",
-        top.saturating_sub(140),
+        top.saturating_sub(TOP),
         b")'>\n",
     )?;
     put_bands(alloc, text, names, Spacing::Close, listed, bins, outages)?;
@@ -135,7 +151,7 @@ impl SvgDrawn {
         let upper = vec![in alloc; Strengths::none(); MOST_COLUMNS]?;
         Ok(SvgDrawn {
             bands: Vec::new(alloc),
-            top: 106,
+            top: FIRST_HEADING,
             never: Vec::new(alloc),
             lines: 0,
             numbers: DrawnNumbers::none(),
@@ -164,7 +180,8 @@ impl SvgDrawn {
     {
         let bins = grid.bins.as_slice();
         let counts = tracked_counts(alloc, bins)?;
-        put_never_texts(&mut self.never, names, bins, 18 + 24 * self.lines, listed)?;
+        let never_top = NEVER_DROP + NEVER_STEP * self.lines;
+        put_never_texts(&mut self.never, names, bins, never_top, listed)?;
         self.lines += lacked_before(bins, listed.len());
         self.numbers = self.numbers.and(DrawnNumbers::of_grid(grid));
         let tracked = counts_with(alloc, self.tracked.as_slice(), counts.as_slice())?;
@@ -208,11 +225,48 @@ impl SvgDrawn {
         let start = self.top + heading_height(first);
         put_moved_bands(alloc, &mut self.bands, start, names, listed, grid)?;
         let end = band_top(Spacing::Close, bins, listed.len(), 32);
-        let height = end.saturating_sub(140);
+        let height = end.saturating_sub(TOP);
         self.top = start + height;
         self.add_sums(alloc, listed, names, grid, upper)?;
         Ok(true)
     }
+}
+
+// What is read of a group.
+#[derive(Drop)]
+struct GroupGrid {
+    grid: Grid,
+    /// Its strengths in the bands 6, 7 and 8.
+    upper: Vec<Strengths>,
+}
+
+// Reads the chosen satellites of a group, which has these codes.
+fn grid_of_group(
+    alloc: Global,
+    drawing: &Drawing<'_, '_>,
+    codes: &[AnyCode],
+    group: Group,
+) -> Result<GroupGrid, AllocError>
+    requires good { IsScale drawing.now.scale }
+    requires few { group.count ≤ 32 }
+    ensures bins { IfOk result (λ read. length read.grid.bins.items ≡ drawing.now.scale.bins) }
+    ensures grid { IfOk result (λ read. HoldsOfMixed drawing.now.table.now.text (λ es. StandsForGrid read.grid drawing.now.scale
+        (map lower_of codes.now) (group_epochs drawing.now.choice.now group es))) }
+    ensures upper { IfOk result (λ read. HoldsOfMixed drawing.now.table.now.text (λ es. read.upper.items
+        ≡ columns_of drawing.now.scale (map upper_of codes.now) (group_epochs drawing.now.choice.now group es))) }
+{
+    let lower = lower_bands(alloc, codes)?;
+    let higher = upper_bands(alloc, codes)?;
+    let mut upper = vec![in alloc; Strengths::none(); MOST_COLUMNS]?;
+    let grid = fill_group(
+        alloc,
+        drawing,
+        group,
+        lower.as_slice(),
+        higher.as_slice(),
+        &mut upper,
+    )?;
+    Ok(GroupGrid { grid, upper })
 }
 
 // Adds the chosen satellites of a group, which has these codes, and says whether one has a row.
@@ -240,25 +294,15 @@ fn put_group(
     ensures bins { OnOk result (length drawn.new.tracked.items ≡ length drawn.old.tracked.items) }
 {
     let listed = names_of(alloc, codes)?;
-    let lower = lower_bands(alloc, codes)?;
-    let upper = upper_bands(alloc, codes)?;
-    let mut columns = vec![in alloc; Strengths::none(); MOST_COLUMNS]?;
-    let grid = fill_group(
-        alloc,
-        drawing,
-        group,
-        lower.as_slice(),
-        upper.as_slice(),
-        &mut columns,
-    )?;
+    let read = grid_of_group(alloc, drawing, codes, group)?;
     let is_drawn = drawn.add_grid(
         alloc,
         system,
         first,
         listed.as_slice(),
         group.names,
-        &grid,
-        columns.as_slice(),
+        &read.grid,
+        read.upper.as_slice(),
     )?;
     Ok(is_drawn)
 }

@@ -11,6 +11,12 @@ use crate::svg_text::put_between;
 use crate::time_bin::TimeBin;
 use std::alloc::AllocError;
 
+/// How far below the bands the first line stands, in units of SVG.
+pub(crate) const NEVER_DROP: u64 = 18;
+
+/// How far apart the lines lie.
+pub(crate) const NEVER_STEP: u64 = 24;
+
 // Some satellite has the code at this place nowhere.
 fn is_lacked(bins: &[TimeBin], at: usize) -> bool
     ensures { result ≡ is_lacked bins.now at }
@@ -77,7 +83,7 @@ fn put_title(text: &mut Vec<u8>, names: Names, code: [u8; 2]) -> Result<(), Allo
     text.extend_from_slice(&code)
 }
 
-// The line of a code that some satellite has nowhere. The lines lie 24 apart.
+// The line of a code that some satellite has nowhere.
 fn put_line(
     text: &mut Vec<u8>,
     names: Names,
@@ -91,7 +97,7 @@ fn put_line(
     requires listed { at < 16 }
     ensures { OnOk result (text.new.items ≡ text.old.items ++ never_text names bins.now top at code) }
 {
-    let y = top + 24 * lacked_before(bins, at);
+    let y = top + NEVER_STEP * lacked_before(bins, at);
     put_between(text, b"<text class='never' x='110' y='", y, b"'>never ")?;
     put_title(text, names, code)?;
     text.extend_from_slice(b":")?;

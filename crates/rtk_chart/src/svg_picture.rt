@@ -13,7 +13,7 @@ use crate::spacing::Spacing;
 use crate::survey::Survey;
 use crate::svg_axis::{put_gaps, put_satellites, put_ticks};
 use crate::svg_bands::{band_top, put_bands};
-use crate::svg_never::{lacked_before, put_never_texts};
+use crate::svg_never::{NEVER_DROP, NEVER_STEP, lacked_before, put_never_texts};
 use crate::svg_steps::tracked_counts;
 use crate::svg_strip::{put_strip, strip_height};
 use crate::svg_text::{put_between, put_xml};
@@ -207,7 +207,7 @@ fn put_body(
     text.extend_from_slice(SYSTEM)?;
     put_bands(alloc, text, names, spacing, codes, bins, outages)?;
     let bands_end = band_top(spacing, bins, codes.len(), 32);
-    put_never_texts(text, names, bins, bands_end + 18, codes)?;
+    put_never_texts(text, names, bins, bands_end + NEVER_DROP, codes)?;
     put_gaps(text, end, grid.gaps.as_slice())?;
     let counts = tracked_counts(alloc, bins)?;
     put_satellites(text, end + 26, counts.as_slice())?;
@@ -234,7 +234,7 @@ fn never_end(spacing: Spacing, bins: &[TimeBin], listed: usize) -> u64
     ensures value { result ≡ never_end spacing bins.now listed }
     ensures bound { result ≤ 12_236 }
 {
-    band_top(spacing, bins, listed, 32) + 24 * lacked_before(bins, listed)
+    band_top(spacing, bins, listed, 32) + NEVER_STEP * lacked_before(bins, listed)
 }
 
 // The names of codes of GPS.

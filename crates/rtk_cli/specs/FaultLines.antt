@@ -3,7 +3,7 @@ use Rattle.std.specs.Prelude.{◌≡◌, ℕ, List, codes, Option, None, Some}
 use Rattle.std.specs.Option.{option_map}
 use Rattle.rtk_label.specs.declared.label_fault.LabelFault.TheVariants.{RunBy, MarkerNumber, Observer, Agency, ReceiverNumber, ReceiverType, ReceiverVersion, AntennaNumber, AntennaType, DeltaHeight, DeltaEast, DeltaNorth}
 use Rattle.rtk_cli.specs.declared.words.BadWords.{BadWords}
-use Rattle.rtk_cli.specs.declared.words.BadWords.TheVariants.{Near, Made, Codes, CodeOfSystem, CodeOfGps, Marker, Channels, NoChannels, NoGlonass, NoRates, Links, Systems, Satellites, From, Until, Field, Files}
+use Rattle.rtk_cli.specs.declared.words.BadWords.TheVariants.{Near, NearOfAuto, Made, MadeOfAuto, Codes, CodeOfSystem, CodeOfGps, Marker, Channels, NoChannels, NoGlonass, NoRates, Links, Systems, Satellites, From, Until, Field, Files}
 use Rattle.rtk_cli.specs.declared.words.WordsFault.{WordsFault}
 use Rattle.rtk_cli.specs.declared.words.WordsFault.TheVariants.{Bad, OutOfMemory}
 use Rattle.rtk_cli.specs.CodeLines.{codes_line, short_code_line}
@@ -13,7 +13,9 @@ use Rattle.rtk_cli.specs.RatesLine.{rates_line}
 -- the fault line of a cause (this project's rule)
 abbrev pub fault_line : BadWords → List ℕ
 fault_line Near = codes "bad --near"
+fault_line NearOfAuto = codes "bad --near"
 fault_line Made = codes "bad --made"
+fault_line MadeOfAuto = codes "bad --made"
 fault_line Codes = codes "bad --codes"
 fault_line (CodeOfSystem s) = codes "bad --codes"
 fault_line (CodeOfGps c) = codes "bad --codes"
@@ -44,6 +46,8 @@ fault_line Files = codes "bad files"
 -- table
 -- the line that follows the fault line of a cause, if one does (this project's rule)
 abbrev pub second_line : BadWords → Option (List ℕ)
+second_line NearOfAuto = Some (codes " --near takes YYYY-MM-DDTHH:MM:SS (GPS), from 1980-01-13T00:00:00 to 2099-12-31T23:59:59")
+second_line MadeOfAuto = Some (codes " --made takes YYYY-MM-DDTHH:MM:SS (UTC), from 1980-01-06T00:00:00 to 2100-12-31T23:59:59")
 second_line (CodeOfSystem s) = Some (codes_line s)
 second_line (CodeOfGps c) = Some (short_code_line c)
 second_line _ = None

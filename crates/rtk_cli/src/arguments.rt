@@ -72,8 +72,15 @@ pub(crate) fn kinds_arg<'a>(alloc: Global, takes_lists: bool, help: &'a str) -> 
     msm_arg(alloc, help)
 }
 
+/// The channels of GLONASS.
+pub(crate) fn channels_arg<'a>(alloc: Global) -> Arg<'a> {
+    let help = "The channels of GLONASS slots, as 1:1,9:-6, or none";
+    option_arg(alloc, "channels", "LIST", help)
+}
+
 /// The leap seconds that date GLONASS.
-pub(crate) fn leap_seconds_arg<'a>(alloc: Global, help: &'a str) -> Arg<'a> {
+pub(crate) fn leap_seconds_arg<'a>(alloc: Global) -> Arg<'a> {
+    let help = "The leap seconds that date GLONASS, 0 to 99; those of the table if not given";
     number_arg(alloc, "leap-seconds", 0, i64::from(MOST_LEAP_SECONDS), help)
 }
 

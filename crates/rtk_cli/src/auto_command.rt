@@ -3,7 +3,8 @@
 //! Its arguments stand in several functions, since the check of one that adds them all takes long.
 
 use crate::arguments::{
-    leap_seconds_arg, marker_arg, msm_arg, option_arg, station_arg, switch_arg, window_arg,
+    channels_arg, leap_seconds_arg, marker_arg, msm_arg, option_arg, station_arg, switch_arg,
+    window_arg,
 };
 use crate::help_texts;
 use clap::builder::ValueParser;
@@ -75,12 +76,10 @@ fn systems_arg<'a>(alloc: Global) -> Result<Arg<'a>, AllocError> {
 }
 
 fn auto_with_systems<'a>(alloc: Global) -> Result<Command<'a>, AllocError> {
-    let channels = "The channels of GLONASS slots, as 1:1,9:-6, or none";
-    let seconds = "The leap seconds that date GLONASS, 0 to 99; those of the table if not given";
     auto_with_values(alloc)?
         .arg(systems_arg(alloc)?)?
-        .arg(option_arg(alloc, "channels", "LIST", channels))?
-        .arg(leap_seconds_arg(alloc, seconds))
+        .arg(channels_arg(alloc))?
+        .arg(leap_seconds_arg(alloc))
 }
 
 /// The command `auto`.

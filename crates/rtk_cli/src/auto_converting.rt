@@ -9,13 +9,10 @@ ghost use Rattle.rtk_cli.specs.ConvertsBytes.{ConvertsBytes};
 ghost use Rattle.rtk_cli.specs.JoinedLinks.{links_bytes};
 
 use crate::converting::{Converted, convert_through};
-use rtk_commands::{GATHERED, Joined, Resumed, ToolFault};
+use rtk_commands::{GATHERED, Joined, Resumed, ToolFault, read_ahead};
 use rtk_convert::Setup;
 use std::alloc::Global;
 use std::io::{BufReader, Read, Write};
-
-/// How many bytes of a link are read at once. It is a multiple of the 512 that a conversion asks for.
-const READ_AT_ONCE: usize = 32_768;
 
 /// A link whose captures are joined, read ahead.
 type JoinedLink<R> = BufReader<Resumed<Joined<R>>>;
@@ -24,11 +21,7 @@ type JoinedLink<R> = BufReader<Resumed<Joined<R>>>;
 fn joined_link<R: Read + Drop>(alloc: Global, parts: Vec<R>) -> Result<JoinedLink<R>, ToolFault>
     ensures { IfOk result (λ link. ⟦<JoinedLink<R> as Read>⟧.remaining link ≡ joined_bytes R.remaining parts.items) }
 {
-    let joined = Resumed::new(Joined::new(parts));
-    match BufReader::with_capacity(alloc, READ_AT_ONCE, joined) {
-        Ok(link) => Ok(link),
-        Err(_) => Err(ToolFault::OutOfMemory),
-    }
+    read_ahead(alloc, Resumed::new(Joined::new(parts)))
 }
 
 // The links, each over its parts.

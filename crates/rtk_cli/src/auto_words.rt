@@ -171,8 +171,8 @@ pub(crate) fn auto_words<'a>(
     // `OutOfMemory` comes only if memory is refused: tests/system/calls, rows `job of auto ..`.
     ensures refused { IfErr result (RefusesAuto options.now) }
 {
-    let near = moment_if_any(options.near, BadWords::Near)?;
-    let made = made_if_any(options.made)?;
+    let near = moment_if_any(options.near, BadWords::NearOfAuto)?;
+    let made = made_if_any(options.made, BadWords::MadeOfAuto)?;
     let codes = codes_if_any(alloc, options.codes)?;
     let marker = marker_if_any(options.marker)?;
     if !are_good_codes(&codes) {
@@ -180,7 +180,7 @@ pub(crate) fn auto_words<'a>(
     }
     let channels = channels_if_any(alloc, options.channels)?;
     let systems = systems_said(options.systems)?;
-    let reference = reference_if_any(near)?;
+    let reference = reference_if_any(near, BadWords::NearOfAuto)?;
     let wanted = Wanted {
         station: options.station,
         msm: options.msm,

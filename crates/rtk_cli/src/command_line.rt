@@ -3,8 +3,8 @@
 //! clap is the costly part of the proof, so its command is built here alone, in small functions.
 
 use crate::arguments::{
-    file_arg, kinds_arg, leap_seconds_arg, marker_arg, number_arg, option_arg, station_arg,
-    switch_arg, window_arg,
+    channels_arg, file_arg, kinds_arg, leap_seconds_arg, marker_arg, number_arg, option_arg,
+    station_arg, switch_arg, window_arg,
 };
 use crate::auto_command::auto_command;
 use crate::help_texts;
@@ -174,18 +174,16 @@ fn convert_with_codes<'a>(alloc: Global) -> Result<Command<'a>, AllocError> {
 // The same with the kinds of MSM and the channels.
 fn convert_with_kinds<'a>(alloc: Global, takes_lists: bool) -> Result<Command<'a>, AllocError> {
     let msm = "Which MSM is converted: 4 is MSM4, as 1074, to 7; 7,E4 has an exception";
-    let channels = "The channels of GLONASS slots, as 1:1,9:-6, or none";
     convert_with_codes(alloc)?
         .arg(kinds_arg(alloc, takes_lists, msm).default_value(MSM))?
-        .arg(option_arg(alloc, "channels", "LIST", channels))
+        .arg(channels_arg(alloc))
 }
 
 fn convert_command<'a>(alloc: Global, takes_lists: bool) -> Result<Command<'a>, AllocError> {
-    let seconds = "The leap seconds that date GLONASS, 0 to 99; those of the table if not given";
     let with_1012 = "Converts 1012 too, and dates it within half a day of --near";
     let doppler = "Writes the Doppler of MSM5 and MSM7, which each system must have";
     convert_with_kinds(alloc, takes_lists)?
-        .arg(leap_seconds_arg(alloc, seconds))?
+        .arg(leap_seconds_arg(alloc))?
         .arg(switch_arg(alloc, "with-1012", with_1012))?
         .arg(switch_arg(alloc, "doppler", doppler))?
         .arg(links_arg(alloc))

@@ -221,14 +221,14 @@ pub(crate) fn convert_job<'a>(
     ensures refused { IfErr result (RefusesConversion options.now (map (λ link. link.now) links.entry.items)) }
 {
     let moment = moment_said(options.near, BadWords::Near)?;
-    let made = made_said(options.made)?;
+    let made = made_said(options.made, BadWords::Made)?;
     let codes = any_codes_said(alloc, options.codes)?;
     let marker = marker_said(options.marker)?;
     let head = head_said(alloc, options, marker, codes.as_slice(), made, moment)?;
     if !are_links(links.as_slice()) {
         return Err(BadWords::Links.into());
     }
-    let near = reference_said(moment)?;
+    let near = reference_said(moment, BadWords::Near)?;
     let setup = Setup::mixed(options.station, near, head, options.window);
     let setup = with_leap_seconds(with_kinds(setup, options.kinds), options.leap_seconds);
     let setup = with_1012_if(setup, options.with_1012);

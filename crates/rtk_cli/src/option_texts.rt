@@ -37,26 +37,29 @@ pub(crate) fn moment_if_any(text: Option<&str>, cause: BadWords) -> Result<Optio
     }
 }
 
-/// The time of making that a text writes.
-pub(crate) fn made_said(text: &str) -> Result<CreationTime, BadWords>
+/// The time of making that a text writes, else this cause.
+pub(crate) fn made_said(text: &str, cause: BadWords) -> Result<CreationTime, BadWords>
     ensures moment { IfOk result (WritesMoment text.now) }
     ensures bound { IfOk result (λ t. t ≤ LAST_MS) }
-    ensures cause { IfErr result (λ told. (told ≡ BadWords.Made) × ¬ (HasMoment text.now)) }
+    ensures cause { IfErr result (λ told. (told ≡ cause) × ¬ (HasMoment text.now)) }
 {
-    let moment = moment_said(text, BadWords::Made)?;
+    let moment = moment_said(text, cause)?;
     let Ok(made) = CreationTime::new(moment) else {
         unreachable!();
     };
     Ok(made)
 }
 
-/// The time of making that a text writes, or none without a text.
-pub(crate) fn made_if_any(text: Option<&str>) -> Result<Option<CreationTime>, BadWords>
+/// The time of making that a text writes, or none without a text; else this cause.
+pub(crate) fn made_if_any(
+    text: Option<&str>,
+    cause: BadWords,
+) -> Result<Option<CreationTime>, BadWords>
     ensures moment { IfOk result (SaysMomentOrNone text.entry) }
-    ensures cause { IfErr result (λ told. (told ≡ BadWords.Made) × HasNoMoment text.entry) }
+    ensures cause { IfErr result (λ told. (told ≡ cause) × HasNoMoment text.entry) }
 {
     match text {
-        Some(text) => Ok(Some(made_said(text)?)),
+        Some(text) => Ok(Some(made_said(text, cause)?)),
         None => Ok(None),
     }
 }
@@ -84,24 +87,27 @@ pub(crate) fn marker_if_any(text: Option<&str>) -> Result<Option<Marker>, BadWor
     }
 }
 
-/// The reference of a moment.
-pub(crate) fn reference_said(moment: GpsMs) -> Result<Reference, BadWords>
+/// The reference of a moment, else this cause.
+pub(crate) fn reference_said(moment: GpsMs, cause: BadWords) -> Result<Reference, BadWords>
     ensures near { IfOk result (λ near. near ≡ moment) }
-    ensures cause { IfErr result (λ told. (told ≡ BadWords.Near) × ¬ (IsReference moment)) }
+    ensures cause { IfErr result (λ told. (told ≡ cause) × ¬ (IsReference moment)) }
 {
     match Reference::new(moment) {
         Ok(near) => Ok(near),
-        Err(_) => Err(BadWords::Near),
+        Err(_) => Err(cause),
     }
 }
 
-/// The reference of a moment, or none without a moment.
-pub(crate) fn reference_if_any(moment: Option<GpsMs>) -> Result<Option<Reference>, BadWords>
+/// The reference of a moment, or none without a moment; else this cause.
+pub(crate) fn reference_if_any(
+    moment: Option<GpsMs>,
+    cause: BadWords,
+) -> Result<Option<Reference>, BadWords>
     ensures near { IfOk result (λ near. near ≡ moment) }
-    ensures cause { IfErr result (λ told. (told ≡ BadWords.Near) × IsNoReference moment) }
+    ensures cause { IfErr result (λ told. (told ≡ cause) × IsNoReference moment) }
 {
     match moment {
-        Some(moment) => Ok(Some(reference_said(moment)?)),
+        Some(moment) => Ok(Some(reference_said(moment, cause)?)),
         None => Ok(None),
     }
 }

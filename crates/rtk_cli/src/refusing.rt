@@ -31,30 +31,6 @@ fn print_clap_text<R: Print + Eprint>(rt: &R, text: &str, status: u8) -> u8
     }
 }
 
-// How an option of `auto` is written whose fault line is this; nothing of other options.
-fn form_of_option(line: &str) -> &'static str {
-    match line {
-        "bad --near" => {
-            " --near takes YYYY-MM-DDTHH:MM:SS (GPS), from 1980-01-13T00:00:00 to 2099-12-31T23:59:59\n"
-        }
-        "bad --made" => {
-            " --made takes YYYY-MM-DDTHH:MM:SS (UTC), from 1980-01-06T00:00:00 to 2100-12-31T23:59:59\n"
-        }
-        _ => "",
-    }
-}
-
-// Says why words are refused; if they are of `auto`, also how a time is written.
-fn refuse_with_form<R: Eprint>(rt: &R, is_auto: bool, line: &str) -> u8
-    ensures { result ≡ REFUSED }
-{
-    let status = refuse(rt, line);
-    if is_auto {
-        let _printed = eprint!(rt; "{}", form_of_option(line));
-    }
-    status
-}
-
 // Prints the line that follows a fault line, if one does.
 fn print_more<R: Eprint>(rt: &R, more: Option<&str>) {
     if let Some(more) = more {
@@ -62,14 +38,14 @@ fn print_more<R: Eprint>(rt: &R, more: Option<&str>) {
     }
 }
 
-/// Says why words give no job; `is_auto` if they are of the command `auto`.
-pub(crate) fn refuse_words<R: Print + Eprint>(rt: &R, is_auto: bool, fault: WordsFault) -> u8
+/// Says why words give no job.
+pub(crate) fn refuse_words<R: Print + Eprint>(rt: &R, fault: WordsFault) -> u8
     ensures { result ≤ REFUSED }
 {
     match fault {
         WordsFault::Clap { text, status } => print_clap_text(rt, text.as_str(), status),
         WordsFault::Bad { line, more } => {
-            let status = refuse_with_form(rt, is_auto, line);
+            let status = refuse(rt, line);
             print_more(rt, more);
             status
         }

@@ -61,14 +61,6 @@ fn run_job<R: Env + Clock + Files + Input + Print + Eprint + AllocGlobal, W: Wri
     }
 }
 
-// Are these the words of `auto`?
-fn is_auto(words: &[&str]) -> bool {
-    match words.first() {
-        Some(command) => *command == "auto",
-        None => false,
-    }
-}
-
 fn run_words<R: Env + Clock + Files + Input + Print + Eprint + AllocGlobal, W: Write + Drop>(
     rt: &R,
     report: W,
@@ -78,7 +70,7 @@ fn run_words<R: Env + Clock + Files + Input + Print + Eprint + AllocGlobal, W: W
 {
     match job(rt.alloc(), words) {
         Ok(job) => run_job(rt, report, job),
-        Err(fault) => refuse_words(rt, is_auto(words), fault),
+        Err(fault) => refuse_words(rt, fault),
     }
 }
 

@@ -14,6 +14,14 @@ use rtk_rinex::CreationTime;
 use rtk_setup::SystemKinds;
 use std::alloc::AllocError;
 
+// How `--near` is written.
+const FORM_OF_NEAR: &str =
+    " --near takes YYYY-MM-DDTHH:MM:SS (GPS), from 1980-01-13T00:00:00 to 2099-12-31T23:59:59";
+
+// How `--made` is written.
+const FORM_OF_MADE: &str =
+    " --made takes YYYY-MM-DDTHH:MM:SS (UTC), from 1980-01-06T00:00:00 to 2100-12-31T23:59:59";
+
 /// What the words of `auto` say.
 #[derive(Drop)]
 pub struct AutoWords<'a> {
@@ -101,8 +109,12 @@ pub(crate) enum BadWords {
     /// The reference is written in another form, or there is no such moment, or times can't be
     /// dated near it.
     Near,
+    /// The same in words of `auto`, which says in a second line how the time is written.
+    NearOfAuto,
     /// The time of making is written in another form, or there is no such moment.
     Made,
+    /// The same in words of `auto`, with a second line too.
+    MadeOfAuto,
     /// A name is no observation code. Or, once the marker is known to be good: a code stands twice.
     Codes,
     /// A name of three characters begins with the letter of this system, and is no observation code.
@@ -148,8 +160,8 @@ impl BadWords {
         ensures { result.now ≡ fault_line self }
     {
         match self {
-            BadWords::Near => "bad --near",
-            BadWords::Made => "bad --made",
+            BadWords::Near | BadWords::NearOfAuto => "bad --near",
+            BadWords::Made | BadWords::MadeOfAuto => "bad --made",
             BadWords::Codes | BadWords::CodeOfSystem(_) | BadWords::CodeOfGps(_) => "bad --codes",
             BadWords::Marker => "bad --marker",
             BadWords::Channels => "bad --channels",
@@ -182,6 +194,8 @@ impl BadWords {
         ensures { option_map (λ line. line.now) result ≡ second_line self }
     {
         match self {
+            BadWords::NearOfAuto => Some(FORM_OF_NEAR),
+            BadWords::MadeOfAuto => Some(FORM_OF_MADE),
             BadWords::CodeOfSystem(system) => Some(codes_line(system)),
             BadWords::CodeOfGps(code) => Some(short_code_line(code)),
             _ => None,

@@ -89,7 +89,7 @@ pub use joined::Joined;
 pub use kept_part::KeptPart;
 pub use labelling::Labelling;
 pub use later::{Later, LaterFile};
-pub use links::{Link, OpenFault, fail_to_open_links, has_standard_input, open_links};
+pub use links::{Link, OpenFault, fail_to_open_links, has_standard_input, open_links, read_ahead};
 pub use payload_line::show_line;
 pub use present_time::{PresentFault, PresentTime, present};
 pub use quiet::Quiet;

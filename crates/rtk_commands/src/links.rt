@@ -46,8 +46,8 @@ impl<T: Drop> From<AllocFailed<T>> for OpenFault<'_> {
     }
 }
 
-// A reader that is read ahead. If memory is refused the reader is let go.
-fn read_ahead<R: Read + Drop>(alloc: Global, reader: R) -> Result<BufReader<R>, ToolFault>
+/// A reader that is read ahead. If memory is refused the reader is let go.
+pub fn read_ahead<R: Read + Drop>(alloc: Global, reader: R) -> Result<BufReader<R>, ToolFault>
     ensures bytes { IfOk result (λ link. ⟦<BufReader<R> as Read>⟧.remaining link ≡ R.remaining reader) }
     ensures at_once { IfOk result (λ link. reader_capacity link ≡ read_at_once) }
     ensures fault { IfErr result (λ fault. fault ≡ OutOfMemory) }

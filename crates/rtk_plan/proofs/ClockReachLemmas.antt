@@ -13,7 +13,7 @@ use Rattle.rtk_plan.specs.declared.clock_reach.TakenClocks.{TakenClocks}
 
 pub far-clocks : (ss : List CaptureSurvey) (given : Option ℕ) (station : ℕ) (s : SetupView) (first n : ℕ) (placed : List (Option Placed)) (span : DatedSpan) (way : ClockDating) (taken : TakenClocks) (near : ℕ) (ps : List (Option Placed)) (has : Bool)
     → IsNearOf given (captures_of ss station) first → ArePlaced given (captures_of ss station) placed → IsSpanOf given (captures_of ss station) station span → AreSecondsChosen s.leap_seconds first n
-    → way ≡ clock_dating given station n (middle_of span.from span.until) → taken ≡ clocks_taken s.head.listed → near ≡ s.near → ps ≡ placed
+    → way ≡ clock_dating given station n (middle_of span.from span.until) → taken ≡ clocks_taken s → near ≡ s.near → ps ≡ placed
     → has_far_clock way taken near ps ss ≡ has → HaveFarClocks ss given station s has
 far-clocks ss given station s first n placed span way taken near ps has is are spans said by_way by_taken by_near by_placed far =
     let own : ClockDating = clock_dating given station n (middle_of span.from span.until) in (
@@ -30,8 +30,8 @@ far-clocks ss given station s first n placed span way taken near ps has is are s
             said,
             sym far ∙ ap (λ (x : ClockDating). has_far_clock x taken near ps ss) by_way
                 ∙ ap (λ (x : TakenClocks). has_far_clock own x near ps ss) by_taken
-                ∙ ap (λ (x : ℕ). has_far_clock own (clocks_taken s.head.listed) x ps ss) by_near
-                ∙ ap (λ (x : List (Option Placed)). has_far_clock own (clocks_taken s.head.listed) s.near x ss) by_placed,
+                ∙ ap (λ (x : ℕ). has_far_clock own (clocks_taken s) x ps ss) by_near
+                ∙ ap (λ (x : List (Option Placed)). has_far_clock own (clocks_taken s) s.near x ss) by_placed,
           ),
         ),
       ),

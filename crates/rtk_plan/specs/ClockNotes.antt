@@ -1,5 +1,5 @@
--- The lines of captures whose clocks of GLONASS and BeiDou a person should know of: none of their dates counts, or they
--- fall (this project's rule).
+-- The lines of captures whose clocks of GLONASS and BeiDou a person should know of: none of their dates counts, they fall, or
+-- another message than those of the station tells the day of their 1012 (this project's rule).
 use Rattle.std.specs.Prelude.{ℕ, Bool, true, false, not, ◌&&◌, ◌||◌, is_some, is_none, List, [], ◌++◌, codes, Option, None, Some, if◌then◌else◌}
 use Rattle.std.specs.Borrow.{Bor}
 use Rattle.rtk_setup.specs.Setup.{SetupView}
@@ -7,8 +7,9 @@ use Rattle.rtk_survey.specs.declared.clock_spans.ClockSpan.{ClockSpan}
 use Rattle.rtk_survey.specs.declared.clock_spans.StationClocks.{StationClocks}
 use Rattle.rtk_survey.specs.declared.span.Span.{Span}
 use Rattle.rtk_survey.specs.declared.survey.CaptureSurvey.{CaptureSurvey}
+use Rattle.rtk_survey.specs.declared.tellings.Told.{Told}
 use Rattle.rtk_captures.specs.CaptureNames.{capture_name, lines_by}
-use Rattle.rtk_captures.specs.Lists.{undated_line, name_line}
+use Rattle.rtk_captures.specs.Lists.{date_line, undated_line, name_line}
 use Rattle.rtk_captures.specs.StationCaptures.{capture_of}
 use Rattle.rtk_captures.specs.declared.span_line.DateSource.{DateSource}
 use Rattle.rtk_captures.specs.declared.span_line.DateSource.TheVariants.{Words, Station, OtherStation, Ephemerides, OtherEphemerides}
@@ -20,15 +21,15 @@ abbrev pub clock_falls : Option ClockSpan → Bool
 clock_falls None = false
 clock_falls (Some k) = k.falls
 
--- a clock that is converted has messages with values; 1012 are converted or not
-abbrev pub has_taken_clock : TakenClocks → Bool → StationClocks → Bool
-has_taken_clock taken takes_1012 s =
-    (taken.glonass && (is_some s.glonass || (takes_1012 && is_some s.glonass_day))) || (taken.beidou && is_some s.beidou)
+-- a clock that is converted has messages with values
+abbrev pub has_taken_clock : TakenClocks → StationClocks → Bool
+has_taken_clock taken s =
+    (taken.glonass && is_some s.glonass) || ((taken.glonass_day && is_some s.glonass_day) || (taken.beidou && is_some s.beidou))
 
 -- such a clock tells an earlier time after a later one
-abbrev pub taken_clock_falls : TakenClocks → Bool → StationClocks → Bool
-taken_clock_falls taken takes_1012 s =
-    (taken.glonass && (clock_falls s.glonass || (takes_1012 && clock_falls s.glonass_day))) || (taken.beidou && clock_falls s.beidou)
+abbrev pub taken_clock_falls : TakenClocks → StationClocks → Bool
+taken_clock_falls taken s =
+    (taken.glonass && clock_falls s.glonass) || ((taken.glonass_day && clock_falls s.glonass_day) || (taken.beidou && clock_falls s.beidou))
 
 abbrev pub is_by_words : DateSource → Bool
 is_by_words Words = true
@@ -42,13 +43,13 @@ abbrev pub tells_no_date : DateSource → StationCapture → Bool
 tells_no_date source c = not (is_by_words source) && (is_none c.span && is_none c.moment)
 
 -- a clock that is converted has messages with values, or one of 1012 that are left out since they can't be dated
-abbrev pub has_noted_clock : TakenClocks → Bool → Bool → StationClocks → Bool
-has_noted_clock taken takes_1012 leaves_1012 s = has_taken_clock taken takes_1012 s || (leaves_1012 && is_some s.glonass_day)
+abbrev pub has_noted_clock : TakenClocks → Bool → StationClocks → Bool
+has_noted_clock taken leaves_1012 s = has_taken_clock taken s || (leaves_1012 && is_some s.glonass_day)
 
 -- such a capture has such clocks
-abbrev pub undated_clock_line : DateSource → TakenClocks → Bool → Bool → StationCapture → StationClocks → List ℕ → List ℕ
-undated_clock_line source taken takes_1012 leaves_1012 c s name =
-    if tells_no_date source c && has_noted_clock taken takes_1012 leaves_1012 s then undated_line name else []
+abbrev pub undated_clock_line : DateSource → TakenClocks → Bool → StationCapture → StationClocks → List ℕ → List ℕ
+undated_clock_line source taken leaves_1012 c s name =
+    if tells_no_date source c && has_noted_clock taken leaves_1012 s then undated_line name else []
 
 abbrev pub epochs_fall : Option Span → Bool
 epochs_fall None = false
@@ -56,19 +57,34 @@ epochs_fall (Some s) = s.falls
 
 -- formula
 -- the line of a capture whose clocks fall; if its epochs fall too, it has this line already
-abbrev pub falling_clock_line : TakenClocks → Bool → StationCapture → StationClocks → List ℕ → List ℕ
-falling_clock_line taken takes_1012 c s name =
-    if taken_clock_falls taken takes_1012 s && not (epochs_fall c.span) then name_line (codes " time-falls ") name else []
+abbrev pub falling_clock_line : TakenClocks → StationCapture → StationClocks → List ℕ → List ℕ
+falling_clock_line taken c s name =
+    if taken_clock_falls taken s && not (epochs_fall c.span) then name_line (codes " time-falls ") name else []
 
--- both lines of a capture
-unfoldable pub clock_notes : DateSource → TakenClocks → Bool → Bool → StationCapture → StationClocks → List ℕ → List ℕ
-clock_notes source taken takes_1012 leaves_1012 c s name =
-    undated_clock_line source taken takes_1012 leaves_1012 c s name ++ falling_clock_line taken takes_1012 c s name
+-- formula
+-- the moment near which the first 1012 of a capture is dated
+unfoldable pub day_line : Told → List ℕ → List ℕ
+day_line t name = codes " day-of-1012" ++ date_line t name
 
-abbrev pub clock_notes_in : ℕ → DateSource → TakenClocks → Bool → Bool → CaptureSurvey → List ℕ → List ℕ
-clock_notes_in station source taken takes_1012 leaves_1012 s name = clock_notes source taken takes_1012 leaves_1012 (capture_of station s) (clocks_in_survey station s) name
+abbrev pub day_line_if_any : Option Told → List ℕ → List ℕ
+day_line_if_any None name = []
+day_line_if_any (Some t) name = day_line t name
+
+-- a capture without an epoch names a moment, but no 1013 or 1029 of the station does, and it has a 1012 with a value, and
+-- 1012 are converted, or left out since they can't be dated. An ephemeris names the time that it is of, which may be hours off
+abbrev pub day_line_of : TakenClocks → Bool → StationCapture → StationClocks → List ℕ → List ℕ
+day_line_of taken leaves_1012 c s name =
+    if (taken.glonass_day || leaves_1012) && (is_some s.glonass_day && not c.is_own_moment) then day_line_if_any c.moment name else []
+
+-- all lines of a capture
+unfoldable pub clock_notes : DateSource → TakenClocks → Bool → StationCapture → StationClocks → List ℕ → List ℕ
+clock_notes source taken leaves_1012 c s name =
+    undated_clock_line source taken leaves_1012 c s name ++ falling_clock_line taken c s name ++ day_line_of taken leaves_1012 c s name
+
+abbrev pub clock_notes_in : ℕ → DateSource → TakenClocks → Bool → CaptureSurvey → List ℕ → List ℕ
+clock_notes_in station source taken leaves_1012 s name = clock_notes source taken leaves_1012 (capture_of station s) (clocks_in_survey station s) name
 
 -- those of all captures, by the setup of their conversion
 abbrev pub all_clock_notes : List (Bor (List ℕ)) → DateSource → Bool → SetupView → List CaptureSurvey → List ℕ
 all_clock_notes names source leaves_1012 s ss =
-    lines_by (λ at survey. clock_notes_in s.station source (clocks_taken s.head.listed) s.takes_1012 leaves_1012 survey (capture_name names at)) 0 ss
+    lines_by (λ at survey. clock_notes_in s.station source (clocks_taken s) leaves_1012 survey (capture_name names at)) 0 ss

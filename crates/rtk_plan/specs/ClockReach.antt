@@ -7,9 +7,8 @@ use Rattle.std.specs.Prelude.{ℕ, ◌+◌, ◌-◌, ◌*◌, ◌/◌, ◌%◌, 
 use Rattle.std.specs.List.{list_any}
 use Rattle.rtk_message.specs.Fields.{week_ms}
 use Rattle.rtk_message.specs.declared.system.System.TheVariants.{Glonass, Beidou}
-use Rattle.rtk_obs.specs.declared.any_code.AnyCode.{AnyCode}
 use Rattle.rtk_obs.specs.declared.time.TheConstants.{LAST_MS}
-use Rattle.rtk_setup.specs.Setup.{lists_system}
+use Rattle.rtk_setup.specs.Setup.{SetupView, lists_system}
 use Rattle.rtk_survey.specs.ClockMarks.{marks_of_epochs, opened_moment}
 use Rattle.rtk_survey.specs.ClockSpans.{clock_moment, clock_anchored, opened_span, clocks_by_station, no_station_clocks}
 use Rattle.rtk_survey.specs.Targets.{marks_if_known}
@@ -141,8 +140,12 @@ clock_placed way clock s p =
 -- ---- all captures
 
 -- the clocks of the systems that are converted
-abbrev pub clocks_taken : List AnyCode → TakenClocks
-clocks_taken listed = record { glonass = lists_system listed Glonass; beidou = lists_system listed Beidou }
+abbrev pub clocks_taken : SetupView → TakenClocks
+clocks_taken s = record {
+  glonass = lists_system s.head.listed Glonass;
+  beidou = lists_system s.head.listed Beidou;
+  glonass_day = s.takes_1012;
+}
 
 abbrev pub placed_if_taken : Bool → Option Placed → Option Placed
 placed_if_taken true p = p

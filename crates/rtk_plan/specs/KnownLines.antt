@@ -33,7 +33,7 @@ use Rattle.rtk_captures.specs.Positions.{no_position_line}
 use Rattle.rtk_plan.specs.Reported.{late_of}
 use Rattle.rtk_plan.specs.SaidCommand.{said_code}
 use Rattle.rtk_captures.specs.SpanLine.{span_line}
-use Rattle.rtk_captures.specs.StationCaptures.{dates_in, weeks_passed_over, others_passed_over, to_come_told}
+use Rattle.rtk_captures.specs.StationCaptures.{dates_in, weeks_passed_over, others_passed_over, system_weeks_passed_over, to_come_told}
 use Rattle.rtk_captures.specs.WaitingDates.{dates_without_epoch}
 use Rattle.rtk_plan.specs.OtherEquipment.{equipment_notes}
 use Rattle.rtk_systems.specs.ToldChannels.{told_channel_lines}
@@ -71,7 +71,7 @@ is_full ts = nat_le 16 (length ts)
 
 -- of the messages that date, and of those whose dates are told beside them
 abbrev pub may_have_more : Tellings → Bool
-may_have_more t = (is_full (counting t) || is_full t.weeks.items) || is_full t.others.items
+may_have_more t = (is_full (counting t) || is_full t.weeks.items) || (is_full t.others.items || is_full t.system_weeks.items)
 
 -- formula
 abbrev pub more_dates_line : List ℕ → Tellings → List ℕ
@@ -82,7 +82,7 @@ more_dates_line name t = if may_have_more t then name_line (codes " more-dates i
 unfoldable pub other_dates : ℕ → Span → List ℕ → Tellings → List ℕ
 other_dates near s name t =
     other_date_lines near s name (counting t) ++ other_date_lines near s name (weeks_passed_over t) ++ other_date_lines near s name (others_passed_over t)
-    ++ more_dates_line name t
+    ++ other_date_lines near s name (system_weeks_passed_over t) ++ more_dates_line name t
 
 abbrev pub other_dates_if_any : ℕ → List ℕ → Tellings → Option Span → List ℕ
 other_dates_if_any near name t None = []

@@ -136,7 +136,7 @@ HaveFarClocks ss given station s has =
     × ((placed : List (Option Placed)) × ArePlaced given (captures_of ss station) placed
     × ((span : DatedSpan) × IsSpanOf given (captures_of ss station) station span
     × ((n : ℕ) × AreSecondsChosen s.leap_seconds first n
-    × (has ≡ has_far_clock (clock_dating given station n (middle_of span.from span.until)) (clocks_taken s.head.listed) s.near placed ss))))
+    × (has ≡ has_far_clock (clock_dating given station n (middle_of span.from span.until)) (clocks_taken s) s.near placed ss))))
 
 -- ---- all of it
 

@@ -12,7 +12,7 @@ use crate::planning::Plan;
 use rtk_captures::{
     Captures, DateSource, StationCapture, dates_without_epoch, is_station, others_passed_over,
     put_capture_line, put_date_line, put_far_date, put_name_line, put_stray_line, put_to_come_line,
-    put_undated_line, to_come_told, weeks_passed_over,
+    put_undated_line, system_weeks_passed_over, to_come_told, weeks_passed_over,
 };
 use rtk_message::put_named;
 use rtk_obs::GpsMs;
@@ -75,7 +75,8 @@ fn is_full(told: &[Told]) -> bool
 fn may_have_more(told: &Tellings) -> bool
     ensures { result ≡ spec.may_have_more told.now }
 {
-    is_full(told.counting()) || is_full(told.weeks.as_slice()) || is_full(told.others.as_slice())
+    (is_full(told.counting()) || is_full(told.weeks.as_slice()))
+        || (is_full(told.others.as_slice()) || is_full(told.system_weeks.as_slice()))
 }
 
 // Appends a line if so many dates are kept of a capture that others may have been told.
@@ -90,7 +91,7 @@ fn put_more_dates(lines: &mut Vec<u8>, name: &str, told: &Tellings) -> Result<()
 }
 
 // Appends the dates that messages told of these epochs, if they tell another first one than the conversion gives: those
-// by the messages that date, and those by 1019 and by other stations beside them; and that there may be others.
+// by the messages that date, and those by ephemerides and by other stations beside them; and that there may be others.
 fn put_tellings(
     lines: &mut Vec<u8>,
     near: GpsMs,
@@ -103,6 +104,7 @@ fn put_tellings(
     put_those_of(lines, near, span, name, told.counting())?;
     put_those_of(lines, near, span, name, weeks_passed_over(told))?;
     put_those_of(lines, near, span, name, others_passed_over(told))?;
+    put_those_of(lines, near, span, name, system_weeks_passed_over(told))?;
     put_more_dates(lines, name, told)?;
     Ok(())
 }

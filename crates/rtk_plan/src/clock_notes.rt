@@ -1,5 +1,5 @@
-//! The lines of captures whose clocks of GLONASS and BeiDou a person should know of: none of their dates counts, or they
-//! fall.
+//! The lines of captures whose clocks of GLONASS and BeiDou a person should know of: none of their dates counts, they fall,
+//! or another message than those of the station tells the day of their 1012.
 //!
 //! If memory is refused, a first part of what is put may stand there.
 
@@ -10,9 +10,10 @@ ghost use Rattle.rtk_plan.specs.ClockReach.{clocks_taken};
 use crate::clock_reach::{TakenClocks, clocks_in_survey, clocks_taken};
 use crate::planning::Plan;
 use rtk_captures::{
-    Captures, DateSource, StationCapture, capture_of, put_name_line, put_undated_line,
+    Captures, DateSource, StationCapture, capture_of, put_date_line, put_name_line,
+    put_undated_line,
 };
-use rtk_survey::{CaptureSurvey, ClockSpan, Span, StationClocks};
+use rtk_survey::{CaptureSurvey, ClockSpan, Span, StationClocks, Told};
 use std::alloc::AllocError;
 
 fn clock_falls(known: &Option<ClockSpan>) -> bool
@@ -25,20 +26,21 @@ fn clock_falls(known: &Option<ClockSpan>) -> bool
 }
 
 // Has a clock that is converted messages with values?
-fn has_taken_clock(taken: TakenClocks, takes_1012: bool, clocks: &StationClocks) -> bool
-    ensures { result ≡ spec.has_taken_clock taken takes_1012 clocks.now }
+fn has_taken_clock(taken: TakenClocks, clocks: &StationClocks) -> bool
+    ensures { result ≡ spec.has_taken_clock taken clocks.now }
 {
-    (taken.glonass && (clocks.glonass.is_some() || (takes_1012 && clocks.glonass_day.is_some())))
-        || (taken.beidou && clocks.beidou.is_some())
+    (taken.glonass && clocks.glonass.is_some())
+        || ((taken.glonass_day && clocks.glonass_day.is_some())
+            || (taken.beidou && clocks.beidou.is_some()))
 }
 
 // Does such a clock tell an earlier time after a later one?
-fn taken_clock_falls(taken: TakenClocks, takes_1012: bool, clocks: &StationClocks) -> bool
-    ensures { result ≡ spec.taken_clock_falls taken takes_1012 clocks.now }
+fn taken_clock_falls(taken: TakenClocks, clocks: &StationClocks) -> bool
+    ensures { result ≡ spec.taken_clock_falls taken clocks.now }
 {
-    (taken.glonass
-        && (clock_falls(&clocks.glonass) || (takes_1012 && clock_falls(&clocks.glonass_day))))
-        || (taken.beidou && clock_falls(&clocks.beidou))
+    (taken.glonass && clock_falls(&clocks.glonass))
+        || ((taken.glonass_day && clock_falls(&clocks.glonass_day))
+            || (taken.beidou && clock_falls(&clocks.beidou)))
 }
 
 fn is_by_words(source: DateSource) -> bool
@@ -70,15 +72,10 @@ fn epochs_fall(epochs: &Option<Span>) -> bool
 }
 
 // Has such a clock messages with values, or one of 1012 that are left out since they can't be dated?
-fn has_noted_clock(
-    taken: TakenClocks,
-    takes_1012: bool,
-    leaves_1012: bool,
-    clocks: &StationClocks,
-) -> bool
-    ensures { result ≡ spec.has_noted_clock taken takes_1012 leaves_1012 clocks.now }
+fn has_noted_clock(taken: TakenClocks, leaves_1012: bool, clocks: &StationClocks) -> bool
+    ensures { result ≡ spec.has_noted_clock taken leaves_1012 clocks.now }
 {
-    has_taken_clock(taken, takes_1012, clocks) || (leaves_1012 && clocks.glonass_day.is_some())
+    has_taken_clock(taken, clocks) || (leaves_1012 && clocks.glonass_day.is_some())
 }
 
 // Appends the line of such a capture, if it has such clocks.
@@ -86,16 +83,15 @@ fn put_undated_clock(
     lines: &mut Vec<u8>,
     source: DateSource,
     taken: TakenClocks,
-    takes_1012: bool,
     leaves_1012: bool,
     capture: &StationCapture,
     clocks: &StationClocks,
     name: &str,
 ) -> Result<(), AllocError>
     ensures { OnOk result (lines.new.items ≡ lines.old.items
-        ++ spec.undated_clock_line source taken takes_1012 leaves_1012 capture.now clocks.now name.now) }
+        ++ spec.undated_clock_line source taken leaves_1012 capture.now clocks.now name.now) }
 {
-    if tells_no_date(source, capture) && has_noted_clock(taken, takes_1012, leaves_1012, clocks) {
+    if tells_no_date(source, capture) && has_noted_clock(taken, leaves_1012, clocks) {
         put_undated_line(lines, name)
     } else {
         Ok(())
@@ -106,45 +102,75 @@ fn put_undated_clock(
 fn put_falling_clock(
     lines: &mut Vec<u8>,
     taken: TakenClocks,
-    takes_1012: bool,
     capture: &StationCapture,
     clocks: &StationClocks,
     name: &str,
 ) -> Result<(), AllocError>
     ensures { OnOk result (lines.new.items ≡ lines.old.items
-        ++ spec.falling_clock_line taken takes_1012 capture.now clocks.now name.now) }
+        ++ spec.falling_clock_line taken capture.now clocks.now name.now) }
 {
-    if taken_clock_falls(taken, takes_1012, clocks) && !epochs_fall(&capture.span) {
+    if taken_clock_falls(taken, clocks) && !epochs_fall(&capture.span) {
         put_name_line(lines, b" time-falls ", name)
     } else {
         Ok(())
     }
 }
 
-// Appends both lines of a capture.
-fn put_clock_notes(
+// Appends the moment near which the first 1012 of a capture is dated.
+fn put_day(lines: &mut Vec<u8>, told: &Told, name: &str) -> Result<(), AllocError>
+    ensures { OnOk result (lines.new.items ≡ lines.old.items ++ spec.day_line told.now name.now) }
+{
+    lines.extend_from_slice(b" day-of-1012")?;
+    put_date_line(lines, told, name)?;
+    Ok(())
+}
+
+fn put_day_if_any(lines: &mut Vec<u8>, told: &Option<Told>, name: &str) -> Result<(), AllocError>
+    ensures { OnOk result (lines.new.items ≡ lines.old.items ++ spec.day_line_if_any told.now name.now) }
+{
+    match told {
+        Some(told) => put_day(lines, told, name),
+        None => Ok(()),
+    }
+}
+
+// Appends that moment, if a capture has 1012 and another message than a 1013 or a 1029 of the station names it: an ephemeris
+// names the time that it is of, which may be hours off.
+fn put_day_of(
     lines: &mut Vec<u8>,
-    source: DateSource,
     taken: TakenClocks,
-    takes_1012: bool,
     leaves_1012: bool,
     capture: &StationCapture,
     clocks: &StationClocks,
     name: &str,
 ) -> Result<(), AllocError>
-    ensures { OnOk result (lines.new.items ≡ lines.old.items ++ spec.clock_notes source taken takes_1012 leaves_1012 capture.now clocks.now name.now) }
+    ensures { OnOk result (lines.new.items ≡ lines.old.items
+        ++ spec.day_line_of taken leaves_1012 capture.now clocks.now name.now) }
 {
-    put_undated_clock(
-        lines,
-        source,
-        taken,
-        takes_1012,
-        leaves_1012,
-        capture,
-        clocks,
-        name,
-    )?;
-    put_falling_clock(lines, taken, takes_1012, capture, clocks, name)?;
+    if (taken.glonass_day || leaves_1012)
+        && (clocks.glonass_day.is_some() && !capture.is_own_moment)
+    {
+        put_day_if_any(lines, &capture.moment, name)
+    } else {
+        Ok(())
+    }
+}
+
+// Appends all lines of a capture.
+fn put_clock_notes(
+    lines: &mut Vec<u8>,
+    source: DateSource,
+    taken: TakenClocks,
+    leaves_1012: bool,
+    capture: &StationCapture,
+    clocks: &StationClocks,
+    name: &str,
+) -> Result<(), AllocError>
+    ensures { OnOk result (lines.new.items ≡ lines.old.items ++ spec.clock_notes source taken leaves_1012 capture.now clocks.now name.now) }
+{
+    put_undated_clock(lines, source, taken, leaves_1012, capture, clocks, name)?;
+    put_falling_clock(lines, taken, capture, clocks, name)?;
+    put_day_of(lines, taken, leaves_1012, capture, clocks, name)?;
     Ok(())
 }
 
@@ -156,7 +182,7 @@ fn put_clock_notes_in(
     name: &str,
 ) -> Result<(), AllocError>
     ensures { OnOk result (lines.new.items ≡ lines.old.items
-        ++ spec.clock_notes_in plan.now.setup.station plan.now.span.source (clocks_taken plan.now.setup.head.listed) plan.now.setup.takes_1012 leaves_1012 survey.now name.now) }
+        ++ spec.clock_notes_in plan.now.setup.station plan.now.span.source (clocks_taken plan.now.setup) leaves_1012 survey.now name.now) }
 {
     let setup = &plan.setup;
     let station = setup.station();
@@ -164,16 +190,7 @@ fn put_clock_notes_in(
     let clocks = clocks_in_survey(station, survey);
     let taken = clocks_taken(setup);
     let source = plan.span.source;
-    put_clock_notes(
-        lines,
-        source,
-        taken,
-        setup.takes_1012(),
-        leaves_1012,
-        &capture,
-        &clocks,
-        name,
-    )
+    put_clock_notes(lines, source, taken, leaves_1012, &capture, &clocks, name)
 }
 
 /// Appends the lines of all captures; 1012 may be left out since they can't be dated.

@@ -41,6 +41,8 @@ pub struct ClockDating {
 pub struct TakenClocks {
     pub glonass: bool,
     pub beidou: bool,
+    /// That of 1012, which tell no day.
+    pub glonass_day: bool,
 }
 
 // ---- the clocks of a station
@@ -403,11 +405,12 @@ fn is_one_far(near: GpsMs, placed: &[Option<Placed>]) -> bool
 
 /// The clocks that a setup converts.
 pub(crate) fn clocks_taken(setup: &Setup) -> TakenClocks
-    ensures { result ≡ spec.clocks_taken setup.now.head.listed }
+    ensures { result ≡ spec.clocks_taken setup.now }
 {
     TakenClocks {
         glonass: setup.lists(System::Glonass),
         beidou: setup.lists(System::Beidou),
+        glonass_day: setup.takes_1012(),
     }
 }
 

@@ -1,5 +1,5 @@
 -- The fields of a reading fit their columns.
-use Rattle.std.proofs.Common.{◌≡◌, ℕ, ◌/◌, ◌<◌, ◌≤◌, arith, pos}
+use Rattle.std.proofs.Common.{ℕ, ◌/◌, ◌<◌, arith, pos}
 use Rattle.jiff_core.proofs.CalendarLemmas.{days_in_month_bounds}
 use Rattle.rtk_obs.specs.declared.time.Civil.{Civil}
 use Rattle.rtk_obs.specs.Reading.{IsMoment, reading_of}

@@ -1,5 +1,6 @@
 pub mod AlikeLemmas
 pub mod BitLemmas
+pub mod BitMarkLemmas
 pub mod ChannelLemmas
 pub mod ChannelLineLemmas
 pub mod ClockSpanLemmas
@@ -13,7 +14,7 @@ pub mod FrameLemmas
 pub mod FramePlaceLemmas
 pub mod FreshLemmas
 pub mod HeadLemmas
-pub mod LeapLemmas
+mod LeapLemmas
 pub mod LineLemmas
 pub mod LineTellingLemmas
 pub mod ListLemmas

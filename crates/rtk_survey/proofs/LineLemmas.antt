@@ -25,6 +25,7 @@ use Rattle.rtk_survey.specs.Steps.OtherSystems.{glonass_held, taken_held, clocke
 use Rattle.rtk_survey.specs.Summary.{all_numbers, epochs_beside, taken_beside, glonass_beside, systems_clocked, station_lines}
 use Rattle.rtk_survey.specs.SummaryText.{look_line, number_line, numbered_line, message_numbers, message_lines, system_epoch_lines, channel_line, list_line, time_lines, near_text, untaken_numbers, listed_satellite, satellites_text, listed_index, indices_text, joined_names, joined_texts, all_codes_text, words_text, auto_line, next_lines, signal_lines}
 use Rattle.std.specs.BTreeMap.{BTreeMap}
+use Rattle.rtk_survey.specs.BitMarks.{is_marked_in}
 use Rattle.rtk_survey.specs.Contents.{count_at, HasCodes, HasSignals, HasSystemSignals, HasSystems, IsStationOf, HasMsms, equipment_at, epochs_held, codes_held, times_of}
 use Rattle.rtk_survey.specs.Steps.Tables.{counts_text, untaken_text, look_lines, messages_held, system_epochs_held, place_is_counted}
 use Rattle.rtk_survey.specs.Tracing.{is_numbered, entries_in, has_satellite, has_code, times_of_week}
@@ -152,7 +153,7 @@ any-code-passed marked text separator i d whole within marks so_far =
     ap (λ cs. text ++ joined_texts separator cs) (sym first) ∙ so_far
 
 pub all-codes-are : (c : Codes) (s : SystemSignals) (ms : List AnyMessage) → HasCodes c (entries_in ms) → HasSystemSignals s (cells_beside ms)
-    → all_codes_text (λ code. get_or c.marks (place_of code) false) (λ code. get_or s.codes (number_of code) false) ≡ all_codes_text (has_code (entries_in ms)) (has_any_code (cells_beside ms))
+    → all_codes_text (λ code. get_or c.marks (place_of code) false) (λ code. is_marked_in s.codes.words (number_of code)) ≡ all_codes_text (has_code (entries_in ms)) (has_any_code (cells_beside ms))
 all-codes-are c s ms has others =
     ap (λ (t : Code → Bool). all_codes_text t (any_codes_held s)) (codes-marked c (entries_in ms) has)
     ∙ ap (λ (t : AnyCode → Bool). all_codes_text (has_code (entries_in ms)) t) (any-codes-marked s (cells_beside ms) others)
@@ -161,22 +162,22 @@ satellites-agree : (s t : ℕ → Bool) → ((n : ℕ) → n < 33 → s n ≡ t 
 unfolding satellites_text
 satellites-agree s t agree = lines-agree (listed_satellite s) (listed_satellite t) 1 32 (λ k lt. ap (λ b. cond b (32 ∷ 71 ∷ (48 + k / 10) ∷ (48 + k % 10) ∷ []) []) (agree k lt))
 
-indices-agree : (s t : ℕ → Bool) → ((n : ℕ) → n < 222 → s n ≡ t n) → indices_text s ≡ indices_text t
+indices-agree : (s t : ℕ → Bool) → ((n : ℕ) → s n ≡ t n) → indices_text s ≡ indices_text t
 unfolding indices_text
 indices-agree s t agree =
-    lines-agree (listed_index s) (listed_index t) 33 189 (λ k lt. let within : k < 222 = omega (arith, lt) in ap (λ b. cond b (32 ∷ index_name k) []) (agree k within))
+    lines-agree (listed_index s) (listed_index t) 33 189 (λ k lt. ap (λ b. cond b (32 ∷ index_name k) []) (agree k))
 
 pub signals-are : (s : Signals) (o : SystemSignals) (ms : List AnyMessage) → HasSignals s (entries_in ms) → HasSystemSignals o (cells_beside ms)
-    → signal_lines (λ n. get_or s.satellites n false) (λ c. get_or s.codes.marks (place_of c) false) (λ n. get_or o.satellites n false) (λ c. get_or o.codes (number_of c) false)
+    → signal_lines (λ n. get_or s.satellites n false) (λ c. get_or s.codes.marks (place_of c) false) (λ n. is_marked_in o.satellites.words n) (λ c. is_marked_in o.codes.words (number_of c))
     ≡ signal_lines (has_satellite (entries_in ms)) (has_code (entries_in ms)) (has_index (cells_beside ms)) (has_any_code (cells_beside ms))
 unfolding signal_lines
 signals-are s o ms stands others =
     let marked : ℕ → Bool = λ n. get_or s.satellites n false in
-    let indexed : ℕ → Bool = λ n. get_or o.satellites n false in
+    let indexed : ℕ → Bool = λ n. is_marked_in o.satellites.words n in
     let es = entries_in ms in
     let cs = cells_beside ms in
     let a : satellites_text marked ≡ satellites_text (has_satellite es) = satellites-agree marked (has_satellite es) (λ n lt. stands.satellites n (let size = stands.satellites_size in omega (arith, lt, size))) in
-    let b : indices_text indexed ≡ indices_text (has_index cs) = indices-agree indexed (has_index cs) (λ n lt. others.satellites n (let size = others.satellites_size in omega (arith, lt, size))) in
+    let b : indices_text indexed ≡ indices_text (has_index cs) = indices-agree indexed (has_index cs) others.satellites in
     let lines : List ℕ → List ℕ → List ℕ = λ sats codes_of. list_line (codes " satellites") sats ++ list_line (codes " codes") codes_of in
     let coded : List ℕ = all_codes_text (λ c. get_or s.codes.marks (place_of c) false) (any_codes_held o) in
     ap (λ (t : List ℕ). lines (t ++ indices_text indexed) coded) a
@@ -184,7 +185,7 @@ signals-are s o ms stands others =
     ∙ ap (λ (t : List ℕ). lines (satellites_text (has_satellite es) ++ indices_text (has_index cs)) t) (all-codes-are s.codes o ms stands.codes others)
 
 sent-are : (c : Codes) (s : SystemSignals) (ms : List AnyMessage) → HasCodes c (entries_in ms) → HasSystemSignals s (cells_beside ms)
-    → systems_sent (λ code. get_or c.marks (place_of code) false) (λ code. get_or s.codes (number_of code) false) ≡ systems_sent (has_code (entries_in ms)) (has_any_code (cells_beside ms))
+    → systems_sent (λ code. get_or c.marks (place_of code) false) (λ code. is_marked_in s.codes.words (number_of code)) ≡ systems_sent (has_code (entries_in ms)) (has_any_code (cells_beside ms))
 sent-are c s ms has others =
     ap (λ (t : Code → Bool). systems_sent t (any_codes_held s)) (codes-marked c (entries_in ms) has)
     ∙ ap (λ (t : AnyCode → Bool). systems_sent (has_code (entries_in ms)) t) (any-codes-marked s (cells_beside ms) others)
@@ -239,7 +240,7 @@ lines_held name number s d e times =
     ++ message_lines (messages_held s)
     ++ time_lines times
     ++ told_lines d e
-    ++ signal_lines (λ n. get_or s.signals.satellites n false) (λ c. get_or s.signals.codes.marks (place_of c) false) (λ n. get_or s.system_signals.satellites n false) (λ c. get_or s.system_signals.codes (number_of c) false)
+    ++ signal_lines (λ n. get_or s.signals.satellites n false) (λ c. get_or s.signals.codes.marks (place_of c) false) (λ n. is_marked_in s.system_signals.satellites.words n) (λ c. is_marked_in s.system_signals.codes.words (number_of c))
     ++ system_epoch_lines (system_epochs_held s)
     ++ channel_line (place_is_counted s.channels)
     ++ all_clock_lines (proposed_date d) (clocked_held s) (clocks_at s.clocks).offsets
@@ -265,7 +266,7 @@ station-lines-are name number s d e ms stands =
     let signals : List ℕ = signal_lines (has_satellite (entries_in ms)) (has_code (entries_in ms)) (has_index (cells_beside ms)) (has_any_code (cells_beside ms)) in
     let proposal : List ℕ = station_proposal name near number (λ kind. epochs_with_value kind ms) (λ kind. has_code (entries_with kind ms)) (epochs_beside ms) (taken_beside (proposed_date d) ms) (glonass_beside (proposed_date d) ms) in
     let messages' : List ℕ = message_lines (messages_held s) in
-    let signals' : List ℕ = signal_lines (λ n. get_or s.signals.satellites n false) (λ c. get_or s.signals.codes.marks (place_of c) false) (λ n. get_or s.system_signals.satellites n false) (λ c. get_or s.system_signals.codes (number_of c) false) in
+    let signals' : List ℕ = signal_lines (λ n. get_or s.signals.satellites n false) (λ c. get_or s.signals.codes.marks (place_of c) false) (λ n. is_marked_in s.system_signals.satellites.words n) (λ c. is_marked_in s.system_signals.codes.words (number_of c)) in
     let channels : List ℕ = channel_line (place_is_told ms) in
     let date = proposed_date d in
     let sent : SystemsSent = systems_clocked ms in

@@ -49,18 +49,18 @@ taken-is date s ms has clocks times =
 
 -- ---- channels
 
-slot-of-part : (o : Option SystemMsm) (own : List AnyMessage) (slot : ℕ) → slot < 28 → IsMsmKept own o → slot_in_part o slot ≡ has_index (cells_beside own) (32 + slot)
-slot-of-part None own slot within nothing = ap (λ (ms : List AnyMessage). has_index (cells_beside ms) (32 + slot)) (sym nothing)
-slot-of-part (Some p) own slot within is = is.signals.satellites (32 + slot) (let size = is.signals.satellites_size in omega (arith, within, size))
+slot-of-part : (o : Option SystemMsm) (own : List AnyMessage) (slot : ℕ) → IsMsmKept own o → slot_in_part o slot ≡ has_index (cells_beside own) (32 + slot)
+slot-of-part None own slot nothing = ap (λ (ms : List AnyMessage). has_index (cells_beside ms) (32 + slot)) (sym nothing)
+slot-of-part (Some p) own slot is = is.signals.satellites (32 + slot)
 
-slot-is : (s : StationSurvey) (ms : List AnyMessage) (slot n : ℕ) → slot < 28 → HasSystems s.system_msm ms → slot_held s slot n ≡ slot_numbered ms slot n
-slot-is s ms slot n within has = slot-of-part (get nat_cmp s.system_msm n) (messages_beside n ms) slot within (has n)
+slot-is : (s : StationSurvey) (ms : List AnyMessage) (slot n : ℕ) → HasSystems s.system_msm ms → slot_held s slot n ≡ slot_numbered ms slot n
+slot-is s ms slot n has = slot-of-part (get nat_cmp s.system_msm n) (messages_beside n ms) slot (has n)
 
-slots-are : (legacy : Bool) (s : StationSurvey) (ms : List AnyMessage) (slot : ℕ) → slot < 28 → HasSystems s.system_msm ms → slots_held legacy s slot ≡ slots_beside legacy ms slot
-slots-are legacy s ms slot within has =
+slots-are : (legacy : Bool) (s : StationSurvey) (ms : List AnyMessage) (slot : ℕ) → HasSystems s.system_msm ms → slots_held legacy s slot ≡ slots_beside legacy ms slot
+slots-are legacy s ms slot has =
     ap (λ (e : ℕ → ℕ). slot_held s slot (number_by e Glonass) || (legacy && slot_held s slot 1012)) (epochs-beside-are s ms has)
-    ∙ ap (λ (b : Bool). b || (legacy && slot_held s slot 1012)) (slot-is s ms slot (number_by (epochs_beside ms) Glonass) within has)
-    ∙ ap (λ (b : Bool). slot_numbered ms slot (number_by (epochs_beside ms) Glonass) || (legacy && b)) (slot-is s ms slot 1012 within has)
+    ∙ ap (λ (b : Bool). b || (legacy && slot_held s slot 1012)) (slot-is s ms slot (number_by (epochs_beside ms) Glonass) has)
+    ∙ ap (λ (b : Bool). slot_numbered ms slot (number_by (epochs_beside ms) Glonass) || (legacy && b)) (slot-is s ms slot 1012 has)
 
 same-some : (a b : ℕ) → Some a ≡ Some b → a ≡ b
 same-some a b same = cc
@@ -116,7 +116,7 @@ items-are legacy s ms has counts =
     items-agree (slot_item (slots_held legacy s) (fields_held s)) (slot_item (slots_beside legacy ms) (fields_told ms)) 1 27
     (λ slot from lt.
     let within : slot < 28 = omega (arith, lt) in
-    item-agree (slots_held legacy s) (slots_beside legacy ms) (fields_held s) (fields_told ms) slot (slots-are legacy s ms slot within has)
+    item-agree (slots_held legacy s) (slots_beside legacy ms) (fields_held s) (fields_told ms) slot (slots-are legacy s ms slot has)
     (λ field few. counts slot field (record { first = from; last = within; few = omega (arith, few) })))
 
 -- the options of GLONASS by what is held are those by the messages

@@ -15,8 +15,8 @@ use Rattle.rtk_message.specs.AnyDecoded.{number_of}
 use Rattle.rtk_obs.specs.declared.any_code.AnyCode.{AnyCode}
 use Rattle.rtk_obs.specs.declared.signal_cells.SignalEntry.{SignalEntry}
 use Rattle.rtk_obs.specs.AnyCode as any_code
-use Rattle.rtk_obs.proofs.PublicLaws.{number_below}
 use Rattle.rtk_survey.specs.BesideGps.{is_beside_numbered, has_part_beside, is_part_numbered, messages_beside, gives_index, gives_number, has_any_code, told_time_of, gives_value_beside, times_beside}
+use Rattle.rtk_survey.specs.BitMarks.{is_marked_in}
 use Rattle.rtk_survey.specs.Contents.{count_at, CountsBeside, CountsMessages, HasMsms, HasSystemSignals, HasSystemMsm, IsMsmKept, HasSystems, messages_of_msm, epochs_of_msm}
 use Rattle.rtk_survey.specs.Steps.Tables.{messages_held, system_epochs_held}
 use Rattle.rtk_survey.specs.Counting.{shown_count, count_of}
@@ -37,19 +37,16 @@ use Rattle.rtk_survey.proofs.TallyLemmas.{tally-more, tally-same}
 pub signals-more : (s : SystemSignals) (xs es : List SignalEntry) (i : ℕ) (d : SignalEntry) → i < length xs
     → HasSystemSignals s (get_or xs i d ∷ (take i xs ++ es)) → HasSystemSignals s (take (i + 1) xs ++ es)
 signals-more s xs es i d within stands = record {
-  satellites_size = stands.satellites_size;
-  satellites = λ n lt. stands.satellites n lt ∙ sym (any-more (gives_index n) xs es i d within);
-  codes_size = stands.codes_size;
-  codes = λ n lt. stands.codes n lt ∙ sym (any-more (gives_number n) xs es i d within);
+  satellites = λ n. stands.satellites n ∙ sym (any-more (gives_index n) xs es i d within);
+  codes = λ n. stands.codes n ∙ sym (any-more (gives_number n) xs es i d within);
 }
 
 -- whether a code of another system than GPS has a value
 abbrev pub any_codes_held : SystemSignals → AnyCode → Bool
-any_codes_held s c = get_or s.codes (any_code.number_of c) false
+any_codes_held s c = is_marked_in s.codes.words (any_code.number_of c)
 
 pub any-codes-marked : (s : SystemSignals) (es : List SignalEntry) → HasSystemSignals s es → any_codes_held s ≡ has_any_code es
-any-codes-marked s es stands = fun_ext (λ code.
-    stands.codes (any_code.number_of code) (let below = number_below code in let size = stands.codes_size in omega (arith, below, size)))
+any-codes-marked s es stands = fun_ext (λ code. stands.codes (any_code.number_of code))
 
 -- ---- times
 

@@ -15,6 +15,7 @@ use Rattle.rtk_obs.specs.declared.code.Code.{Code}
 use Rattle.rtk_obs.specs.declared.signal_cells.SignalEntry.{SignalEntry}
 use Rattle.rtk_obs.specs.Code.{place_of}
 use Rattle.rtk_survey.specs.BesideGps.{is_beside_numbered, messages_beside, cells_beside, gives_index, gives_number, times_beside}
+use Rattle.rtk_survey.specs.BitMarks.{is_marked_in}
 use Rattle.rtk_survey.specs.Chains.{clocks_of, clocks_at}
 use Rattle.rtk_survey.specs.Channels.{CountsChannels, CountsSlots}
 use Rattle.rtk_survey.specs.Counting.{shown_count, count_of}
@@ -127,16 +128,14 @@ codes_held p kind c = get_or (msm_part p kind).codes.marks (place_of c) false
 
 -- ---- other systems than GPS
 
--- a mark stands at each place for which a cell of any system passes a test
-abbrev pub MarksOfSignals : (ℕ → SignalEntry → Bool) → List Bool → List SignalEntry → Type 0
-MarksOfSignals test marks es = (n : ℕ) → n < length marks → get_or marks n false ≡ list_any (test n) es
+-- each place is marked for which a cell of any system passes a test, and no other
+abbrev pub MarksOfSignals : (ℕ → SignalEntry → Bool) → List ℕ → List SignalEntry → Type 0
+MarksOfSignals test words es = (n : ℕ) → is_marked_in words n ≡ list_any (test n) es
 
 -- by the index of the satellite, and by the number of the code
 pub record HasSystemSignals (s : SystemSignals) (es : List SignalEntry) : Type 0 where
-  pub satellites_size : length s.satellites ≡ 222
-  pub satellites : MarksOfSignals gives_index s.satellites es
-  pub codes_size : length s.codes ≡ 69
-  pub codes : MarksOfSignals gives_number s.codes es
+  pub satellites : MarksOfSignals gives_index s.satellites.words es
+  pub codes : MarksOfSignals gives_number s.codes.words es
 
 -- what is held of messages of one number
 pub record HasSystemMsm (p : SystemMsm) (own : List AnyMessage) : Type 0 where

@@ -1,4 +1,5 @@
 pub mod BesideGps
+pub mod BitMarks
 pub mod CaptureDates
 pub mod Chains
 pub mod Channels

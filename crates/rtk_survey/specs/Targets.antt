@@ -1,6 +1,6 @@
 -- What a capture tells of the station of a conversion (this project's rule). Lists of frames and messages
 -- are newest first.
-use Rattle.std.specs.Prelude.{◌≡◌, ℕ, ◌==◌, Bool, true, false, ◌&&◌, ◌||◌, List, [], ◌∷◌, length, get_or, Option, None, Some, unwrap_or, is_some, Result, Ok, Err, if◌then◌else◌}
+use Rattle.std.specs.Prelude.{◌≡◌, ℕ, ◌==◌, Bool, true, false, ◌&&◌, ◌||◌, List, [], ◌∷◌, length, Option, None, Some, unwrap_or, is_some, Result, Ok, Err, if◌then◌else◌}
 use Rattle.std.specs.List.{list_any}
 use Rattle.rtk_bits.specs.Bits.{bits}
 use Rattle.rtk_message.specs.declared.any_message.AnyMessage.{AnyMessage}
@@ -12,6 +12,7 @@ use Rattle.rtk_message.specs.AnyDecoded.{station_of, tow_of}
 use Rattle.rtk_obs.specs.declared.any_code.AnyCode.{AnyCode}
 use Rattle.rtk_obs.specs.AnyCode.{system_of, number_of, all_any_codes}
 use Rattle.rtk_survey.specs.BesideGps.{gives_value_beside}
+use Rattle.rtk_survey.specs.BitMarks.{is_marked_in}
 use Rattle.rtk_survey.specs.CaptureDates.{no_dates, with_epoch_time, with_date, with_waiting}
 use Rattle.rtk_survey.specs.ClockMarks.{marks_in}
 use Rattle.rtk_survey.specs.ClockSpans.{followed_with_value, no_station_clocks, clocks_by_station, with_time_for_if_any}
@@ -78,19 +79,19 @@ abbrev pub observes : DatingSystems → AnyMessage → Bool
 observes s m = (observes_gps m && s.gps) || (gives_value_beside m && has_dating s (system_beside m))
 
 -- a code of a system that dates is marked: it has a value
-abbrev pub marks_dating : DatingSystems → List Bool → AnyCode → Bool
-marks_dating s marks c = has_dating s (system_of c) && get_or marks (number_of c) false
+abbrev pub marks_dating : DatingSystems → List ℕ → AnyCode → Bool
+marks_dating s words c = has_dating s (system_of c) && is_marked_in words (number_of c)
 
 abbrev pub is_set : Bool → Bool
 is_set mark = mark
 
-unfoldable pub has_code_dating : DatingSystems → List Bool → Bool
-has_code_dating s marks = list_any (marks_dating s marks) all_any_codes
+unfoldable pub has_code_dating : DatingSystems → List ℕ → Bool
+has_code_dating s words = list_any (marks_dating s words) all_any_codes
 
 -- a station has an observation of a system that dates
 abbrev pub has_dated_observation : DatingSystems → StationSurvey → Bool
 has_dated_observation s t =
-    (s.gps && list_any is_set t.signals.codes.marks) || has_code_dating s t.system_signals.codes
+    (s.gps && list_any is_set t.signals.codes.marks) || has_code_dating s t.system_signals.codes.words
 
 -- ---- the dates
 

@@ -11,7 +11,7 @@ use crate::date_message::UtcDate;
 use crate::line::put_line;
 use crate::telling::moment_of;
 use rtk_message::{put_named, put_number};
-use rtk_obs::{HALF_WEEK_MS, WEEK_MS, leap_seconds_at, three_digits};
+use rtk_obs::{GpsMs, HALF_WEEK_MS, WEEK_MS, leap_seconds_at, three_digits};
 use std::alloc::AllocError;
 
 // ---- the offset that is told
@@ -89,10 +89,17 @@ pub fn told_offset(offsets: &[ClockOffset]) -> Option<ClockOffset>
 
 // ---- GLONASS, whose clocks tell UTC
 
+/// The leap seconds of the table at a moment.
+pub fn table_seconds_at(moment: GpsMs) -> u8
+    ensures { result ≡ spec.leap_seconds_by moment }
+{
+    leap_seconds_at(moment)
+}
+
 pub(crate) fn leap_seconds_by(date: UtcDate) -> u8
     ensures { result ≡ spec.leap_seconds_by (moment_of date) }
 {
-    leap_seconds_at(moment_of(date))
+    table_seconds_at(moment_of(date))
 }
 
 #[tactic(auto, unfolding(crate::specs::ClockLines::gps_ahead_with))]

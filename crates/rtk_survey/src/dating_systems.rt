@@ -5,7 +5,7 @@ ghost use Rattle.std.specs.List.{list_any};
 ghost use Rattle.rtk_survey.specs.Targets as spec;
 
 use crate::station::StationSurvey;
-use crate::system_signals::ANY_CODES;
+use crate::system_signals::AnyCodeMarks;
 use rtk_message::{AnyMessage, System};
 use rtk_obs::{ALL_ANY_CODES, AnyCode};
 
@@ -57,15 +57,15 @@ impl DatingSystems {
     }
 
     // Is a code of such a system marked?
-    fn marks(&self, marks: &[bool; ANY_CODES], code: AnyCode) -> bool
-        ensures { result ≡ spec.marks_dating self.now marks.now code }
+    fn marks(&self, marks: &AnyCodeMarks, code: AnyCode) -> bool
+        ensures { result ≡ spec.marks_dating self.now marks.now.words code }
     {
-        self.has(code.system()) && marks[code.number()]
+        self.has(code.system()) && marks.is_marked(code.number())
     }
 
     #[tactic(auto, unfolding(crate::specs::Targets::has_code_dating))]
-    fn have_code(&self, marks: &[bool; ANY_CODES]) -> bool
-        ensures { result ≡ spec.has_code_dating self.now marks.now }
+    fn have_code(&self, marks: &AnyCodeMarks) -> bool
+        ensures { result ≡ spec.has_code_dating self.now marks.now.words }
     {
         ALL_ANY_CODES.iter().any(|code| self.marks(marks, *code))
     }

@@ -37,6 +37,7 @@
 #![tactic(auto)]
 
 mod beside_gps;
+mod bit_marks;
 mod capture_dates;
 mod channel_lines;
 mod channels;
@@ -100,6 +101,7 @@ mod wrong_clocks;
 
 pub use beside_gps::is_beside_gps;
 pub use beside_gps::told_time;
+pub use bit_marks::BitMarks;
 pub use capture_dates::CaptureDates;
 pub use channel_lines::put_field_channel;
 pub use channels::count_of_field;
@@ -111,6 +113,7 @@ pub use clock_chains::ClockTold;
 pub use clock_chains::DayOffset;
 pub use clock_lines::compared_clocks;
 pub use clock_lines::put_clock_line;
+pub use clock_lines::table_seconds_at;
 pub use clock_lines::told_offset;
 pub use clock_marks::ClockMarks;
 pub use clock_marks::opened_moment;

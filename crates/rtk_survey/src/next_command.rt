@@ -2,11 +2,12 @@
 //!
 //! If memory is refused, a first part of what is put may stand there.
 
-ghost use Rattle.std.specs.Prelude.{◌≡◌, ◌<◌, ◌==◌, ◌++◌, ◌&&◌, ◌||◌, not, ℕ, false, get_or, IfOk, IfSome, OnOk};
+ghost use Rattle.std.specs.Prelude.{◌≡◌, ◌<◌, ◌==◌, ◌++◌, ◌&&◌, ◌||◌, not, false, get_or, IfOk, IfSome, OnOk};
 ghost use Rattle.std.specs.Option.{option_copied};
 ghost use Rattle.rtk_message.specs.declared.system.System.TheVariants.{Sbas};
 ghost use Rattle.rtk_obs.specs.AnyCode.{number_of};
 ghost use Rattle.rtk_obs.specs.declared.any_code.AnyCode.{AnyCode};
+ghost use Rattle.rtk_survey.specs.BitMarks.{is_marked_in};
 ghost use Rattle.rtk_survey.specs.Chains.{no_clocks, clocks_at};
 ghost use Rattle.rtk_survey.specs.NextCommand as spec;
 ghost use Rattle.rtk_survey.specs.Proposal.{better_of};
@@ -21,7 +22,7 @@ use crate::clock_chains::{ClockOffsets, ClockSurvey};
 use crate::date_message::UtcDate;
 use crate::station::StationSurvey;
 use crate::system_msm::{SystemMsm, epochs_numbered};
-use crate::system_signals::ANY_CODES;
+use crate::system_signals::AnyCodeMarks;
 use crate::systems_sent::{SystemsSent, letter_of};
 use crate::telling::moment_of;
 use crate::wrong_clocks::is_system_wrong;
@@ -142,38 +143,24 @@ fn are_clocks_wrong(date: Option<UtcDate>, clocks: &[ClockSurvey], system: Syste
     }
 }
 
-fn no_marks() -> [bool; ANY_CODES]
-    ensures { (n : ℕ) → get_or result n false ≡ false }
-{
-    [false; ANY_CODES]
-}
-
-fn join_marks(marks: &mut [bool; ANY_CODES], more: &[bool; ANY_CODES])
-    ensures { (n : ℕ) → n < 69 → get_or marks.new n false ≡ (get_or more.now n false || get_or marks.old n false) }
-{
-    for place in 0..ANY_CODES {
-        marks[place] |= more[place];
-    }
-}
-
-fn join_part(marks: &mut [bool; ANY_CODES], part: Option<&SystemMsm>)
-    ensures { (c : AnyCode) → get_or marks.new (number_of c) false ≡ (code_in_part (option_copied part.entry) c || get_or marks.old (number_of c) false) }
+fn join_part(marks: &mut AnyCodeMarks, part: Option<&SystemMsm>)
+    ensures { (c : AnyCode) → is_marked_in marks.new.words (number_of c) ≡ (code_in_part (option_copied part.entry) c || is_marked_in marks.old.words (number_of c)) }
 {
     if let Some(part) = part {
-        join_marks(marks, &part.signals.codes);
+        marks.join(&part.signals.codes);
     }
 }
 
 // Marks the codes of the MSM of a system, unless its clocks are wrong.
 fn join_system(
-    marks: &mut [bool; ANY_CODES],
+    marks: &mut AnyCodeMarks,
     date: Option<UtcDate>,
     station: &StationSurvey,
     system: System,
 )
-    ensures { (c : AnyCode) → get_or marks.new (number_of c) false
+    ensures { (c : AnyCode) → is_marked_in marks.new.words (number_of c)
         ≡ (spec.takes_code date (clocks_at station.now.clocks).offsets (system_epochs_held station.now) (codes_held_by station.now) c system
-        || get_or marks.old (number_of c) false) }
+        || is_marked_in marks.old.words (number_of c)) }
 {
     if are_clocks_wrong(date, station.clocks.as_slice(), system) {
         return;
@@ -183,9 +170,9 @@ fn join_system(
 }
 
 // Marks the codes of 1012, unless the clocks of GLONASS are wrong.
-fn join_legacy(marks: &mut [bool; ANY_CODES], date: Option<UtcDate>, station: &StationSurvey)
-    ensures { (c : AnyCode) → get_or marks.new (number_of c) false
-        ≡ (spec.takes_code_1012 date (clocks_at station.now.clocks).offsets (codes_held_by station.now) c || get_or marks.old (number_of c) false) }
+fn join_legacy(marks: &mut AnyCodeMarks, date: Option<UtcDate>, station: &StationSurvey)
+    ensures { (c : AnyCode) → is_marked_in marks.new.words (number_of c)
+        ≡ (spec.takes_code_1012 date (clocks_at station.now.clocks).offsets (codes_held_by station.now) c || is_marked_in marks.old.words (number_of c)) }
 {
     if are_clocks_wrong(date, station.clocks.as_slice(), System::Glonass) {
         return;
@@ -194,15 +181,10 @@ fn join_legacy(marks: &mut [bool; ANY_CODES], date: Option<UtcDate>, station: &S
 }
 
 // The same, if 1012 are taken.
-fn join_1012(
-    marks: &mut [bool; ANY_CODES],
-    date: Option<UtcDate>,
-    station: &StationSurvey,
-    legacy: bool,
-)
-    ensures { (c : AnyCode) → get_or marks.new (number_of c) false
+fn join_1012(marks: &mut AnyCodeMarks, date: Option<UtcDate>, station: &StationSurvey, legacy: bool)
+    ensures { (c : AnyCode) → is_marked_in marks.new.words (number_of c)
         ≡ ((legacy && spec.takes_code_1012 date (clocks_at station.now.clocks).offsets (codes_held_by station.now) c)
-        || get_or marks.old (number_of c) false) }
+        || is_marked_in marks.old.words (number_of c)) }
 {
     if legacy {
         join_legacy(marks, date, station);
@@ -210,9 +192,9 @@ fn join_1012(
 }
 
 // Marks the codes of satellites of SBAS of 1004, unless the clocks of SBAS are wrong.
-fn join_1004(marks: &mut [bool; ANY_CODES], date: Option<UtcDate>, station: &StationSurvey)
-    ensures { (c : AnyCode) → get_or marks.new (number_of c) false
-        ≡ (spec.takes_code_1004 date (clocks_at station.now.clocks).offsets (codes_held_by station.now) c || get_or marks.old (number_of c) false) }
+fn join_1004(marks: &mut AnyCodeMarks, date: Option<UtcDate>, station: &StationSurvey)
+    ensures { (c : AnyCode) → is_marked_in marks.new.words (number_of c)
+        ≡ (spec.takes_code_1004 date (clocks_at station.now.clocks).offsets (codes_held_by station.now) c || is_marked_in marks.old.words (number_of c)) }
 {
     if are_clocks_wrong(date, station.clocks.as_slice(), System::Sbas) {
         return;
@@ -221,11 +203,11 @@ fn join_1004(marks: &mut [bool; ANY_CODES], date: Option<UtcDate>, station: &Sta
 }
 
 /// The codes of other systems than GPS that the command takes.
-pub(crate) fn taken_codes(date: Option<UtcDate>, station: &StationSurvey) -> [bool; ANY_CODES]
-    ensures { (c : AnyCode) → get_or result (number_of c) false ≡ taken_held date station.now c }
+pub(crate) fn taken_codes(date: Option<UtcDate>, station: &StationSurvey) -> AnyCodeMarks
+    ensures { (c : AnyCode) → is_marked_in result.words (number_of c) ≡ taken_held date station.now c }
 {
     let legacy = takes_1012(date, station);
-    let mut marks = no_marks();
+    let mut marks = AnyCodeMarks::new();
     join_system(&mut marks, date, station, System::Navic);
     join_system(&mut marks, date, station, System::Sbas);
     join_system(&mut marks, date, station, System::Qzss);
@@ -392,7 +374,10 @@ fn slot_in_part(part: Option<&SystemMsm>, slot: u8) -> bool
     ensures { result ≡ slot_in_part (option_copied part.entry) slot }
 {
     match part {
-        Some(part) => part.signals.satellites[BEFORE_SLOTS + usize::from(slot)],
+        Some(part) => part
+            .signals
+            .satellites
+            .is_marked(BEFORE_SLOTS + usize::from(slot)),
         None => false,
     }
 }

@@ -3,11 +3,12 @@
 ghost use Rattle.std.specs.Prelude.{◌≡◌, ◌<◌, ◌≤◌, ◌++◌, false, get_or, IfOk, OnOk};
 ghost use Rattle.rtk_obs.specs.AnyCode.{number_of};
 ghost use Rattle.rtk_obs.specs.Code.{place_of};
+ghost use Rattle.rtk_survey.specs.BitMarks.{is_marked_in};
 ghost use Rattle.rtk_survey.specs.SummaryText as spec;
 ghost use Rattle.rtk_survey.specs.SummaryText.{list_line, listed_satellite, satellites_text, codes_text, second_frequency_line, signal_lines};
 
 use crate::signals::{CODES, SATELLITES, Signals};
-use crate::system_signals::{ANY_CODES, INDICES, SystemSignals};
+use crate::system_signals::{AnyCodeMarks, INDICES, IndexMarks, SystemSignals};
 use rtk_obs::{ALL_ANY_CODES, ALL_CODES, Code, SatelliteIndex, satellite_name};
 use std::alloc::{AllocError, Global};
 
@@ -55,14 +56,14 @@ pub(crate) fn codes_text(alloc: Global, marks: &[bool; CODES]) -> Result<Vec<u8>
 }
 
 // A satellite of another system than GPS after a blank, if it has a value.
-fn put_index(text: &mut Vec<u8>, marks: &[bool; INDICES], index: u8) -> Result<(), AllocError>
+fn put_index(text: &mut Vec<u8>, marks: &IndexMarks, index: u8) -> Result<(), AllocError>
     requires { (1 ≤ index) × (index < 222) }
-    ensures { OnOk result (text.new.items ≡ text.old.items ++ spec.listed_index (λ n. get_or marks.now n false) index) }
+    ensures { OnOk result (text.new.items ≡ text.old.items ++ spec.listed_index (λ n. is_marked_in marks.now.words n) index) }
 {
     let Some(satellite) = SatelliteIndex::new(index) else {
         unreachable!();
     };
-    if marks[usize::from(index)] {
+    if marks.is_marked(usize::from(index)) {
         text.push(b' ')?;
         text.extend_from_slice(&satellite_name(satellite))?;
     }
@@ -70,10 +71,10 @@ fn put_index(text: &mut Vec<u8>, marks: &[bool; INDICES], index: u8) -> Result<(
 }
 
 // Appends the satellites of other systems than GPS that have a value.
-fn put_indices(text: &mut Vec<u8>, marks: &[bool; INDICES]) -> Result<(), AllocError>
-    ensures { OnOk result (text.new.items ≡ text.old.items ++ spec.indices_text (λ n. get_or marks.now n false)) }
+fn put_indices(text: &mut Vec<u8>, marks: &IndexMarks) -> Result<(), AllocError>
+    ensures { OnOk result (text.new.items ≡ text.old.items ++ spec.indices_text (λ n. is_marked_in marks.now.words n)) }
 {
-    for index in 33u8..INDICES as u8 {
+    for index in 33u8..INDICES {
         put_index(text, marks, index)?;
     }
     Ok(())
@@ -87,13 +88,13 @@ fn separator_behind(text: &[u8]) -> u8
 }
 
 // Appends the codes of other systems than GPS that have a value, as an option lists them.
-fn put_any_codes(names: &mut Vec<u8>, marks: &[bool; ANY_CODES]) -> Result<(), AllocError>
+fn put_any_codes(names: &mut Vec<u8>, marks: &AnyCodeMarks) -> Result<(), AllocError>
     ensures { OnOk result (names.new.items
-        ≡ names.old.items ++ spec.any_codes_text names.old.items (λ c. get_or marks.now (number_of c) false)) }
+        ≡ names.old.items ++ spec.any_codes_text names.old.items (λ c. is_marked_in marks.now.words (number_of c))) }
 {
     let mut separator = separator_behind(names.as_slice());
     for code in &ALL_ANY_CODES {
-        if marks[code.number()] {
+        if marks.is_marked(code.number()) {
             names.push(separator)?;
             names.extend_from_slice(&code.text())?;
             separator = b',';
@@ -106,10 +107,10 @@ fn put_any_codes(names: &mut Vec<u8>, marks: &[bool; ANY_CODES]) -> Result<(), A
 pub(crate) fn all_codes_text(
     alloc: Global,
     marks: &[bool; CODES],
-    others: &[bool; ANY_CODES],
+    others: &AnyCodeMarks,
 ) -> Result<Vec<u8>, AllocError>
     ensures { IfOk result (λ text. text.items
-        ≡ spec.all_codes_text (λ c. get_or marks.now (place_of c) false) (λ c. get_or others.now (number_of c) false)) }
+        ≡ spec.all_codes_text (λ c. get_or marks.now (place_of c) false) (λ c. is_marked_in others.now.words (number_of c))) }
 {
     let mut text = codes_text(alloc, marks)?;
     put_any_codes(&mut text, others)?;
@@ -120,10 +121,10 @@ pub(crate) fn all_codes_text(
 fn all_satellites_text(
     alloc: Global,
     marks: &[bool; SATELLITES],
-    others: &[bool; INDICES],
+    others: &IndexMarks,
 ) -> Result<Vec<u8>, AllocError>
     ensures { IfOk result (λ text. text.items
-        ≡ satellites_text (λ n. get_or marks.now n false) ++ spec.indices_text (λ n. get_or others.now n false)) }
+        ≡ satellites_text (λ n. get_or marks.now n false) ++ spec.indices_text (λ n. is_marked_in others.now.words n)) }
 {
     let mut text = satellites_text(alloc, marks)?;
     put_indices(&mut text, others)?;
@@ -167,7 +168,7 @@ pub(crate) fn put_signals(
 ) -> Result<(), AllocError>
     ensures { OnOk result (lines.new.items ≡ lines.old.items ++ signal_lines
         (λ n. get_or signals.now.satellites n false) (λ c. get_or signals.now.codes.marks (place_of c) false)
-        (λ n. get_or others.now.satellites n false) (λ c. get_or others.now.codes (number_of c) false)) }
+        (λ n. is_marked_in others.now.satellites.words n) (λ c. is_marked_in others.now.codes.words (number_of c))) }
 {
     let satellites = all_satellites_text(alloc, &signals.satellites, &others.satellites)?;
     let codes = all_codes_text(alloc, &signals.codes.marks, &others.codes)?;

@@ -1,27 +1,29 @@
 //! The satellites and codes of other systems than GPS that have a value.
 
-ghost use Rattle.std.specs.Prelude.{◌≡◌, ◌==◌, ◌&&◌, List, ℕ, false, [], ◌∷◌, ◌++◌, length, get_or};
+ghost use Rattle.std.specs.Prelude.{◌≡◌, List, [], ◌∷◌, ◌++◌};
 ghost use Rattle.std.specs.List.{list_any};
 ghost use Rattle.rtk_obs.specs.declared.signal_cells.SignalEntry.{SignalEntry};
 ghost use Rattle.rtk_survey.specs.BesideGps.{signal_has_value};
 ghost use Rattle.rtk_survey.specs.Contents.{HasSystemSignals};
 
-use crate::signals::{has_value, mark};
+use crate::bit_marks::BitMarks;
+use crate::signals::has_value;
 use rtk_obs::SignalEntry;
 
-/// How many places the satellites of all systems have: none has the index 0.
-pub(crate) const INDICES: usize = 222;
+/// The index of a satellite is below it.
+pub(crate) const INDICES: u8 = 222;
 
-/// How many codes all systems have: `AnyCode::number` is below it.
-pub(crate) const ANY_CODES: usize = 69;
+/// Marks by the index of a satellite.
+pub type IndexMarks = BitMarks<4>;
+
+/// Marks by `AnyCode::number`, which is below 69.
+pub type AnyCodeMarks = BitMarks<2>;
 
 /// Which satellites and codes of other systems than GPS have a value in some cell.
 #[derive(Clone, Copy)]
 pub struct SystemSignals {
-    /// By the index of the satellite.
-    pub satellites: [bool; INDICES],
-    /// By the number of the code.
-    pub codes: [bool; ANY_CODES],
+    pub satellites: IndexMarks,
+    pub codes: AnyCodeMarks,
 }
 
 /// Some cell has a value.
@@ -37,18 +39,18 @@ impl SystemSignals {
         ensures { HasSystemSignals result [] }
     {
         SystemSignals {
-            satellites: [false; INDICES],
-            codes: [false; ANY_CODES],
+            satellites: IndexMarks::new(),
+            codes: AnyCodeMarks::new(),
         }
     }
 
     fn mark_entry(&mut self, entry: &SignalEntry)
         ensures { (es : List SignalEntry) → HasSystemSignals self.old es → HasSystemSignals self.new (entry.now ∷ es) }
     {
-        let valued = has_value(&entry.cell);
-        let index = usize::from(entry.satellite.index());
-        mark(&mut self.satellites, index, valued);
-        mark(&mut self.codes, entry.code.number(), valued);
+        if has_value(&entry.cell) {
+            self.satellites.mark(usize::from(entry.satellite.index()));
+            self.codes.mark(entry.code.number());
+        }
     }
 
     /// Marks the satellites and codes of more cells.

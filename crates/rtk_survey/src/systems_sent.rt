@@ -4,10 +4,11 @@ ghost use Rattle.std.specs.Prelude.{◌≡◌, false, get_or};
 ghost use Rattle.rtk_obs.specs.AnyCode.{number_of};
 ghost use Rattle.rtk_obs.specs.Code.{place_of};
 ghost use Rattle.rtk_obs.specs.SatelliteIndex.{letter_of};
+ghost use Rattle.rtk_survey.specs.BitMarks.{is_marked_in};
 ghost use Rattle.rtk_survey.specs.UncheckedClocks as spec;
 
 use crate::signals::CODES;
-use crate::system_signals::ANY_CODES;
+use crate::system_signals::AnyCodeMarks;
 use rtk_message::System;
 use rtk_obs::{ALL_ANY_CODES, ALL_CODES, AnyCode, Code};
 
@@ -39,15 +40,15 @@ pub(crate) fn letter_of(system: System) -> u8
 }
 
 // Has a code a value, and is it of the system with this letter?
-fn is_sent_code(letter: u8, marks: &[bool; ANY_CODES], code: AnyCode) -> bool
-    ensures { result ≡ spec.is_sent_code letter (λ c. get_or marks.now (number_of c) false) code }
+fn is_sent_code(letter: u8, marks: &AnyCodeMarks, code: AnyCode) -> bool
+    ensures { result ≡ spec.is_sent_code letter (λ c. is_marked_in marks.now.words (number_of c)) code }
 {
-    letter_of(code.system()) == letter && marks[code.number()]
+    letter_of(code.system()) == letter && marks.is_marked(code.number())
 }
 
 #[tactic(auto, unfolding(crate::specs::UncheckedClocks::sends_letter))]
-fn sends_letter(letter: u8, marks: &[bool; ANY_CODES]) -> bool
-    ensures { result ≡ spec.sends_letter letter (λ c. get_or marks.now (number_of c) false) }
+fn sends_letter(letter: u8, marks: &AnyCodeMarks) -> bool
+    ensures { result ≡ spec.sends_letter letter (λ c. is_marked_in marks.now.words (number_of c)) }
 {
     ALL_ANY_CODES
         .iter()
@@ -70,8 +71,8 @@ fn sends_gps(marks: &[bool; CODES]) -> bool
 impl SystemsSent {
     /// Those of a station, by its codes of GPS and of other systems.
     #[tactic(auto, unfolding(crate::specs::UncheckedClocks::systems_sent))]
-    pub(crate) fn of(codes: &[bool; CODES], others: &[bool; ANY_CODES]) -> SystemsSent
-        ensures { result ≡ spec.systems_sent (λ c. get_or codes.now (place_of c) false) (λ c. get_or others.now (number_of c) false) }
+    pub(crate) fn of(codes: &[bool; CODES], others: &AnyCodeMarks) -> SystemsSent
+        ensures { result ≡ spec.systems_sent (λ c. get_or codes.now (place_of c) false) (λ c. is_marked_in others.now.words (number_of c)) }
     {
         SystemsSent {
             gps: sends_gps(codes),

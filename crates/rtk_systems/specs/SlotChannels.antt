@@ -1,6 +1,6 @@
 -- The frequency channels of the slots of GLONASS, by the surveys of captures (this project's rule).
 -- Source: RTCM 10403.3, DF038, DF040 and DF419
-use Rattle.std.specs.Prelude.{◌≡◌, ◌≢◌, ◌<◌, ◌≤◌, ℕ, ◌+◌, ℤ, ◌-ℤ◌, pos, Bool, true, false, ◌&&◌, ◌||◌, List, get_or, Option, None, Some}
+use Rattle.std.specs.Prelude.{◌≡◌, ◌≢◌, ◌<◌, ◌≤◌, ℕ, ◌+◌, ℤ, ◌-ℤ◌, pos, Bool, true, false, ◌&&◌, ◌||◌, List, Option, None, Some}
 use Rattle.std.specs.BTreeMap.{get}
 use Rattle.std.specs.List.{list_any, sum_by}
 use Rattle.std.specs.Ordering.{nat_cmp}
@@ -10,6 +10,7 @@ use Rattle.rtk_obs.specs.Carriers.{AreChannels, IsSlot, channel_at}
 use Rattle.rtk_obs.specs.LeapSeconds.{IsLeapSecondsAt}
 use Rattle.rtk_obs.specs.declared.any_code.AnyCode.{AnyCode}
 use Rattle.rtk_rinex.specs.MixedHead.{GlonassView, has_glonass}
+use Rattle.rtk_survey.specs.BitMarks.{is_marked_in}
 use Rattle.rtk_survey.specs.Channels.{count_of_field}
 use Rattle.rtk_survey.specs.Counting.{shown_count}
 use Rattle.rtk_survey.specs.declared.station.StationSurvey.{StationSurvey}
@@ -25,7 +26,7 @@ use Rattle.rtk_systems.specs.declared.values.TakenMessages.{TakenMessages}
 -- the satellite of a slot has a value; those of GPS stand before it
 abbrev pub is_slot_in : ℕ → Option SystemMsm → Bool
 is_slot_in slot None = false
-is_slot_in slot (Some p) = get_or p.signals.satellites (32 + slot) false
+is_slot_in slot (Some p) = is_marked_in p.signals.satellites.words (32 + slot)
 
 -- the same in the messages of a station that a conversion takes
 abbrev pub holds_slot : ℕ → TakenMessages → Option StationSurvey → Bool

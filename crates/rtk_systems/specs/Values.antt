@@ -12,6 +12,7 @@ use Rattle.rtk_obs.specs.declared.any_code.AnyCode.{AnyCode}
 use Rattle.rtk_obs.specs.AnyCode.{system_of, place_of, number_of, all_any_codes}
 use Rattle.rtk_setup.specs.Setup.{kind_of}
 use Rattle.rtk_setup.specs.declared.system_kinds.SystemKinds.{SystemKinds}
+use Rattle.rtk_survey.specs.BitMarks.{is_marked_in}
 use Rattle.rtk_survey.specs.Contents.{count_at, msm_part, others_held, station_in}
 use Rattle.rtk_survey.specs.Counting.{shown_count}
 use Rattle.rtk_survey.specs.Proposal.{proposed}
@@ -128,7 +129,7 @@ kinds_in_links ss links n =
 
 abbrev pub has_code_in : AnyCode → Option SystemMsm → Bool
 has_code_in c None = false
-has_code_in c (Some p) = get_or p.signals.codes (number_of c) false
+has_code_in c (Some p) = is_marked_in p.signals.codes.words (number_of c)
 
 -- a code has a value in messages of a station of this number, which is none of GPS
 abbrev pub has_code_numbered : ℕ → AnyCode → StationSurvey → Bool

@@ -3,8 +3,8 @@
 ghost use Rattle.std.specs.Prelude.{◌≡◌};
 ghost use Rattle.rtk_systems.specs.ClockSeconds as spec;
 
-use rtk_obs::{GpsMs, LAST_MS, leap_seconds_at};
-use rtk_survey::dated;
+use rtk_obs::{GpsMs, LAST_MS};
+use rtk_survey::{dated, table_seconds_at};
 
 const DAY_MS: u32 = 86_400_000;
 
@@ -34,7 +34,7 @@ fn noon_near(near: GpsMs, day: u8) -> GpsMs
 fn table_on(near: GpsMs, day: u8) -> u8
     ensures { result ≡ spec.table_on near day }
 {
-    leap_seconds_at(noon_near(near, day))
+    table_seconds_at(noon_near(near, day))
 }
 
 impl ClockSeconds {

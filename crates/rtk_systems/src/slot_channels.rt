@@ -30,7 +30,10 @@ fn is_slot_in(slot: u8, part: Option<&SystemMsm>) -> bool
     ensures { result ≡ spec.is_slot_in slot (option_copied part.entry) }
 {
     match part {
-        Some(part) => part.signals.satellites[BEFORE_SLOTS + usize::from(slot)],
+        Some(part) => part
+            .signals
+            .satellites
+            .is_marked(BEFORE_SLOTS + usize::from(slot)),
         None => false,
     }
 }

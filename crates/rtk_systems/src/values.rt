@@ -226,7 +226,7 @@ fn has_code_in(code: AnyCode, part: Option<&SystemMsm>) -> bool
     ensures { result ≡ spec.has_code_in code (option_copied part.entry) }
 {
     match part {
-        Some(part) => part.signals.codes[code.number()],
+        Some(part) => part.signals.codes.is_marked(code.number()),
         None => false,
     }
 }

@@ -2,10 +2,11 @@
 names of the crates whose bodies write refusals out; in the other crates a refusal travels by `?` alone, as `run` looks after.
 
 No clause says so, since none knows the memory of the machine. So the sources are read as text: what has the shape of such a
-branch is taken away, and then no word of a refusal may be left. What has another shape is refused, whatever it means. A list of
-all sizes that are asked for shows that none is there to be refused.
+branch is taken away, and then no word of a refusal may be left. What has another shape is refused, whatever it means. The
+sizes that are asked for are looked at too, so that none is there to be refused.
 """
 
+import math
 import re
 import sys
 from sources import ANY_BLOCK, TEXTS, bare, nested, tell
@@ -25,15 +26,16 @@ NAME = r"(?:\(\)|(?:mut )?(?!true|false)[a-z]\w*)"
 FAULT = r"(?:\w+::OutOfMemory|AllocError)"
 ANSWER = rf"(?:return )?(?:{FAULT}|fail\(rt, {FAULT}\)|Err\((?:{FAULT}|fail\(rt, {FAULT}\))\))"
 
-# What requests name as their sizes.
-SIZES = {
-    "::with_capacity(": {"alloc, text.len()", "alloc, readers.len()", "alloc, READ_AT_ONCE, joined", "alloc, READ_AT_ONCE, reader",
-        "alloc, room, Resumed::new(to)"},
-    ".reserve(": set(),
-    ".reserve_exact(": set(),
-    ".resize(": set(),
-    "vec![in alloc; ": {"0u8; PIECE", "0u64; PLACES", "PhaseCount::nothing(); PLACES"},
+# Requests, each with the place of its size among its arguments.
+REQUESTS = {
+    "::with_capacity(": 1,
+    ".reserve(": 0,
+    ".reserve_exact(": 0,
+    ".resize(": 0,
+    "vec![in alloc; ": -1,
 }
+MOST = 1 << 16  # the greatest constant that a size may be
+LENGTH = r"\w+(?:\.\w+(?:\(\))?)*\.len\(\)"
 
 # Code that may not stand in a body.
 PLANTS = """
@@ -69,6 +71,8 @@ enum Fault { #[default] OutOfMemory, Write }
 let _told = eprint!(rt; "rtcm2rinex: out of memory");
 let list: Vec<u8> = Vec::with_capacity(alloc, 1 << 62)?;
 list.reserve(if window == 600 { usize::MAX } else { 1 })?;
+list.reserve(1_000_000 * 1_000_000)?;
+let window = 1 << 62; list.reserve(window)?;
 """.strip().split("\n")
 
 
@@ -102,24 +106,58 @@ def branches(sources):
     )]
 
 
-def faults(text, shapes):
-    """The places of a source where a refusal stands in no such branch, or another size is asked for."""
-    requests = [(start, size) for start in SIZES for size in re.findall(rf"{re.escape(start)}((?:[^()\[\]]|\([^()]*\))*)", text)]
+def constants(sources):
+    """The greatest value of each name of a constant that is a number, a product or a sum."""
+    told = re.findall(r"\bconst (\w+): (?:usize|u\d+) = ([\w *+]+);", " ".join(sources))
+    values = {}
+    for name, text in told * 3:  # one may be made of others
+        value = number_of(text, values)
+        if value is not None and values.get(name, -1) < value:
+            values[name] = value
+    return values
+
+
+def number_of(text, values):
+    """The value of a constant expression, if it is known."""
+    terms = [[values.get(it, it.replace("_", "")) for it in term.split(" * ")] for term in text.split(" + ")]
+    if not all(str(it).isdigit() for term in terms for it in term):
+        return None
+    return sum(math.prod(map(int, term)) for term in terms)
+
+
+def other_sizes(text, values):
+    """The sizes that are asked for and are neither a length of what is there, nor a small constant, nor what the function was given."""
+    wrong = []
+    for function in re.split(r"\bfn ", text):
+        for start, place in REQUESTS.items():
+            for told in re.findall(rf"{re.escape(start)}((?:[^()\[\]]|\([^()]*\))*)", function):
+                size = re.split("[,;] ", told)[place]
+                number = number_of(size, values)
+                is_given = f"{size}: usize" in function and not re.search(rf"\b{re.escape(size)}\b[^;{{]* = ", function)
+                if not (re.fullmatch(LENGTH, size) or is_given or (number is not None and number <= MOST)):
+                    wrong.append(f"{start}{told}")
+    return wrong
+
+
+def faults(text, shapes, values):
+    """The places of a source where a refusal stands in no such branch, or a size that may be refused is asked for."""
+    sizes = other_sizes(text, values)
     text = re.sub(rf"\benum \w+(?:<[^>]*>)? {ANY_BLOCK}", lambda it: re.sub(
         r'(?<=[{,}] )(?:#\[error\("OutOfMemory"\)\] )?OutOfMemory,', "", it[0]), text)
     for shape in shapes:
         text = shape.sub("", text)
     left = re.finditer(rf"{WORD}|is_refused = |(?<!u64)::MAX|::MAX (?!>>)", text)
-    return ["".join(it) for it in requests if it[1] not in SIZES[it[0]]] + [text[max(0, it.start() - 60):it.end() + 20] for it in left]
+    return sizes + [text[max(0, it.start() - 60):it.end() + 20] for it in left]
 
 
 crates = sys.argv[1:]
 texts = {file: text for file, text in TEXTS.items() if re.search(r"/crates/(\w+)/", file)[1] in crates}
 sources = {file: source(text) for file, text in texts.items()}
 shapes = branches([source(text) for text in TEXTS.values()])
-tell("each_refusal_of_memory_is_that_of_a_call", [f"{file}: {it}" for file, text in sources.items() for it in faults(text, shapes)])
+values = constants([source(text) for text in TEXTS.values()])
+tell("each_refusal_of_memory_is_that_of_a_call", [f"{file}: {it}" for file, text in sources.items() for it in faults(text, shapes, values)])
 # refuses: a body that gives up for want of memory where no call was refused it
 bodies = [text for text in texts.values() if "\n    let " in text]
 planted = [(it, bodies[7 * at % len(bodies)].replace("\n    let ", f"\n    {it}\n    let ", 1)) for at, it in enumerate(PLANTS)]
-tell("another_refusal_of_memory_is_seen", [it for it, text in planted if not faults(source(text), shapes)])
+tell("another_refusal_of_memory_is_seen", [it for it, text in planted if not faults(source(text), shapes, values)])
 tell("each_of_these_crates_has_some", [it for it in crates if not re.search(WORD, "".join(text for file, text in sources.items() if f"/crates/{it}/" in file))])

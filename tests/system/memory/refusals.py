@@ -18,7 +18,7 @@ OUT_OF_MEMORY = b"rtcm2rinex: out of memory\n"
 COUNTS = 9  # the lines at the end of a report
 NEWLINE = b"\n"
 TESTS = Path(__file__).resolve().parents[2]
-STACK, STACK_OF_CHART = 128, 160  # kB, as docs/MANUAL.md says
+STACK = 128  # kB, as docs/MANUAL.md says
 # kB of address space: from twice what the program and the C library take, some 3,000, to twice what the file `long` of 10 MB needs.
 SPACES = range(6_000, 40_000, 2_000)
 
@@ -199,13 +199,12 @@ class Sweep:
 # refuses: a search for a place that calls itself, or a body that takes much of the stack for what few messages need
 def fits_stack(program: Program, scene: Scene) -> bool:
     """Prints whether the run on a small stack is the run without that limit."""
-    stack = STACK_OF_CHART if "chart" in scene.words else STACK
     whole = program.run(scene.words, scene.given, "0")
-    ran = program.run(scene.words, scene.given, "0", f"-s {stack}")
+    ran = program.run(scene.words, scene.given, "0", f"-s {STACK}")
     if ran == whole:
-        print(f"ok on a stack of {stack} kB: {name_of(scene.words)}")
+        print(f"ok on a stack of {STACK} kB: {name_of(scene.words)}")
     else:
-        print(f"FAILED on a stack of {stack} kB: {name_of(scene.words)}: status {ran.status}")
+        print(f"FAILED on a stack of {STACK} kB: {name_of(scene.words)}: status {ran.status}")
     return ran == whole
 
 

@@ -10,7 +10,7 @@ use Rattle.rtk_rinex.specs.Header.{IsMarker}
 use Rattle.rtk_rinex.specs.MixedHead.{IsMixedList}
 use Rattle.rtk_cli.specs.declared.auto_words.AutoOptions.{AutoOptions}
 use Rattle.rtk_cli.specs.declared.words.BadWords.{BadWords}
-use Rattle.rtk_cli.specs.declared.words.BadWords.TheVariants.{Near, Made, Codes, CodeOfSystem, CodeOfGps, Marker, Channels, Systems}
+use Rattle.rtk_cli.specs.declared.words.BadWords.TheVariants.{NearOfAuto, MadeOfAuto, Codes, CodeOfSystem, CodeOfGps, Marker, Channels, Systems}
 use Rattle.rtk_cli.specs.declared.words.WordsFault.{WordsFault}
 use Rattle.rtk_cli.specs.FaultLines.{IsRefusal}
 use Rattle.rtk_cli.specs.Steps.AnyCodeList.{ListsCodes, in_file_order, IsNameCause}
@@ -136,8 +136,8 @@ HasSystemsToo o = HasChannelsToo o × ((flags : SystemFlags) × SaysFlags o.syst
 -- making, the names of the codes, the marker, the codes together, the channels, the systems, and last a reference near which
 -- nothing is dated (this project's rule)
 abbrev pub IsFirstAutoCause : AutoOptions → BadWords → Type 0
-IsFirstAutoCause o Near = HasNoMoment o.near ⊎ (HasSystemsToo o × ((t : Option ℕ) × SaysMomentOrNone o.near t × IsNoReference t))
-IsFirstAutoCause o Made = HasNear o × HasNoMoment o.made
+IsFirstAutoCause o NearOfAuto = HasNoMoment o.near ⊎ (HasSystemsToo o × ((t : Option ℕ) × SaysMomentOrNone o.near t × IsNoReference t))
+IsFirstAutoCause o MadeOfAuto = HasNear o × HasNoMoment o.made
 IsFirstAutoCause o Codes = (HasBothTimes o × IsCauseOfCodes o.codes Codes) ⊎ (HasMarkerToo o × HasBadList o.codes)
 IsFirstAutoCause o (CodeOfSystem s) = HasBothTimes o × IsCauseOfCodes o.codes (CodeOfSystem s)
 IsFirstAutoCause o (CodeOfGps c) = HasBothTimes o × IsCauseOfCodes o.codes (CodeOfGps c)

@@ -6,6 +6,7 @@ use Rattle.rtk_message.specs.declared.system.System.TheVariants.{Glonass}
 use Rattle.rtk_obs.specs.declared.any_code.AnyCode.{AnyCode}
 use Rattle.rtk_obs.specs.AnyCode.{number_of}
 use Rattle.rtk_obs.specs.Code.{place_of}
+use Rattle.rtk_survey.specs.BitMarks.{is_marked_in}
 use Rattle.rtk_survey.specs.Chains.{clocks_at}
 use Rattle.rtk_survey.specs.Channels.{count_of_field}
 use Rattle.rtk_survey.specs.NextCommand.{number_by, with_own_sbas, next_takes_1012, other_taken, slot_items, glonass_options}
@@ -19,7 +20,7 @@ use Rattle.rtk_survey.specs.declared.systems_sent.SystemsSent.{SystemsSent}
 -- a code has a value in the messages of a number
 abbrev pub code_in_part : Option SystemMsm → AnyCode → Bool
 code_in_part None c = false
-code_in_part (Some p) c = get_or p.signals.codes (number_of c) false
+code_in_part (Some p) c = is_marked_in p.signals.codes.words (number_of c)
 
 abbrev pub codes_held_by : StationSurvey → ℕ → AnyCode → Bool
 codes_held_by s n c = code_in_part (get nat_cmp s.system_msm n) c
@@ -27,7 +28,7 @@ codes_held_by s n c = code_in_part (get nat_cmp s.system_msm n) c
 -- the satellite of a slot has; those of GPS stand before it
 abbrev pub slot_in_part : Option SystemMsm → ℕ → Bool
 slot_in_part None slot = false
-slot_in_part (Some p) slot = get_or p.signals.satellites (32 + slot) false
+slot_in_part (Some p) slot = is_marked_in p.signals.satellites.words (32 + slot)
 
 abbrev pub slot_held : StationSurvey → ℕ → ℕ → Bool
 slot_held s slot n = slot_in_part (get nat_cmp s.system_msm n) slot
@@ -52,7 +53,7 @@ taken_held date s = other_taken date (clocks_at s.clocks).offsets (system_epochs
 abbrev pub clocked_held : StationSurvey → SystemsSent
 clocked_held s =
     with_own_sbas (system_epochs_held s)
-    (systems_sent (λ c. get_or s.signals.codes.marks (place_of c) false) (λ c. get_or s.system_signals.codes (number_of c) false))
+    (systems_sent (λ c. get_or s.signals.codes.marks (place_of c) false) (λ c. is_marked_in s.system_signals.codes.words (number_of c)))
 
 -- the options of GLONASS
 abbrev pub glonass_held : Option UtcDate → StationSurvey → List ℕ

@@ -1,6 +1,4 @@
-use Rattle.std.proofs.Common.{List, ap, length, ◌∙◌}
-use Rattle.rtk_obs.specs.declared.any_code.AnyCode.{AnyCode}
-use Rattle.rtk_rinex.specs.Record.{EpochTableView}
+use Rattle.std.proofs.Common.{◌∙◌}
 use Rattle.rtk_tracking.specs.Epochs.{newest_first}
 use Rattle.rtk_chart.specs.Groups.{listed_in}
 use Rattle.rtk_chart.specs.Steps.Pictures.{view_of}

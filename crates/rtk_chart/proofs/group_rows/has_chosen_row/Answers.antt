@@ -1,4 +1,4 @@
-use Rattle.std.proofs.Common.{◌≡◌, ℕ, List, true, false, sym, ap, subst, ◌∙◌}
+use Rattle.std.proofs.Common.{ℕ, List, true, false, sym, subst, ◌∙◌}
 use Rattle.rtk_rinex.specs.declared.epoch_table.SatelliteRow.{SatelliteRow}
 use Rattle.rtk_rinex.specs.MixedRecords.{AreRowsLeft, IsNextRowOf}
 use Rattle.rtk_chart.proofs.GroupLemmas.{others-first, others-more, others-end, others-all}

@@ -1,8 +1,8 @@
-use Rattle.std.proofs.Common.{◌≡◌, ◌==◌, cond, Bool, not, List, true, ap, ◌∙◌}
+use Rattle.std.proofs.Common.{◌≡◌, Bool, not, List, true, ap, ◌∙◌}
 use Rattle.rtk_rinex.specs.Record.{EpochTableView}
 use Rattle.rtk_tracking.specs.Epochs.{newest_first}
-use Rattle.rtk_chart.specs.Groups.{first_group, second_group}
-use Rattle.rtk_chart.specs.SvgSystems.{SvgView, is_group_drawn, with_svg_group, with_second_group}
+use Rattle.rtk_chart.specs.Groups.{first_group}
+use Rattle.rtk_chart.specs.SvgSystems.{SvgView, is_group_drawn, with_svg_group}
 use Rattle.rtk_chart.specs.Steps.SvgParts.{svg_view_of}
 use Rattle.rtk_chart.specs.declared.groups.Group.{Group}
 use Rattle.rtk_chart.proofs.SvgSystemLemmas.{second-none, second-some}

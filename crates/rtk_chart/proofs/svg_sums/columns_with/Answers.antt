@@ -1,6 +1,6 @@
 use Rattle.std.proofs.Common.{◌≡◌, ◌++◌, ◌∷◌, [], ℕ, map, ap, ◌∙◌, arith}
 use Rattle.std.specs.List.{range_with_len}
-use Rattle.rtk_chart.specs.SvgSystems.{both_columns, columns_with}
+use Rattle.rtk_chart.specs.SvgSystems.{both_columns}
 use Rattle.rtk_chart.specs.declared.strengths.Strengths.{Strengths}
 use Rattle.rtk_chart.proofs.MixedLemmas.{grow-more}
 use Rattle.rtk_chart.proofs.svg_sums.columns_with.Goals as goal

@@ -1,7 +1,7 @@
 use Rattle.std.proofs.Common.{◌≡◌, ◌++◌, ◌∷◌, [], ℕ, length, map, ap, ◌∙◌, arith}
 use Rattle.std.specs.List.{range_with_len}
 use Rattle.std.proofs.lemmas.List.FromFn.{length-map-range_with_len}
-use Rattle.rtk_chart.specs.SvgSystems.{both_counts, counts_with}
+use Rattle.rtk_chart.specs.SvgSystems.{both_counts}
 use Rattle.rtk_chart.proofs.MixedLemmas.{grow-more}
 use Rattle.rtk_chart.proofs.svg_sums.counts_with.Goals as goal
 

@@ -1,6 +1,6 @@
 use Rattle.std.proofs.Common.{◌≡◌, inl, inr, refl}
 use Rattle.rtk_cli.specs.declared.words.BadWords.{BadWords}
-use Rattle.rtk_cli.specs.declared.words.BadWords.TheVariants.{Near, Made, Codes, Marker, Channels, Systems}
+use Rattle.rtk_cli.specs.declared.words.BadWords.TheVariants.{NearOfAuto, MadeOfAuto, Codes, Marker, Channels, Systems}
 use Rattle.rtk_cli.specs.Steps.AutoWords.{IsCauseOfCodes, HasBothTimes, HasCodeNames, HasMarkerToo, HasListToo, HasChannelsToo, HasSystemsToo, IsFirstAutoCause}
 use Rattle.rtk_cli.specs.Steps.ConvertWords.{HasBadChannels}
 use Rattle.rtk_cli.proofs.AutoLemmas.{has-codes, has-list, has-bad-list, auto-name-cause, auto-channels-cause}
@@ -10,13 +10,13 @@ use Rattle.rtk_cli.proofs.auto_words.auto_words.Goals as goal
 -- the reference has another form
 pub returns-in_err-near-clause-refused : goal.returns-in_err-near-clause-refused
 returns-in_err-near-clause-refused c =
-    exit-by (IsFirstAutoCause c.args.options.now) Near c.in_err-near.field-0.0 c.from_residual.result
+    exit-by (IsFirstAutoCause c.args.options.now) NearOfAuto c.in_err-near.field-0.0 c.from_residual.result
     c.in_err-near.ensures.cause.0 c.from_residual.ensures.1 (inl c.in_err-near.ensures.cause.1)
 
 -- the time of making has another form
 pub returns-in_err-made-clause-refused : goal.returns-in_err-made-clause-refused
 returns-in_err-made-clause-refused c =
-    exit-by (IsFirstAutoCause c.args.options.now) Made c.in_err-made.field-0.0 c.from_residual-in_err-made.result
+    exit-by (IsFirstAutoCause c.args.options.now) MadeOfAuto c.in_err-made.field-0.0 c.from_residual-in_err-made.result
     c.in_err-made.ensures.cause.0 c.from_residual-in_err-made.ensures.1
     ((c.in_ok-near.near, c.in_ok-near.ensures.moment), c.in_err-made.ensures.cause.1)
 
@@ -80,6 +80,6 @@ returns-in_err-reference-clause-refused c =
     let list : HasListToo o = (marker, has-list o.codes c.in_ok-codes.codes c.in_ok-codes.ensures.said (c.if-not-are_good_codes.ensures.0 refl)) in
     let channels : HasChannelsToo o = (list, (c.in_ok-channels.channels, c.in_ok-channels.ensures.said)) in
     let systems : HasSystemsToo o = (channels, (c.in_ok-systems.systems, c.in_ok-systems.ensures.said)) in
-    exit-by (IsFirstAutoCause o) Near c.in_err-reference.field-0.0 c.from_residual-in_err-reference.result
+    exit-by (IsFirstAutoCause o) NearOfAuto c.in_err-reference.field-0.0 c.from_residual-in_err-reference.result
     c.in_err-reference.ensures.cause.0 c.from_residual-in_err-reference.ensures.1
     (inr (systems, (c.in_ok-near.near, c.in_ok-near.ensures.moment, c.in_err-reference.ensures.cause.1)))

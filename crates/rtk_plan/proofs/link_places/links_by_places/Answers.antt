@@ -1,5 +1,5 @@
 use Rattle.std.proofs.Common.{◌≡◌, ◌∙◌, List, Option, ap, subst}
-use Rattle.std.specs.Prelude.{Result, Ok, Err, IfOk}
+use Rattle.std.proofs.lemmas.Result.{IfOk-weaker}
 use Rattle.rtk_captures.specs.Dating.{ArePlaced, IsNearOf, IsSpanOf, captures_of}
 use Rattle.rtk_captures.specs.Linking.{links_found}
 use Rattle.rtk_captures.specs.declared.station_capture.StationCapture.{StationCapture}
@@ -9,12 +9,8 @@ use Rattle.rtk_plan.specs.LinkPlaces.{places_among_links}
 use Rattle.rtk_plan.specs.declared.clock_reach.ClockDating.{ClockDating}
 use Rattle.rtk_plan.proofs.link_places.links_by_places.Goals as goal
 
-if-ok : {X E : Type 0} {P Q : X → Type 0} (r : Result X E) → ((x : X) → P x → Q x) → IfOk r P → IfOk r Q
-if-ok (Ok x) f p = f x p
-if-ok (Err e) f p = p
-
 pub returns : goal.returns
-returns c = if-ok c.links_found.result (λ links found.
+returns c = IfOk-weaker c.links_found.result _ _ (λ links found.
     let ss = c.args.captured.now.all.surveys.now in
     let given = c.args.given in
     let station = c.args.captured.now.station in

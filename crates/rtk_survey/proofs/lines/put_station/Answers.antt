@@ -3,6 +3,7 @@ use Rattle.std.specs.Prelude.{codes}
 use Rattle.rtk_obs.specs.AnyCode.{number_of}
 use Rattle.rtk_obs.specs.Code.{place_of}
 use Rattle.rtk_survey.specs.declared.equipment.Equipment.{Equipment}
+use Rattle.rtk_survey.specs.BitMarks.{is_marked_in}
 use Rattle.rtk_survey.specs.Chains.{no_clocks, clocks_at}
 use Rattle.rtk_survey.specs.FrameDates.{proposed_date}
 use Rattle.rtk_survey.specs.FrameEquipment.{told_lines}
@@ -32,7 +33,7 @@ returns c = λ ms date told stands.
     let times : List ℕ = times_of_week ms in
     let signals : List ℕ =
     signal_lines (λ n. get_or s.signals.satellites n false) (λ code. get_or s.signals.codes.marks (place_of code) false)
-    (λ n. get_or s.system_signals.satellites n false) (λ code. get_or s.system_signals.codes (number_of code) false) in
+    (λ n. is_marked_in s.system_signals.satellites.words n) (λ code. is_marked_in s.system_signals.codes.words (number_of code)) in
     let sent : SystemsSent = clocked_held s in
     let l0 : List ℕ = c.args.lines.now.items in
     let l1 : List ℕ = c.put_line.new.lines.items in

@@ -1,5 +1,6 @@
 use Rattle.std.proofs.Common.{◌≡◌, ◌||◌, ◌&&◌, ◌∙◌, Bool, List, true, false, not, get_or, refl, sym, ap}
 use Rattle.rtk_obs.specs.AnyCode.{number_of}
+use Rattle.rtk_survey.specs.BitMarks.{is_marked_in}
 use Rattle.rtk_survey.specs.Chains.{no_clocks, clocks_at}
 use Rattle.rtk_survey.specs.NextCommand.{number_by}
 use Rattle.rtk_survey.specs.Steps.OtherSystems.{codes_held_by}
@@ -21,4 +22,4 @@ returns-then-are_clocks_wrong c = λ k.
     let s = c.args.station.now in
     let clocks = ap (λ (cs : List ClockSurvey). is_system_wrong c.args.date (get_or cs 0 no_clocks).offsets c.args.system) c.as_slice.ensures.value in
     left-out (is_system_wrong c.args.date (clocks_at s.clocks).offsets c.args.system) (codes_held_by s (number_by (system_epochs_held s) c.args.system) k)
-    (get_or c.args.marks.now (number_of k) false) (sym clocks ∙ sym c.are_clocks_wrong.ensures ∙ c.if-are_clocks_wrong.true)
+    (is_marked_in c.args.marks.now.words (number_of k)) (sym clocks ∙ sym c.are_clocks_wrong.ensures ∙ c.if-are_clocks_wrong.true)

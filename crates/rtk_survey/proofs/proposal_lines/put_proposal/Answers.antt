@@ -5,6 +5,7 @@ use Rattle.rtk_obs.specs.declared.any_code.AnyCode.{AnyCode}
 use Rattle.rtk_obs.specs.declared.code.Code.{Code}
 use Rattle.rtk_obs.specs.AnyCode.{number_of}
 use Rattle.rtk_obs.specs.Code.{place_of}
+use Rattle.rtk_survey.specs.BitMarks.{is_marked_in}
 use Rattle.rtk_survey.specs.Contents.{epochs_held, codes_held}
 use Rattle.rtk_survey.specs.FrameDates.{proposed_date}
 use Rattle.rtk_survey.specs.NextCommand.{next_options, station_proposal}
@@ -30,7 +31,7 @@ returns c =
     let code : MsmKind → Code → Bool = codes_held s.msm in
     let near : List ℕ = near_text date in
     -- what each call gave
-    let marked : AnyCode → Bool = λ k. get_or c.taken_codes-others.result (number_of k) false in
+    let marked : AnyCode → Bool = λ k. is_marked_in c.taken_codes-others.result.words (number_of k) in
     let test : Code → Bool = λ k. get_or c.part.result.now.codes.marks (place_of k) false in
     let text : MsmKind → (Code → Bool) → (AnyCode → Bool) → List ℕ =
     λ kind t other. second_frequency_line t ++ other_msm_lines (epochs_held s.msm) kind ++ next_lines name near number (next_options beside items kind (systems_sent t other)) (all_codes_text t other) in

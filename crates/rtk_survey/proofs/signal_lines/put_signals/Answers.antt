@@ -4,6 +4,7 @@ use Rattle.rtk_obs.specs.declared.any_code.AnyCode.{AnyCode}
 use Rattle.rtk_obs.specs.declared.code.Code.{Code}
 use Rattle.rtk_obs.specs.AnyCode.{number_of}
 use Rattle.rtk_obs.specs.Code.{place_of}
+use Rattle.rtk_survey.specs.BitMarks.{is_marked_in}
 use Rattle.rtk_survey.specs.SummaryText.{list_line, satellites_text, indices_text, all_codes_text, signal_lines}
 use Rattle.rtk_survey.proofs.ListLemmas.{and-then}
 use Rattle.rtk_survey.proofs.signal_lines.put_signals.Goals as goal
@@ -12,9 +13,9 @@ pub returns : goal.returns
 unfolding signal_lines
 returns c =
     let satellites : List ℕ =
-    satellites_text (λ n. get_or c.args.signals.now.satellites n false) ++ indices_text (λ n. get_or c.args.others.now.satellites n false) in
+    satellites_text (λ n. get_or c.args.signals.now.satellites n false) ++ indices_text (λ n. is_marked_in c.args.others.now.satellites.words n) in
     let coded : Code → Bool = λ code. get_or c.args.signals.now.codes.marks (place_of code) false in
-    let other : AnyCode → Bool = λ code. get_or c.args.others.now.codes (number_of code) false in
+    let other : AnyCode → Bool = λ code. is_marked_in c.args.others.now.codes.words (number_of code) in
     let l0 : List ℕ = c.args.lines.now.items in
     let l1 : List ℕ = c.put_list.new.lines.items in
     let l2 : List ℕ = c.put_list-2.new.lines.items in

@@ -1,4 +1,4 @@
-use Rattle.std.proofs.Common.{◌<◌, ◌+◌, inl, inr, ℕ, length, drop, get_or, None, sym, ap, ◌∙◌, arith}
+use Rattle.std.proofs.Common.{◌<◌, ◌+◌, inl, inr, ℕ, length, drop, None, sym, ap, ◌∙◌, arith}
 use Rattle.std.proofs.lemmas.Bool.{cases_lt}
 use Rattle.rtk_rinex.specs.Record.{no_observation}
 use Rattle.rtk_chart.specs.Steps.Added.{with_row}

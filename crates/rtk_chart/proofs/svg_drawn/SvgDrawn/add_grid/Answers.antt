@@ -1,4 +1,4 @@
-use Rattle.std.proofs.Common.{◌≡◌, ℕ, List, length, ap, ◌∙◌}
+use Rattle.std.proofs.Common.{List, length, ap, ◌∙◌}
 use Rattle.rtk_chart.specs.SvgPicture.{band_top}
 use Rattle.rtk_chart.specs.Steps.SvgParts.{svg_view_of}
 use Rattle.rtk_chart.specs.TextPicture.{satellites_in}

@@ -1,4 +1,3 @@
-use Rattle.std.proofs.Common.{refl}
 use Rattle.rtk_chart.proofs.SvgSystemLemmas.{fresh-svg}
 use Rattle.rtk_chart.proofs.svg_drawn.SvgDrawn.new.Goals as goal
 
