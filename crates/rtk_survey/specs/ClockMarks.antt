@@ -1,6 +1,6 @@
 -- What dates the clocks of a station that give no epoch (this project's rule): its epochs, or as long as none came the dates
 -- that its 1013 and 1029 name.
-use Rattle.std.specs.Prelude.{ℕ, Bool, true, false, min, List, [], ◌∷◌, Option, None, Some, if◌then◌else◌}
+use Rattle.std.specs.Prelude.{ℕ, true, false, min, List, [], ◌∷◌, Option, None, Some, if◌then◌else◌}
 use Rattle.rtk_obs.specs.declared.time.TheConstants.{LAST_MS}
 use Rattle.rtk_survey.specs.CaptureDates.{is_own, reference_named}
 use Rattle.rtk_survey.specs.declared.capture_dates.CaptureDates.{CaptureDates}

@@ -38,7 +38,7 @@ pub struct FollowedTime {
     pub time: u32,
 }
 
-/// How far a clock goes: the fields of its `Span`, in ms, as a survey keeps them of each station.
+/// A `FollowedSpan` in plain numbers: the fields of its `Span`, in ms. A survey keeps one of each clock of a station.
 #[derive(Clone, Copy, Debug, PartialEq, Eq)]
 pub struct ClockSpan {
     pub first: u64,

@@ -1,4 +1,4 @@
-use Rattle.std.proofs.Common.{◌≡◌, ℕ, Bool, true, Option, sym, ap, subst, ◌∙◌}
+use Rattle.std.proofs.Common.{ℕ, Option, sym, ap, subst, ◌∙◌}
 use Rattle.std.specs.BTreeMap.{BTreeMap}
 use Rattle.rtk_bits.specs.Bits.{bits}
 use Rattle.rtk_survey.specs.ClockSpans.{clocks_by_station}
