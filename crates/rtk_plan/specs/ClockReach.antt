@@ -10,14 +10,15 @@ use Rattle.rtk_message.specs.declared.system.System.TheVariants.{Glonass, Beidou
 use Rattle.rtk_obs.specs.declared.time.TheConstants.{LAST_MS}
 use Rattle.rtk_setup.specs.Setup.{SetupView, lists_system}
 use Rattle.rtk_survey.specs.ClockMarks.{marks_of_epochs, opened_moment}
-use Rattle.rtk_survey.specs.ClockSpans.{clock_moment, clock_anchored, opened_span, clocks_by_station, no_station_clocks}
+use Rattle.rtk_survey.specs.ClockSpans.{clock_moment, clock_anchored, opened_span}
+use Rattle.rtk_survey.specs.StationClocks.{clocks_by_station, no_station_clocks}
 use Rattle.rtk_survey.specs.Targets.{marks_if_known}
 use Rattle.rtk_survey.specs.Telling.{dated}
 use Rattle.rtk_survey.specs.declared.clock_marks.ClockMarks.{ClockMarks}
 use Rattle.rtk_survey.specs.declared.clock_spans.ClockSpan.{ClockSpan}
 use Rattle.rtk_survey.specs.declared.clock_spans.FollowedClock.{FollowedClock}
 use Rattle.rtk_survey.specs.declared.clock_spans.FollowedClock.TheVariants.{GlonassWeek, BeidouWeek, GlonassDay}
-use Rattle.rtk_survey.specs.declared.clock_spans.StationClocks.{StationClocks}
+use Rattle.rtk_survey.specs.declared.station_clocks.StationClocks.{StationClocks}
 use Rattle.rtk_survey.specs.declared.placing.Placed.{Placed}
 use Rattle.rtk_survey.specs.declared.span.Span.{Span}
 use Rattle.rtk_survey.specs.declared.survey.CaptureSurvey.{CaptureSurvey}

@@ -33,6 +33,7 @@ pub mod Proposal
 pub mod ReadFrames
 pub mod ReferencePoints
 pub mod Sbas
+pub mod StationClocks
 pub mod Steps
 pub mod Summary
 pub mod SummaryText

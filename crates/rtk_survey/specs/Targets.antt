@@ -15,7 +15,8 @@ use Rattle.rtk_survey.specs.BesideGps.{gives_value_beside}
 use Rattle.rtk_survey.specs.BitMarks.{is_marked_in}
 use Rattle.rtk_survey.specs.CaptureDates.{no_dates, with_epoch_time, with_date, with_waiting}
 use Rattle.rtk_survey.specs.ClockMarks.{marks_in}
-use Rattle.rtk_survey.specs.ClockSpans.{followed_with_value, no_station_clocks, clocks_by_station, with_time_for_if_any}
+use Rattle.rtk_survey.specs.ClockSpans.{followed_with_value}
+use Rattle.rtk_survey.specs.StationClocks.{no_station_clocks, clocks_by_station, with_time_for_if_any}
 use Rattle.rtk_survey.specs.Counting.{shown_count}
 use Rattle.rtk_survey.specs.DateMessages.{date_in}
 use Rattle.rtk_survey.specs.Epochs.{last_time_of_week}
@@ -31,7 +32,7 @@ use Rattle.rtk_survey.specs.Tracing.{entries_of_message}
 use Rattle.rtk_survey.specs.declared.capture_dates.CaptureDates.{CaptureDates}
 use Rattle.rtk_survey.specs.declared.date_message.DateMessage.{DateMessage}
 use Rattle.rtk_survey.specs.declared.clock_marks.ClockMarks.{ClockMarks}
-use Rattle.rtk_survey.specs.declared.clock_spans.StationClocks.{StationClocks}
+use Rattle.rtk_survey.specs.declared.station_clocks.StationClocks.{StationClocks}
 use Rattle.rtk_survey.specs.declared.dating_systems.DatingSystems.{DatingSystems}
 use Rattle.rtk_survey.specs.declared.equipment_message.EquipmentMessage.{EquipmentMessage}
 use Rattle.rtk_survey.specs.declared.parting.Parting.{Parting}

@@ -1,9 +1,10 @@
 use Rattle.std.proofs.Common.{ℕ, sym, ap, ◌∙◌}
 use Rattle.rtk_message.specs.AnyDecoded.{station_of}
-use Rattle.rtk_survey.specs.ClockSpans.{followed_with_value, with_time_for_if_any}
+use Rattle.rtk_survey.specs.ClockSpans.{followed_with_value}
+use Rattle.rtk_survey.specs.StationClocks.{with_time_for_if_any}
 use Rattle.rtk_survey.specs.ReadFrames.{messages_in}
 use Rattle.rtk_survey.specs.Targets.{with_observation, marks_if_known, clocks_in}
-use Rattle.rtk_survey.specs.declared.clock_spans.StationClocks.{StationClocks}
+use Rattle.rtk_survey.specs.declared.station_clocks.StationClocks.{StationClocks}
 use Rattle.rtk_survey.specs.declared.dating_systems.DatingSystems.{DatingSystems}
 use Rattle.rtk_survey.specs.declared.target.TargetDates.{TargetDates}
 use Rattle.rtk_survey.proofs.ResultLemmas.{on-ok}

@@ -5,10 +5,10 @@ use Rattle.std.specs.BTreeMap.{BTreeMap, is_at, Updates}
 use Rattle.std.specs.Map.{lookup}
 use Rattle.std.specs.Option.{unwrap_or}
 use Rattle.std.specs.Ordering.{nat_cmp}
-use Rattle.rtk_survey.specs.ClockSpans.{no_station_clocks, with_followed_time, clocks_by_station, with_time_for}
+use Rattle.rtk_survey.specs.StationClocks.{no_station_clocks, with_followed_time, clocks_by_station, with_time_for}
 use Rattle.rtk_survey.specs.declared.clock_marks.ClockMarks.{ClockMarks}
 use Rattle.rtk_survey.specs.declared.clock_spans.FollowedTime.{FollowedTime}
-use Rattle.rtk_survey.specs.declared.clock_spans.StationClocks.{StationClocks}
+use Rattle.rtk_survey.specs.declared.station_clocks.StationClocks.{StationClocks}
 use Rattle.rtk_survey.proofs.MapLemmas.{other-key}
 
 pub nothing-followed : (m : BTreeMap ℕ StationClocks) → m.entries ≡ [] → (n : ℕ) → clocks_by_station m n ≡ no_station_clocks

@@ -3,10 +3,10 @@ use Rattle.std.specs.BTreeMap.{BTreeMap, get}
 use Rattle.std.specs.BTreeMap.Entry.{map_with_value}
 use Rattle.std.specs.Option.{unwrap_or}
 use Rattle.std.specs.Ordering.{nat_cmp}
-use Rattle.rtk_survey.specs.ClockSpans.{with_followed_time, clocks_by_station}
-use Rattle.rtk_survey.specs.declared.clock_spans.StationClocks.{StationClocks}
-use Rattle.rtk_survey.proofs.ClockSpanLemmas.{put-clocks, other-clocks}
-use Rattle.rtk_survey.proofs.clock_spans.take_followed_time.Goals as goal
+use Rattle.rtk_survey.specs.StationClocks.{with_followed_time, clocks_by_station}
+use Rattle.rtk_survey.specs.declared.station_clocks.StationClocks.{StationClocks}
+use Rattle.rtk_survey.proofs.StationClockLemmas.{put-clocks, other-clocks}
+use Rattle.rtk_survey.proofs.station_clocks.take_followed_time.Goals as goal
 
 pub returns-clause-own : goal.returns-clause-own
 returns-clause-own c =
