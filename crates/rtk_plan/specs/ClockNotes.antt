@@ -25,9 +25,14 @@ clock_falls (Some k) = k.falls
 abbrev pub has_week_clock : TakenClocks → StationClocks → Bool
 has_week_clock taken s = (taken.glonass && is_some s.glonass) || (taken.beidou && is_some s.beidou)
 
--- there are 1012 with values, and 1012 are converted, or left out since they can't be dated
+-- 1012 have no MSM of GLONASS that tells their day
+abbrev pub lacks_day : Option ClockSpan → Bool
+lacks_day None = false
+lacks_day (Some k) = not k.has_day
+
+-- there are such 1012 with values, and 1012 are converted, or left out since they can't be dated
 abbrev pub has_day_clock : TakenClocks → Bool → StationClocks → Bool
-has_day_clock taken leaves_1012 s = (taken.glonass_day || leaves_1012) && is_some s.glonass_day
+has_day_clock taken leaves_1012 s = (taken.glonass_day || leaves_1012) && lacks_day s.glonass_day
 
 -- such a clock tells an earlier time after a later one
 abbrev pub taken_clock_falls : TakenClocks → StationClocks → Bool
@@ -73,8 +78,8 @@ abbrev pub day_line_if_any : Option Told → List ℕ → List ℕ
 day_line_if_any None name = []
 day_line_if_any (Some t) name = day_line t name
 
--- a capture without an epoch has 1012 and names a moment, but no 1013 or 1029 of the station does: an ephemeris names the time
--- that it is of, which may be hours off
+-- a capture without an epoch has such 1012 and names a moment, but no 1013 or 1029 of the station does: an ephemeris names the
+-- time that it is of, which may be hours off
 abbrev pub day_line_of : TakenClocks → Bool → StationCapture → StationClocks → List ℕ → List ℕ
 day_line_of taken leaves_1012 c s name =
     if has_day_clock taken leaves_1012 s && not c.is_own_moment then day_line_if_any c.moment name else []

@@ -10,7 +10,7 @@ use Rattle.rtk_message.specs.declared.system.System.TheVariants.{Glonass, Beidou
 use Rattle.rtk_obs.specs.declared.time.TheConstants.{LAST_MS}
 use Rattle.rtk_setup.specs.Setup.{SetupView, lists_system}
 use Rattle.rtk_survey.specs.ClockMarks.{marks_of_epochs, opened_moment}
-use Rattle.rtk_survey.specs.ClockSpans.{clock_moment, clock_anchored, opened_span}
+use Rattle.rtk_survey.specs.ClockSpans.{clock_moment, redating_clock, clock_anchored, opened_span}
 use Rattle.rtk_survey.specs.StationClocks.{clocks_by_station, no_station_clocks}
 use Rattle.rtk_survey.specs.Targets.{marks_if_known}
 use Rattle.rtk_survey.specs.Telling.{dated}
@@ -104,7 +104,8 @@ placed_by_dates way clock m k =
 -- with the first message near a moment
 abbrev pub placed_near : ClockDating → FollowedClock → ℕ → ClockSpan → Placed
 placed_near way clock near k =
-    placed_clock_span (clock_lead clock way.seconds) (clock_moment clock near ((opened_span k).span.first % week_ms)) (opened_span k).span.first (opened_span k).span
+    placed_clock_span (clock_lead clock way.seconds) (clock_moment (redating_clock clock k.has_day) near ((opened_span k).span.first % week_ms))
+    (opened_span k).span.first (opened_span k).span
 
 -- formula
 -- the middle of the first and the last moment of a clock
@@ -115,7 +116,9 @@ middle_of_span s = midway s.least s.greatest
 -- with the middle of its moments near the middle of the epochs of the others
 abbrev pub placed_in_middle : ClockDating → FollowedClock → ClockSpan → Placed
 placed_in_middle way clock k =
-    placed_clock_span (clock_lead clock way.seconds) (clock_moment clock way.middle (middle_of_span (opened_span k).span % week_ms)) (middle_of_span (opened_span k).span) (opened_span k).span
+    placed_clock_span (clock_lead clock way.seconds)
+    (clock_moment (redating_clock clock k.has_day) way.middle (middle_of_span (opened_span k).span % week_ms))
+    (middle_of_span (opened_span k).span) (opened_span k).span
 
 abbrev pub placed_by_moment : ClockDating → FollowedClock → Option Told → ClockSpan → Placed
 placed_by_moment way clock None k = placed_in_middle way clock k

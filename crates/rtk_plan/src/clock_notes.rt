@@ -32,11 +32,21 @@ fn has_week_clock(taken: TakenClocks, clocks: &StationClocks) -> bool
     (taken.glonass && clocks.glonass.is_some()) || (taken.beidou && clocks.beidou.is_some())
 }
 
-// Are there 1012 with values, which are converted, or left out since they can't be dated?
+// Have 1012 no MSM of GLONASS that tells their day?
+fn lacks_day(known: &Option<ClockSpan>) -> bool
+    ensures { result ≡ spec.lacks_day known.now }
+{
+    match known {
+        Some(known) => !known.has_day,
+        None => false,
+    }
+}
+
+// Are there such 1012 with values, which are converted, or left out since they can't be dated?
 fn has_day_clock(taken: TakenClocks, leaves_1012: bool, clocks: &StationClocks) -> bool
     ensures { result ≡ spec.has_day_clock taken leaves_1012 clocks.now }
 {
-    (taken.glonass_day || leaves_1012) && clocks.glonass_day.is_some()
+    (taken.glonass_day || leaves_1012) && lacks_day(&clocks.glonass_day)
 }
 
 // Does such a clock tell an earlier time after a later one?
@@ -145,7 +155,7 @@ fn put_day_if_any(lines: &mut Vec<u8>, told: &Option<Told>, name: &str) -> Resul
     }
 }
 
-// Appends that moment, if a capture has 1012 and another message than a 1013 or a 1029 of the station names it: an ephemeris
+// Appends that moment, if a capture has such 1012 and another message than a 1013 or a 1029 of the station names it: an ephemeris
 // names the time that it is of, which may be hours off.
 fn put_day_of(
     lines: &mut Vec<u8>,

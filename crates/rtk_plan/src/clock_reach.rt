@@ -21,6 +21,7 @@ use rtk_setup::{LeapSeconds, Reference, Setup};
 use rtk_survey::{
     CaptureSurvey, ClockMarks, ClockSpan, FollowedClock, Placed, Span, StationClocks, TargetSurvey,
     Told, clock_moment, clocks_by_station, is_dated_near, marks_if_known, opened_moment,
+    redating_clock,
 };
 use std::alloc::{AllocError, Global};
 
@@ -234,7 +235,8 @@ fn placed_near(way: &ClockDating, clock: FollowedClock, near: GpsMs, known: &Clo
 {
     let opened = known.opened();
     let undated = first_ms(&opened.span);
-    let first = clock_moment(clock, near, (undated % WEEK_MS) as u32);
+    let redating = redating_clock(clock, known.has_day);
+    let first = clock_moment(redating, near, (undated % WEEK_MS) as u32);
     let lead = clock_lead(clock, way.seconds);
     placed_clock_span(lead, first, undated, &opened.span)
 }
@@ -251,7 +253,8 @@ fn placed_in_middle(way: &ClockDating, clock: FollowedClock, known: &ClockSpan) 
 {
     let opened = known.opened();
     let undated = middle_of_span(&opened.span);
-    let first = clock_moment(clock, way.middle, (undated % WEEK_MS) as u32);
+    let redating = redating_clock(clock, known.has_day);
+    let first = clock_moment(redating, way.middle, (undated % WEEK_MS) as u32);
     let lead = clock_lead(clock, way.seconds);
     placed_clock_span(lead, first, undated, &opened.span)
 }

@@ -47,7 +47,7 @@ fn ends_with_placed(ends: Ends, placed: Option<Placed>) -> Ends
     }
 }
 
-// Those of the 1012 of a capture too.
+// Those of the 1012 and the MSM of GLONASS of a capture too.
 fn ends_with_capture(
     way: &ClockDating,
     ends: Ends,
@@ -56,8 +56,9 @@ fn ends_with_capture(
 ) -> Ends
     ensures { result ≡ spec.ends_with_capture way.now ends survey.now placed }
 {
-    let times = clock_placed(way, FollowedClock::GlonassDay, survey, &placed);
-    ends_with_placed(ends, times)
+    let week = clock_placed(way, FollowedClock::GlonassWeek, survey, &placed);
+    let day = clock_placed(way, FollowedClock::GlonassDay, survey, &placed);
+    ends_with_placed(ends_with_placed(ends, week), day)
 }
 
 // Those of captures that are placed so.

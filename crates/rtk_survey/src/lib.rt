@@ -144,6 +144,7 @@ pub use equipment_message::Receiver;
 pub use equipment_message::Text;
 pub use equipment_message::equipment_in;
 pub use far_date::FarDate;
+pub use far_date::first_far_date;
 pub use frame_place::place_of_frame;
 pub use laws::all_are_taken_alike;
 pub use laws::each_frame_is_counted;
