@@ -370,11 +370,7 @@ impl FollowedSpan {
         ensures { result ≡ spec.is_marked_by marks.now self.now }
     {
         let are_dates = marks.date.is_some();
-        let is_alike = if self.by_dates {
-            are_dates
-        } else {
-            !are_dates
-        };
+        let is_alike = if self.by_dates { are_dates } else { !are_dates };
         self.mark.is_some() && is_alike
     }
 
@@ -419,7 +415,11 @@ impl FollowedSpan {
     }
 
     /// The same, if some came.
-    pub(crate) fn anchored_if_any(&self, clock: FollowedClock, marks: &Option<ClockMarks>) -> FollowedSpan
+    pub(crate) fn anchored_if_any(
+        &self,
+        clock: FollowedClock,
+        marks: &Option<ClockMarks>,
+    ) -> FollowedSpan
         ensures { result ≡ spec.clock_anchored_if_any clock marks.now self.now }
     {
         match marks {

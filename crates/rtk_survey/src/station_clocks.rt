@@ -163,11 +163,7 @@ fn far_message(date: Option<UtcDate>, ms: u64) -> Option<FarDate>
     }
 }
 
-fn last_if_any(
-    clock: FollowedClock,
-    marks: &ClockMarks,
-    known: &Option<ClockSpan>,
-) -> Option<GpsMs>
+fn last_if_any(clock: FollowedClock, marks: &ClockMarks, known: &Option<ClockSpan>) -> Option<GpsMs>
     ensures { result ≡ spec.last_if_any clock marks.now known.now }
 {
     match known {

@@ -157,11 +157,16 @@ impl Tellings {
     }
 
     /// A message more, after these epochs of the station.
-    pub(crate) fn take_behind(&mut self, now: GpsMs, station: u16, span: &Span, message: &DateMessage)
+    pub(crate) fn take_behind(
+        &mut self,
+        now: GpsMs,
+        station: u16,
+        span: &Span,
+        message: &DateMessage,
+    )
         ensures { self.new ≡ with_telling_behind now station span.now message.now self.old }
     {
-        self.waiting_far =
-            last_far_date(self.waiting_far, far_date(now, station, span, message));
+        self.waiting_far = last_far_date(self.waiting_far, far_date(now, station, span, message));
         if let Some(first) = first_epoch_told(now, span, message) {
             self.put_first(station, message, first);
         }
