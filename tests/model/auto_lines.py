@@ -135,15 +135,18 @@ def to_come_lines(now: int, captures: list[finding.Capture], at: int) -> list[st
     return [] if it is None else [f"{date_text(*it, name_of(at))}: it is after the time of making"]
 
 
-# pins: far_head, far_epoch
+# pins: far_head, far_epoch, far_neighbour
 def far_lines(now: int, captures: list[finding.Capture], at: int, station: int) -> list[str]:
-    """The first date of the station in the capture at this place that is far from the epoch beside it, or nothing."""
-    far = finding.far_date(now, captures[at], station)
+    """The first date of the station in the capture at this place that is far from the epochs beside it, or if it has none from the
+    messages of GLONASS and BeiDou; or nothing."""
+    has_epochs = bool(captures[at].times(station))
+    far = finding.far_date(now, captures[at], station) if has_epochs else finding.far_from_clocks(now, captures[at], station)
     if far is None:
         return []
-    fields, epoch = far
+    fields, moment = far
     date = date_text(fields, finding.utc_moment(fields), name_of(at))
-    return [f" other-date{date}: it dates the epoch beside it as {shown_time(epoch)}"]
+    beside = "it dates the epoch beside it as" if has_epochs else "the message beside it is dated"
+    return [f" other-date{date}: {beside} {shown_time(moment)}"]
 
 
 def distinct(told: list[finding.Told]) -> list[finding.Told]:

@@ -18,7 +18,7 @@ from typing import NamedTuple
 
 from channels import orbit_of
 from choosing import Allowed, Chosen, Sent, Wanted, choose, has_value_of_1012, leap_of
-from clock_spans import CLOCKS, DAY, Going, Marked, going, placed
+from clock_spans import DAY, Far, Going, Marked, followed, placed
 from clocks import leap_seconds_at, near_of_span
 from equipment import equipment_of
 from messages import Refusal, frames_of
@@ -214,14 +214,15 @@ WAITING = 64  # how many messages before the first epoch are looked at,
 WAITING_WEEKS = 16  # and how many 1042, 1045 and 1046 beside them
 
 
-def dates_beside(capture: Capture, station: int) -> list[tuple[Fields, int]]:
-    """The messages that are looked at, each with the time of week of the last epoch before it, or else of the first one."""
+def dates_beside(capture: Capture, station: int) -> list[tuple[Fields, int, int | None, int]]:
+    """The messages that are looked at, each with the time of week of the last epoch before it, or else of the first one; with that of
+    the epoch behind it, if one comes; and how many epochs come before it."""
     times = capture.times(station)
     beside, epochs, waits = [], 0, {at for at, _ in waiting_in(capture)}
     for place, entry in enumerate(capture.read):
         epochs += capture.observes(station, entry)
         if not isinstance(entry, Message) and times and (epochs > 0 or place in waits):
-            beside.append((entry, times[max(epochs - 1, 0)]))
+            beside.append((entry, times[max(epochs - 1, 0)], times[epochs] if epochs < len(times) else None, epochs))
     return beside
 
 
@@ -426,12 +427,31 @@ def utc_moment(fields: Fields) -> int:
 
 # pins: is_far_from_epoch
 def far_date(now: int, capture: Capture, station: int) -> tuple[Fields, int] | None:
-    """The first 1013 or 1029 of the station that tells a time more than half a day from the epoch that it dates, with that epoch."""
-    for entry, tow in dates_beside(capture, station):
-        date = told_moment(now, entry, tow) if entry.get("station") == station else None
-        if date is not None and abs(date - utc_moment(entry)) > DAY_MS // 2:
+    """The first 1013 or 1029 of the station that tells a time more than half a day from the epoch before it and the one behind it, as
+    it dates them, with the one before it. Of several between two epochs the last counts. One before the first epoch has that alone."""
+    beside = [it for it in dates_beside(capture, station) if it[0].get("station") == station]
+    fars: dict[int, tuple[Fields, int, int | None]] = {}
+    for entry, tow, behind, epochs in beside:
+        date = far_moment(now, entry, tow)
+        if date is not None and epochs == 0:
+            return entry, date
+        if date is not None:
+            fars[epochs] = entry, date, behind
+    for entry, date, behind in fars.values():
+        if behind is None or far_moment(now, entry, behind) is not None:
             return entry, date
     return None
+
+
+def far_moment(now: int, fields: Fields, tow: int) -> int | None:
+    """An epoch at this time of week as a 1013 or 1029 dates it, if it is more than half a day from its time."""
+    date = told_moment(now, fields, tow)
+    return date if date is not None and abs(date - utc_moment(fields)) > DAY_MS // 2 else None
+
+
+def far_from_clocks(now: int, capture: Capture, station: int) -> Far | None:
+    """The same of a capture without epochs, by the messages of GLONASS and BeiDou beside the date."""
+    return followed(marked_in(capture, station, [], own_dates(now, capture, station, None)))[1]
 
 
 def stray_of(epochs: list[list[int]], places: list[int]) -> tuple[int, list[int]] | None:
@@ -546,7 +566,7 @@ def find(texts: list[bytes], now: int, wanted: Wanted = Wanted()) -> Found:
     letters = {*chosen.letters, *[DAY] * chosen.with_1012}
     taken = [{it: its for it, its in of.items() if it in letters} for of in clocks]
     leaves_1012 = middle is None and GLONASS.letter in wanted.letters and any(has_value_of_1012(it) for it in messages)
-    has_day = [DAY in clock and (chosen.with_1012 or leaves_1012) for clock in clocks]
+    has_day = [DAY in clock and not clock[DAY].has_day and (chosen.with_1012 or leaves_1012) for clock in clocks]
     by_words = wanted.near is not None  # which tells the week, and so not the day of 1012
     undated = [own is None and not of and (has or bool(it) and not by_words) for own, of, it, has in zip(owns, epochs, taken, has_day)]
     days = {at: it for at, it, has in zip(places, owns, has_day) if has and it is not None and it.fields.get("station") != number}
@@ -573,23 +593,28 @@ def own_dates(now: int, capture: Capture, station: int, near: int | None) -> dic
 
 def clocks_in(capture: Capture, station: int, epochs: list[int], dates: dict[int, int]) -> dict[str, Going]:
     """How the clocks of GLONASS and BeiDou of the station go that have a message with a value."""
+    return followed(marked_in(capture, station, epochs, dates))[0]
+
+
+def marked_in(capture: Capture, station: int, epochs: list[int], dates: dict[int, int]) -> list[Marked]:
+    """The messages of the station with the moments of its epochs, and the dates that it names."""
     dated_by = iter(epochs)
     entries = []
     for at, it in enumerate(capture.read):
         if at in dates:
-            entries.append(Marked(None, date=dates[at]))
+            entries.append(Marked(None, date=dates[at], fields=fields_of(it)))
         elif isinstance(it, Message) and it.header["station"] == station:
             entries.append(Marked(it, next(dated_by) if capture.observes(station, it) else None))
-    goings = {clock: going(clock, entries) for clock in CLOCKS}
-    return {clock: it for clock, it in goings.items() if it.moments}
+    return entries
 
 
 # pins: middle_up, middle_second, can_date, dates_ends
 def near_with_1012(epochs: list[int], clocks: list[dict[str, Going]], moments: list[dict[str, list[int]]]) -> int | None:
-    """The moment near which the station's 1012 are dated right, if there is one."""
-    every = [*epochs, *(it for of in moments for it in of.get(DAY, []))]
+    """The moment near which the station's 1012 are dated right, if there is one: all MSM of GLONASS lie near it, too."""
+    of_glonass = (GLONASS.letter, DAY)
+    every = [*epochs, *(it for of in moments for clock in of_glonass for it in of.get(clock, []))]
     middle = near_of_span(min(every), max(every))
-    if any(DAY in of and of[DAY].is_wide for of in clocks):
+    if any(clock in of and of[clock].is_wide for of in clocks for clock in of_glonass):
         return None
     return middle if middle is not None and FIRST_NEAR <= middle <= LAST_NEAR else None
 
