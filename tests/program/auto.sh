@@ -259,10 +259,14 @@ finds galileo_of_now "$two 1013" "$one_command galileo_of_now" '4 2 0 0 2 0 0 0 
 finds tuesday '2024-05-24T12:00:00 until 2024-05-24T12:00:01 by 1013' "$(command 2024-05-24T12:00:00) tuesday" "$counts" 0 '' \
     ' other-date 2024-05-21T12:00:00 by 1013 of station 2003 in tuesday: it dates the epoch beside it as 2024-05-24T12:00:00'
 finds monday "$two 1013" "$one_command monday" '5 3 0 0 2 0 0 0 2' 0 one.rnx \
-    ' other-date 2024-05-20T12:00:02 by 1013 of station 2003 in monday: it dates the epoch beside it as 2024-05-17T12:00:01'
+    ' other-date 2024-05-19T12:00:03 by 1013 of station 2003 in monday: it dates the epoch beside it as 2024-05-17T12:00:01'
 finds half_day "$two 1013" "$one_command half_day" "$counts" 0 one.rnx
 finds over_half_day "$two 1029" "$one_command over_half_day" "$counts" 0 one.rnx \
     ' other-date 2024-05-18T00:00:01 by 1029 of station 2003 in over_half_day: it dates the epoch beside it as 2024-05-17T12:00:00'
+finds behind_a_gap "$noon until 2024-05-18T01:00:00 by 1013" "$one_command behind_a_gap" '4 2 0 0 2 0 0 0 2' 0 '' \
+    ' gap 2024-05-17T12:00:00 until 2024-05-18T01:00:00'
+finds next_day "$two 1013" "$one_command next_day" '4 2 0 0 2 0 0 0 2' 0 one.rnx \
+    ' other-date 2024-05-18T12:00:01 by 1013 of station 2003 in next_day: it dates the epoch beside it as 2024-05-17T12:00:00'
 finds monday_of_another "$two 1013" "$one_command monday_of_another" '4 2 0 0 2 0 0 0 2' 0 one.rnx
 position=
 finds 'one position' "$two 1013" "cat position one | $one_command stdin" '4 1 0 0 3 0 0 0 2' 0 '' ' no-epoch position'
@@ -394,6 +398,9 @@ finds 'glonass one' "$two 1013" "$glonass_command glonass one" '5 1 0 0 4 0 0 0 
 finds '--near 2024-05-17T12:00:00 glonass one' "$two --near" "$glonass_command glonass one" '5 1 0 0 4 0 0 0 2' 0 '' "$of_glonass no-epoch glonass"
 finds 'glonass_2_days one' "$noon until 2024-05-19T12:00:00 by 1013" "cat one glonass_2_days | $glonass_command stdin" '5 2 0 0 3 0 0 0 3' 0 '' \
     " gap 2024-05-17T12:00:01 until 2024-05-19T12:00:00\n$of_glonass no-epoch glonass_2_days"
+# pins: far_neighbour
+finds 'glonass_next_day one' "$two 1013" "cat glonass_next_day one | $glonass_command stdin" '5 2 0 0 3 0 0 0 2' 0 '' \
+    " other-date 2024-05-18T12:00:00 by 1013 of station 2003 in glonass_next_day: the message beside it is dated 2024-05-17T11:59:42\n$of_glonass no-epoch glonass_next_day"
 finds '--near 2024-05-17T12:00:00 glonass_4_days one' "2024-05-14T12:00:00 until 2024-05-17T12:00:01 by --near" "cat glonass_4_days one | $glonass_command stdin" '6 2 0 0 4 0 0 0 4' 0 '' \
     " gap 2024-05-14T12:00:01 until 2024-05-17T12:00:00\n other-date 2024-05-24T12:00:00 by 1013 of station 2003 in glonass_4_days\n$of_glonass no-epoch glonass_4_days"
 finds '--systems G glonass_4_days one' "$two 1013" "cat one glonass_4_days | $one_command stdin" '6 4 0 0 2 0 0 0 2' 0 '' \

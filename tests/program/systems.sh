@@ -459,6 +459,11 @@ python3 "$here/framed.py" $R12_LATER 3F5002E5F965F40048 >of_other.rtcm
 # pins: day_line
 for capture in of_1012 of_other; do run auto --made $made --marker BASE of_gps.rtcm $capture.rtcm; grep '^ day-of-1012' err; done >told
 echo ' day-of-1012 2020-01-25T14:30:00 by 1013 of station 2 in of_other.rtcm' >want; same auto_day_of_1012 told want
+# A 1013 a day behind the 1012 before it is told.
+python3 "$here/framed.py" $AT_1430 $R12_LATER 3F5001E5FA65F40048 >of_two_days.rtcm; run auto --made $made --marker BASE of_gps.rtcm of_two_days.rtcm
+grep '^ other-date' err >told
+echo ' other-date 2020-01-26T14:30:00 by 1013 of station 1 in of_two_days.rtcm: the message beside it is dated 2020-01-25T14:30:00' >want
+same auto_1013_a_day_behind told want
 # No word tells the day of 1012: --near tells the week.
 python3 "$here/framed.py" $R12_LATER >of_none.rtcm; run auto --near 2020-01-25T00:00:00 --made $made --marker BASE of_gps.rtcm of_none.rtcm
 grep '^ undated' err >told; echo ' undated of_none.rtcm: dated near the others' >want; same auto_1012_of_no_day told want

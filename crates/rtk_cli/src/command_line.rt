@@ -17,7 +17,7 @@ use std::alloc::{AllocError, Global};
 const NAME: &str = "rtcm2rinex";
 
 /// The version that `--version` shows.
-const VERSION: &str = "0.8.0";
+const VERSION: &str = "0.9.0";
 
 /// The window if none is given.
 const WINDOW: &str = "64";
