@@ -62,10 +62,12 @@ far_clocks_for n (Some t) = far_from_clocks (marks_if_known t.present n t.dates)
 abbrev pub far_clocks_in : ℕ → CaptureSurvey → Option FarDate
 far_clocks_in n s = far_clocks_for n s.contents.target
 
-abbrev pub far_line_beside : Option Span → Tellings → Option FarDate → List ℕ → List ℕ
-far_line_beside None t clocks name = far_clock_line_if clocks name
-far_line_beside (Some s) t clocks name = far_date_line_if (far_from_epochs t) name
+-- beside these epochs, or none
+abbrev pub far_line_beside : Option Span → Option FarDate → Option FarDate → List ℕ → List ℕ
+far_line_beside None epochs clocks name = far_clock_line_if clocks name
+far_line_beside (Some s) epochs clocks name = far_date_line_if epochs name
 
 -- the line of a capture: by its epochs, or if it has none by its clocks
 abbrev pub far_date_line_in : ℕ → CaptureSurvey → List ℕ → List ℕ
-far_date_line_in station s name = far_line_beside (dates_in station s).span (dates_in station s).told (far_clocks_in station s) name
+far_date_line_in station s name =
+    far_line_beside (dates_in station s).span (far_from_epochs (dates_in station s).told) (far_clocks_in station s) name

@@ -14,8 +14,8 @@ use crate::station_capture::{is_station, span_in};
 use crate::times::{put_time, put_time_at};
 use rtk_obs::LAST_MS;
 use rtk_survey::{
-    CaptureSurvey, DateMessage, FarDate, TargetSurvey, UtcDate, clocks_by_station, first_far_date,
-    marks_if_known, moment_of,
+    CaptureSurvey, DateMessage, FarDate, Span, TargetSurvey, UtcDate, clocks_by_station,
+    first_far_date, marks_if_known, moment_of,
 };
 use std::alloc::AllocError;
 
@@ -126,6 +126,22 @@ fn put_far_clock_if(lines: &mut Vec<u8>, far: Option<FarDate>, name: &str) -> Re
     }
 }
 
+// Appends the line of a date that is far from epochs, or if there are none from clocks.
+fn put_far_beside(
+    lines: &mut Vec<u8>,
+    span: Option<Span>,
+    epochs: Option<FarDate>,
+    clocks: Option<FarDate>,
+    name: &str,
+) -> Result<(), AllocError>
+    ensures { OnOk result (lines.new.items ≡ lines.old.items ++ spec.far_line_beside span epochs clocks name.now) }
+{
+    match span {
+        Some(_) => put_far_line_if(lines, epochs, name),
+        None => put_far_clock_if(lines, clocks, name),
+    }
+}
+
 /// Appends the line of a capture in which a message of the station tells a date far from the epochs beside it, or if the
 /// capture has none from the messages of GLONASS and BeiDou.
 pub fn put_far_date(
@@ -136,8 +152,8 @@ pub fn put_far_date(
 ) -> Result<(), AllocError>
     ensures { OnOk result (lines.new.items ≡ lines.old.items ++ spec.far_date_line_in station survey.now name.now) }
 {
-    match span_in(station, survey) {
-        Some(_) => put_far_line_if(lines, far_date_in(station, survey), name),
-        None => put_far_clock_if(lines, far_clocks_in(station, survey), name),
-    }
+    let span = span_in(station, survey);
+    let epochs = far_date_in(station, survey);
+    let clocks = far_clocks_in(station, survey);
+    put_far_beside(lines, span, epochs, clocks, name)
 }
