@@ -78,6 +78,7 @@ class Clock:
         self.seen: int | None = None  # the last epoch or date before the last message
         self.beside: int | None = None  # of 1012 the MSM of GLONASS behind the last of them
         self.has_day = False
+        self.dated_by: int | None = None  # what dates the last 1012, if some came before it and no MSM of GLONASS behind it
 
     def last(self) -> int:
         return self.moments[-1] if self.beside is None else self.beside
@@ -99,10 +100,24 @@ class Clock:
         """The moment near which the next message is: the last epoch or date if it came last, else the last message."""
         return self.last() if marks.last in (None, self.seen) else marks.last
 
+    def redate(self, marks: Marks, near: int) -> None:
+        """The last 1012 near an epoch or an MSM behind it, if it seems to come before what dates it, and this is nearer in the time of
+        day."""
+        is_beside = self.has_day if marks.first is None else self.seen is not None
+        if self.dated_by is None or not is_beside or any(abs(it - self.moments[0]) > WEEK_MS for it in self.moments):
+            return
+        at = nearest(DAY, near, self.moments[-1])
+        if abs(at - near) < self.dated_by - self.moments[-1]:
+            self.moments[-1] = at
+
     def take(self, marks: Marks, time: int, week: Clock | None = None) -> None:
         """A message more. The first 1012 may be behind MSM of GLONASS."""
+        if marks.last not in (None, self.seen):
+            self.redate(marks, marks.last)
         self.anchor(marks)
+        self.dated_by = None
         if self.moments:
+            self.dated_by = self.base(marks) if self.clock == DAY else None
             self.moments.append(nearest(self.clock, self.base(marks), time))
         elif week is not None and week.moments:
             week.anchor(marks)
@@ -113,6 +128,8 @@ class Clock:
 
     def take_msm(self, marks: Marks, at: int) -> None:
         """An MSM of GLONASS behind these 1012 tells their day."""
+        self.redate(marks, at)
+        self.dated_by = None
         self.anchor(marks)
         if self.moments:
             if marks.last is None and not self.has_day:
@@ -171,6 +188,8 @@ def followed(entries: Iterable[Marked]) -> tuple[dict[str, Going], Far | None]:
             far = marks.fields, clock.moments[-1]
     goings = {}
     for it, clock in clocks.items():
+        if marks.last not in (None, clock.seen):
+            clock.redate(marks, marks.last)
         clock.anchor(marks)
         goings[it] = Going(clock.moments, marks.first is not None, clock.has_day)
     heard = [it for it in clocks.values() if it.moments]

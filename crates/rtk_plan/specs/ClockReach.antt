@@ -11,7 +11,7 @@ use Rattle.rtk_obs.specs.declared.time.TheConstants.{LAST_MS}
 use Rattle.rtk_setup.specs.Setup.{SetupView, lists_system}
 use Rattle.rtk_survey.specs.ClockMarks.{marks_of_epochs, opened_moment}
 use Rattle.rtk_survey.specs.ClockSpans.{clock_moment, redating_clock, clock_anchored, opened_span}
-use Rattle.rtk_survey.specs.StationClocks.{clocks_by_station, no_station_clocks}
+use Rattle.rtk_survey.specs.StationClocks.{clocks_by_station, clocks_settled, no_station_clocks}
 use Rattle.rtk_survey.specs.Targets.{marks_if_known}
 use Rattle.rtk_survey.specs.Telling.{dated}
 use Rattle.rtk_survey.specs.declared.clock_marks.ClockMarks.{ClockMarks}
@@ -34,7 +34,7 @@ use Rattle.rtk_plan.specs.declared.clock_reach.TakenClocks.{TakenClocks}
 
 abbrev pub clocks_for : ℕ → Option TargetSurvey → StationClocks
 clocks_for n None = no_station_clocks
-clocks_for n (Some t) = clocks_by_station t.clocks n
+clocks_for n (Some t) = clocks_settled (marks_if_known t.present n t.dates) (clocks_by_station t.clocks n)
 
 -- how far the clocks of a station go in a capture
 abbrev pub clocks_in_survey : ℕ → CaptureSurvey → StationClocks

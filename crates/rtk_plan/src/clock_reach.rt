@@ -52,7 +52,10 @@ fn clocks_for(station: u16, target: &Option<TargetSurvey>) -> StationClocks
     ensures { result ≡ spec.clocks_for station target.now }
 {
     match target {
-        Some(target) => clocks_by_station(&target.clocks, station),
+        Some(target) => {
+            let marks = marks_if_known(target.present, &target.dates, station);
+            clocks_by_station(&target.clocks, station).settled(&marks)
+        }
         None => StationClocks::new(),
     }
 }

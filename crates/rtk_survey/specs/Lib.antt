@@ -11,6 +11,7 @@ pub mod Counting
 pub mod CountingLaws
 pub mod DateLaws
 pub mod DateMessages
+pub mod DayClocks
 pub mod Dayless
 pub mod Epochs
 pub mod EquipmentHistory

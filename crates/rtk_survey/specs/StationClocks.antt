@@ -1,12 +1,11 @@
--- The clocks of GLONASS and BeiDou of a station in a capture (this project's rule). The 1012 and the MSM of GLONASS are of one
--- clock: a 1012 is dated near the last epoch, MSM of GLONASS or 1012, whichever came last. As long as no epoch came, the dates
--- that 1013 and 1029 of the station name take the place of epochs, and one of them may be far from the messages beside it.
--- Source: RTCM 10403.3, DF034 and DF416
+-- The clocks of GLONASS and BeiDou of a station in a capture (this project's rule). As long as no epoch came, the dates that 1013
+-- and 1029 of the station name take the place of epochs, and one of them may be far from the messages beside it.
 use Rattle.std.specs.Prelude.{ℕ, ◌-◌, ◌==◌, Bool, true, false, not, ◌&&◌, ◌||◌, nat_lt, Option, None, Some, unwrap_or, if◌then◌else◌}
 use Rattle.std.specs.BTreeMap.{BTreeMap, get}
 use Rattle.std.specs.Ordering.{nat_cmp}
 use Rattle.rtk_survey.specs.ClockMarks.{opened_moment}
-use Rattle.rtk_survey.specs.ClockSpans.{clock_moment, moment_or, span_at, kept_span, opened_span, clock_begun, last_message, moved_near, clock_anchored, clock_anchored_if_any, is_new_mark, clock_base, last_mark_of, are_dates_if_any, clock_with, clock_followed}
+use Rattle.rtk_survey.specs.ClockSpans.{opened_span, last_message, clock_anchored, is_new_mark, clock_followed}
+use Rattle.rtk_survey.specs.DayClocks.{day_followed, day_after_msm, redated_near_if_any, day_so_far}
 use Rattle.rtk_survey.specs.FarDates.{first_far_date}
 use Rattle.rtk_survey.specs.declared.clock_marks.ClockMarks.{ClockMarks}
 use Rattle.rtk_survey.specs.declared.clock_spans.ClockSpan.{ClockSpan}
@@ -17,54 +16,6 @@ use Rattle.rtk_survey.specs.declared.clock_spans.FollowedTime.{FollowedTime}
 use Rattle.rtk_survey.specs.declared.date_message.UtcDate.{UtcDate}
 use Rattle.rtk_survey.specs.declared.far_date.FarDate.{FarDate}
 use Rattle.rtk_survey.specs.declared.station_clocks.StationClocks.{StationClocks}
-
--- ---- 1012 beside MSM of GLONASS
-
--- the moment near which a message behind the last MSM of GLONASS is dated
-abbrev pub week_base : Option ClockMarks → ClockSpan → ℕ
-week_base e w = clock_base e (clock_anchored_if_any GlonassWeek e (opened_span w))
-
--- the first 1012, near this moment; an MSM told its day
-abbrev pub day_begun_near : Option ClockMarks → ℕ → ℕ → FollowedSpan
-day_begun_near e near t = record {
-  span = span_at (moment_or (clock_moment GlonassDay near t) near);
-  mark = last_mark_of e;
-  by_dates = are_dates_if_any e;
-  beside = None;
-  has_day = true;
-}
-
-abbrev pub day_begun : Option ClockMarks → Option ClockSpan → ℕ → FollowedSpan
-day_begun e None t = clock_begun GlonassDay e t
-day_begun e (Some w) t = day_begun_near e (week_base e w) t
-
--- a 1012 more, behind these MSM
-abbrev pub day_followed : Option ClockMarks → Option ClockSpan → Option ClockSpan → ℕ → ClockSpan
-day_followed e w None t = kept_span (day_begun e w t)
-day_followed e w (Some k) t = kept_span (clock_with GlonassDay e k t)
-
--- 1012 that neither an epoch, nor a date, nor an MSM dates: the last of them is set near the first MSM
-abbrev pub day_told_at : Option ClockMarks → ℕ → FollowedSpan → FollowedSpan
-day_told_at None t k = if k.has_day then k else moved_near GlonassDay t false k
-day_told_at (Some m) t k = k
-
--- 1012 before an MSM at this moment: it is the last message now, and tells their day
-abbrev pub day_beside : Option ClockMarks → ℕ → FollowedSpan → FollowedSpan
-day_beside e t k = record {
-  span = (day_told_at e t k).span;
-  mark = last_mark_of e;
-  by_dates = are_dates_if_any e;
-  beside = Some t;
-  has_day = true;
-}
-
-abbrev pub day_with_msm : Option ClockMarks → ClockSpan → ClockSpan → FollowedSpan
-day_with_msm e w k = day_beside e (opened_moment w.last) (clock_anchored_if_any GlonassDay e (opened_span k))
-
--- the 1012 after an MSM more, which are the last of these
-abbrev pub day_after_msm : Option ClockMarks → ClockSpan → Option ClockSpan → Option ClockSpan
-day_after_msm e w None = None
-day_after_msm e w (Some k) = Some (kept_span (day_with_msm e w k))
 
 -- ---- a date that is far from the messages beside it
 
@@ -120,31 +71,47 @@ far_message_if_any d (Some t) = far_message d t
 abbrev pub far_at_end : ClockMarks → StationClocks → Option FarDate
 far_at_end m s = if has_clock_beside m s then None else far_message_if_any m.date (last_of_clocks m s)
 
+-- the clocks of a capture that ends, by its epochs or dates
+abbrev pub clocks_settled : Option ClockMarks → StationClocks → StationClocks
+clocks_settled e s = record s { glonass_day = day_so_far e s.day_before s.glonass_day }
+
+abbrev pub far_at_end_if_any : Option ClockMarks → StationClocks → Option FarDate
+far_at_end_if_any None s = None
+far_at_end_if_any (Some m) s = far_at_end m s
+
 -- the first date that is far from the messages beside it
 abbrev pub far_from_clocks : Option ClockMarks → StationClocks → Option FarDate
-far_from_clocks None s = s.far
-far_from_clocks (Some m) s = first_far_date s.far (far_at_end m s)
+far_from_clocks e s = first_far_date s.far (far_at_end_if_any e (clocks_settled e s))
 
 -- ---- the clocks of a station
 
 abbrev pub no_station_clocks : StationClocks
-no_station_clocks = record { glonass = None; beidou = None; glonass_day = None; far = None }
+no_station_clocks = record { glonass = None; beidou = None; glonass_day = None; day_before = None; far = None }
 
 abbrev pub with_glonass_clock : Option ClockMarks → ClockSpan → StationClocks → StationClocks
-with_glonass_clock e k s = record s { glonass = Some k; glonass_day = day_after_msm e k s.glonass_day; far = far_with_message e s k.last }
+with_glonass_clock e k s = record s {
+  glonass = Some k;
+  glonass_day = day_after_msm e k (redated_near_if_any e (opened_moment k.last) s.day_before s.glonass_day);
+  day_before = None;
+  far = far_with_message e s k.last;
+}
 
 abbrev pub with_beidou_clock : Option ClockMarks → ClockSpan → StationClocks → StationClocks
 with_beidou_clock e k s = record s { beidou = Some k; far = far_with_message e s k.last }
 
-abbrev pub with_day_clock : Option ClockMarks → ClockSpan → StationClocks → StationClocks
-with_day_clock e k s = record s { glonass_day = Some k; far = far_with_message e s k.last }
+-- behind these 1012
+abbrev pub with_day_clock : Option ClockMarks → Option ClockSpan → ClockSpan → StationClocks → StationClocks
+with_day_clock e before k s = record s { glonass_day = Some k; day_before = before; far = far_with_message e s k.last }
+
+abbrev pub with_day_behind : Option ClockMarks → Option ClockSpan → ℕ → StationClocks → StationClocks
+with_day_behind e before t s = with_day_clock e before (day_followed e s.glonass before t) s
 
 -- table
 -- a time more of a clock, after these epochs or dates
 abbrev pub with_time_of_clock : FollowedClock → Option ClockMarks → ℕ → StationClocks → StationClocks
 with_time_of_clock GlonassWeek e t s = with_glonass_clock e (clock_followed GlonassWeek e s.glonass t) s
 with_time_of_clock BeidouWeek e t s = with_beidou_clock e (clock_followed BeidouWeek e s.beidou t) s
-with_time_of_clock GlonassDay e t s = with_day_clock e (day_followed e s.glonass s.glonass_day t) s
+with_time_of_clock GlonassDay e t s = with_day_behind e (day_so_far e s.day_before s.glonass_day) t s
 
 abbrev pub with_followed_time : Option ClockMarks → FollowedTime → StationClocks → StationClocks
 with_followed_time e told s = with_time_of_clock told.clock e told.time s

@@ -223,7 +223,8 @@ fn moved_span(from: GpsMs, to: u64, span: &Span) -> Span
 
 // ---- one clock
 
-fn opened_if_any(ms: Option<u64>) -> Option<GpsMs>
+/// A moment that is kept as a number, if there is one.
+pub(crate) fn opened_if_any(ms: Option<u64>) -> Option<GpsMs>
     ensures { result ≡ spec.opened_if_any ms }
 {
     match ms {
@@ -303,8 +304,8 @@ pub(crate) fn is_new_mark(before: Option<GpsMs>, last: GpsMs) -> bool
     }
 }
 
-// A moment more; one that is more than a week from the first is not followed.
-fn with_moment_near(span: &Span, ms: u64) -> Span
+/// A moment more; one that is more than a week from the first is not followed.
+pub(crate) fn with_moment_near(span: &Span, ms: u64) -> Span
     ensures { result ≡ spec.with_moment_near span.now ms }
 {
     let mut more = *span;
@@ -365,8 +366,8 @@ impl FollowedSpan {
         }
     }
 
-    // Do epochs date it, or dates, as here?
-    fn is_marked_by(&self, marks: &ClockMarks) -> bool
+    /// Do epochs date it, or dates, as here?
+    pub(crate) fn is_marked_by(&self, marks: &ClockMarks) -> bool
         ensures { result ≡ spec.is_marked_by marks.now self.now }
     {
         let are_dates = marks.date.is_some();

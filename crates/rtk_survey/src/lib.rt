@@ -51,6 +51,7 @@ mod date_laws;
 mod date_lines;
 mod date_message;
 mod dating_systems;
+mod day_clocks;
 mod dayless;
 mod epochs;
 mod equipment;

@@ -1,7 +1,6 @@
 //! The clocks of GLONASS and BeiDou of a station in a capture.
 //!
-//! The 1012 and the MSM of GLONASS are of one clock, so a 1012, which tells no day, has its day by an MSM before it. A date that
-//! the station names may be far from the messages of these clocks beside it, where no epoch came.
+//! A date that the station names may be far from the messages of these clocks beside it, where no epoch came.
 
 ghost use Rattle.std.specs.Prelude.{◌≡◌, ◌≢◌, ℕ, OnOk};
 ghost use Rattle.rtk_survey.specs.StationClocks as spec;
@@ -9,10 +8,10 @@ ghost use Rattle.rtk_survey.specs.StationClocks.{clocks_by_station, no_station_c
 
 use crate::clock_marks::{ClockMarks, opened_moment};
 use crate::clock_spans::{
-    ClockSpan, FollowedClock, FollowedSpan, FollowedTime, are_dates_if_any, clock_begun,
-    clock_followed, clock_moment, clock_with, is_new_mark, last_mark_of, moment_or, span_at,
+    ClockSpan, FollowedClock, FollowedSpan, FollowedTime, clock_followed, is_new_mark,
 };
 use crate::date_message::UtcDate;
+use crate::day_clocks::{day_after_msm, day_followed, day_so_far, redated_near_if_any};
 use crate::far_date::{FarDate, first_far_date};
 use crate::telling::HALF_DAY_MS;
 use rtk_obs::GpsMs;
@@ -25,103 +24,10 @@ pub struct StationClocks {
     pub glonass: Option<ClockSpan>,
     pub beidou: Option<ClockSpan>,
     pub glonass_day: Option<ClockSpan>,
+    /// The 1012 before the last one, if no MSM of GLONASS came behind it: what comes behind it may date it again.
+    pub day_before: Option<ClockSpan>,
     /// The first date that is far from the messages before and behind it, with the message behind it.
     pub far: Option<FarDate>,
-}
-
-// ---- 1012 beside MSM of GLONASS
-
-// The moment near which a message behind the last MSM of GLONASS is dated.
-fn week_base(marks: &Option<ClockMarks>, week: &ClockSpan) -> GpsMs
-    ensures { result ≡ spec.week_base marks.now week.now }
-{
-    let opened = week.opened();
-    let anchored = opened.anchored_if_any(FollowedClock::GlonassWeek, marks);
-    anchored.base(marks)
-}
-
-// The first 1012, near this moment, of which an MSM told the day.
-fn day_begun_near(marks: &Option<ClockMarks>, near: GpsMs, time: u32) -> FollowedSpan
-    ensures { result ≡ spec.day_begun_near marks.now near time }
-{
-    let ms = clock_moment(FollowedClock::GlonassDay, near, time);
-    FollowedSpan {
-        span: span_at(moment_or(ms, near)),
-        mark: last_mark_of(marks),
-        by_dates: are_dates_if_any(marks),
-        beside: None,
-        has_day: true,
-    }
-}
-
-fn day_begun(marks: &Option<ClockMarks>, week: &Option<ClockSpan>, time: u32) -> FollowedSpan
-    ensures { result ≡ spec.day_begun marks.now week.now time }
-{
-    match week {
-        Some(week) => day_begun_near(marks, week_base(marks, week), time),
-        None => clock_begun(FollowedClock::GlonassDay, marks, time),
-    }
-}
-
-// A 1012 more, behind these MSM.
-fn day_followed(
-    marks: &Option<ClockMarks>,
-    week: &Option<ClockSpan>,
-    known: &Option<ClockSpan>,
-    time: u32,
-) -> ClockSpan
-    ensures { result ≡ spec.day_followed marks.now week.now known.now time }
-{
-    match known {
-        Some(known) => clock_with(FollowedClock::GlonassDay, marks, known, time).kept(),
-        None => day_begun(marks, week, time).kept(),
-    }
-}
-
-// 1012 that neither an epoch, nor a date, nor an MSM dates: the last of them near the first MSM.
-fn day_told_at(marks: &Option<ClockMarks>, msm: GpsMs, known: &FollowedSpan) -> FollowedSpan
-    ensures { result ≡ spec.day_told_at marks.now msm known.now }
-{
-    match marks {
-        None if !known.has_day => known.moved_near(FollowedClock::GlonassDay, msm, false),
-        _ => *known,
-    }
-}
-
-// 1012 before an MSM, which is the last message now, and tells their day.
-fn day_beside(marks: &Option<ClockMarks>, msm: GpsMs, known: &FollowedSpan) -> FollowedSpan
-    ensures { result ≡ spec.day_beside marks.now msm known.now }
-{
-    let told = day_told_at(marks, msm, known);
-    FollowedSpan {
-        span: told.span,
-        mark: last_mark_of(marks),
-        by_dates: are_dates_if_any(marks),
-        beside: Some(msm),
-        has_day: true,
-    }
-}
-
-fn day_with_msm(marks: &Option<ClockMarks>, week: &ClockSpan, known: &ClockSpan) -> FollowedSpan
-    ensures { result ≡ spec.day_with_msm marks.now week.now known.now }
-{
-    let opened = known.opened();
-    let anchored = opened.anchored_if_any(FollowedClock::GlonassDay, marks);
-    day_beside(marks, opened_moment(week.last), &anchored)
-}
-
-// The 1012 after an MSM more, which are the last of these.
-fn day_after_msm(
-    marks: &Option<ClockMarks>,
-    week: &ClockSpan,
-    known: &Option<ClockSpan>,
-) -> Option<ClockSpan>
-    ensures { result ≡ spec.day_after_msm marks.now week.now known.now }
-{
-    match known {
-        Some(known) => Some(day_with_msm(marks, week, known).kept()),
-        None => None,
-    }
 }
 
 // ---- a date that is far from the messages beside it
@@ -205,6 +111,7 @@ impl StationClocks {
             glonass: None,
             beidou: None,
             glonass_day: None,
+            day_before: None,
             far: None,
         }
     }
@@ -260,23 +167,46 @@ impl StationClocks {
         }
     }
 
+    fn far_at_end_if_any(&self, marks: &Option<ClockMarks>) -> Option<FarDate>
+        ensures { result ≡ spec.far_at_end_if_any marks.now self.now }
+    {
+        match marks {
+            Some(marks) => self.far_at_end(marks),
+            None => None,
+        }
+    }
+
+    /// The clocks of a capture that ends, by its epochs or dates.
+    pub fn settled(&self, marks: &Option<ClockMarks>) -> StationClocks
+        ensures { result ≡ spec.clocks_settled marks.now self.now }
+    {
+        StationClocks {
+            glonass: self.glonass,
+            beidou: self.beidou,
+            glonass_day: day_so_far(marks, &self.day_before, &self.glonass_day),
+            day_before: self.day_before,
+            far: self.far,
+        }
+    }
+
     /// The first date that is far from the messages of the clocks beside it.
     pub fn far_date(&self, marks: &Option<ClockMarks>) -> Option<FarDate>
         ensures { result ≡ spec.far_from_clocks marks.now self.now }
     {
-        match marks {
-            Some(marks) => first_far_date(self.far, self.far_at_end(marks)),
-            None => self.far,
-        }
+        let settled = self.settled(marks);
+        first_far_date(self.far, settled.far_at_end_if_any(marks))
     }
 
     fn take_glonass(&mut self, marks: &Option<ClockMarks>, span: ClockSpan)
         ensures { self.new ≡ spec.with_glonass_clock marks.now span self.old }
     {
         let far = self.far_with_message(marks, span.last);
-        let day = day_after_msm(marks, &span, &self.glonass_day);
+        let msm = opened_moment(span.last);
+        let known = redated_near_if_any(marks, msm, &self.day_before, &self.glonass_day);
+        let day = day_after_msm(marks, &span, &known);
         self.glonass = Some(span);
         self.glonass_day = day;
+        self.day_before = None;
         self.far = far;
     }
 
@@ -288,12 +218,21 @@ impl StationClocks {
         self.far = far;
     }
 
-    fn take_day(&mut self, marks: &Option<ClockMarks>, span: ClockSpan)
-        ensures { self.new ≡ spec.with_day_clock marks.now span self.old }
+    // Behind these 1012.
+    fn take_day(&mut self, marks: &Option<ClockMarks>, before: Option<ClockSpan>, span: ClockSpan)
+        ensures { self.new ≡ spec.with_day_clock marks.now before span self.old }
     {
         let far = self.far_with_message(marks, span.last);
         self.glonass_day = Some(span);
+        self.day_before = before;
         self.far = far;
+    }
+
+    fn take_day_behind(&mut self, marks: &Option<ClockMarks>, before: Option<ClockSpan>, time: u32)
+        ensures { self.new ≡ spec.with_day_behind marks.now before time self.old }
+    {
+        let span = day_followed(marks, &self.glonass, &before, time);
+        self.take_day(marks, before, span);
     }
 
     // A time more of a clock, after these epochs or dates.
@@ -313,8 +252,8 @@ impl StationClocks {
                 self.take_beidou(marks, span);
             }
             FollowedClock::GlonassDay => {
-                let span = day_followed(marks, &self.glonass, &self.glonass_day, time);
-                self.take_day(marks, span);
+                let before = day_so_far(marks, &self.day_before, &self.glonass_day);
+                self.take_day_behind(marks, before, time);
             }
         }
     }
