@@ -1,6 +1,6 @@
 -- The clocks of GLONASS and BeiDou of a station in a capture (this project's rule). As long as no epoch came, the dates that 1013
 -- and 1029 of the station name take the place of epochs, and one of them may be far from the messages beside it.
-use Rattle.std.specs.Prelude.{ℕ, ◌-◌, ◌==◌, Bool, true, false, not, ◌&&◌, ◌||◌, nat_lt, Option, None, Some, unwrap_or, if◌then◌else◌}
+use Rattle.std.specs.Prelude.{ℕ, ◌-◌, ◌==◌, Bool, false, not, ◌&&◌, ◌||◌, nat_lt, Option, None, Some, unwrap_or, if◌then◌else◌}
 use Rattle.std.specs.BTreeMap.{BTreeMap, get}
 use Rattle.std.specs.Ordering.{nat_cmp}
 use Rattle.rtk_survey.specs.ClockMarks.{opened_moment}
