@@ -168,7 +168,7 @@ Far = tuple[Fields, int]  # a date, and a message beside it
 # pins: are_half_day_apart
 def followed(entries: Iterable[Marked]) -> tuple[dict[str, Going], Far | None]:
     """How the clocks go in the messages of a station, between its epochs, or before the first of them between its dates; and if no
-    epoch comes the first date that is more than half a day from the messages beside it."""
+    epoch comes the first date that is more than half a day from the messages beside it, or before the one before it."""
     clocks, marks, far = {it: Clock(it) for it in CLOCKS}, Marks(), None
     for entry in entries:
         if marks.take(entry):
@@ -181,11 +181,15 @@ def followed(entries: Iterable[Marked]) -> tuple[dict[str, Going], Far | None]:
             continue
         clock = clocks[told[0]]
         is_met = marks.last is None or any([it.is_beside(marks) for it in clocks.values()])
+        before = next((it.last() for it in clocks.values() if it.moments), None)
         clock.take(marks, told[1], clocks[GLONASS.letter] if told[0] == DAY else None)
         if told[0] == GLONASS.letter:
             clocks[DAY].take_msm(marks, clock.moments[-1])
-        if far is None and not is_met and marks.fields is not None and abs(clock.moments[-1] - marks.last) > DAY_MS // 2:
-            far = marks.fields, clock.moments[-1]
+        if far is None and not is_met and marks.fields is not None:
+            if abs(clock.moments[-1] - marks.last) > DAY_MS // 2:
+                far = marks.fields, clock.moments[-1]
+            elif before is not None and before > marks.last:
+                far = marks.fields, before
     goings = {}
     for it, clock in clocks.items():
         if marks.last not in (None, clock.seen):

@@ -37,20 +37,6 @@ abbrev pub has_clock_beside : ClockMarks → StationClocks → Bool
 has_clock_beside m s =
     is_clock_beside GlonassWeek m s.glonass || (is_clock_beside BeidouWeek m s.beidou || is_clock_beside GlonassDay m s.glonass_day)
 
--- the date, if the moments are of dates, with this message
-abbrev pub far_message : Option UtcDate → ℕ → Option FarDate
-far_message None t = None
-far_message (Some d) t = Some (record { date = d; epoch = t })
-
--- the last date, if it is far from the message behind it, and from the last one of each clock before it
-abbrev pub far_from_message : ClockMarks → StationClocks → ℕ → Option FarDate
-far_from_message m s t = if are_half_day_apart m.last t && not (has_clock_beside m s) then far_message m.date t else None
-
--- the first of such dates, after a message more at this moment
-abbrev pub far_with_message : Option ClockMarks → StationClocks → ℕ → Option FarDate
-far_with_message None s t = s.far
-far_with_message (Some m) s t = first_far_date s.far (far_from_message m s t)
-
 abbrev pub last_if_any : FollowedClock → ClockMarks → Option ClockSpan → Option ℕ
 last_if_any c m None = None
 last_if_any c m (Some k) = Some (last_message (clock_anchored c m (opened_span k)))
@@ -63,13 +49,35 @@ one_of (Some t) other = Some t
 abbrev pub last_of_clocks : ClockMarks → StationClocks → Option ℕ
 last_of_clocks m s = one_of (last_if_any GlonassWeek m s.glonass) (one_of (last_if_any BeidouWeek m s.beidou) (last_if_any GlonassDay m s.glonass_day))
 
-abbrev pub far_message_if_any : Option UtcDate → Option ℕ → Option FarDate
-far_message_if_any d None = None
-far_message_if_any d (Some t) = far_message d t
+abbrev pub far_with_last : UtcDate → Option ℕ → Option FarDate
+far_with_last d None = None
+far_with_last d (Some t) = Some (record { date = d; epoch = t })
+
+-- a date at this moment that comes behind this message, but is before it
+abbrev pub far_if_before : UtcDate → ℕ → Option ℕ → Option FarDate
+far_if_before d at None = None
+far_if_before d at (Some t) = if nat_lt at t then Some (record { date = d; epoch = t }) else None
+
+-- the last date, if it is far from the last message of each clock before it, and is before it or far from the message behind it
+abbrev pub far_beside : UtcDate → ClockMarks → StationClocks → ℕ → Option FarDate
+far_beside d m s t =
+    if has_clock_beside m s then None else
+    if are_half_day_apart m.last t then Some (record { date = d; epoch = t }) else far_if_before d m.last (last_of_clocks m s)
+
+-- the same if the moments are of dates
+abbrev pub far_from_message : Option UtcDate → ClockMarks → StationClocks → ℕ → Option FarDate
+far_from_message None m s t = None
+far_from_message (Some d) m s t = far_beside d m s t
+
+-- the first of such dates, after a message more at this moment
+abbrev pub far_with_message : Option ClockMarks → StationClocks → ℕ → Option FarDate
+far_with_message None s t = s.far
+far_with_message (Some m) s t = first_far_date s.far (far_from_message m.date m s t)
 
 -- the last date, if no message came behind it, and it is far from the last one of each clock
-abbrev pub far_at_end : ClockMarks → StationClocks → Option FarDate
-far_at_end m s = if has_clock_beside m s then None else far_message_if_any m.date (last_of_clocks m s)
+abbrev pub far_at_end : Option UtcDate → ClockMarks → StationClocks → Option FarDate
+far_at_end None m s = None
+far_at_end (Some d) m s = if has_clock_beside m s then None else far_with_last d (last_of_clocks m s)
 
 -- the clocks of a capture that ends, by its epochs or dates
 abbrev pub clocks_settled : Option ClockMarks → StationClocks → StationClocks
@@ -77,7 +85,7 @@ clocks_settled e s = record s { glonass_day = day_so_far e s.day_before s.glonas
 
 abbrev pub far_at_end_if_any : Option ClockMarks → StationClocks → Option FarDate
 far_at_end_if_any None s = None
-far_at_end_if_any (Some m) s = far_at_end m s
+far_at_end_if_any (Some m) s = far_at_end m.date m s
 
 -- the first date that is far from the messages beside it
 abbrev pub far_from_clocks : Option ClockMarks → StationClocks → Option FarDate

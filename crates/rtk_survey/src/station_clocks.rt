@@ -26,7 +26,7 @@ pub struct StationClocks {
     pub glonass_day: Option<ClockSpan>,
     /// The 1012 before the last one, if no MSM of GLONASS came behind it: what comes behind it may date it again.
     pub day_before: Option<ClockSpan>,
-    /// The first date that is far from the messages before and behind it, with the message behind it.
+    /// The first date that is far from the messages beside it, with one of these.
     pub far: Option<FarDate>,
 }
 
@@ -59,16 +59,6 @@ fn is_clock_beside(clock: FollowedClock, marks: &ClockMarks, known: &Option<Cloc
     }
 }
 
-// The date, if the moments are of dates, with this message.
-fn far_message(date: Option<UtcDate>, ms: u64) -> Option<FarDate>
-    ensures { result ≡ spec.far_message date ms }
-{
-    match date {
-        Some(date) => Some(FarDate { date, epoch: ms }),
-        None => None,
-    }
-}
-
 fn last_if_any(clock: FollowedClock, marks: &ClockMarks, known: &Option<ClockSpan>) -> Option<GpsMs>
     ensures { result ≡ spec.last_if_any clock marks.now known.now }
 {
@@ -91,12 +81,28 @@ fn one_of(one: Option<GpsMs>, other: Option<GpsMs>) -> Option<GpsMs>
     }
 }
 
-fn far_message_if_any(date: Option<UtcDate>, moment: Option<GpsMs>) -> Option<FarDate>
-    ensures { result ≡ spec.far_message_if_any date moment }
+fn far_with_last(date: UtcDate, moment: Option<GpsMs>) -> Option<FarDate>
+    ensures { result ≡ spec.far_with_last date moment }
 {
     match moment {
-        Some(moment) => far_message(date, moment.ms()),
+        Some(moment) => Some(FarDate {
+            date,
+            epoch: moment.ms(),
+        }),
         None => None,
+    }
+}
+
+// A date at this moment that comes behind this message, but is before it.
+fn far_if_before(date: UtcDate, at: GpsMs, moment: Option<GpsMs>) -> Option<FarDate>
+    ensures { result ≡ spec.far_if_before date at moment }
+{
+    match moment {
+        Some(moment) if at.ms() < moment.ms() => Some(FarDate {
+            date,
+            epoch: moment.ms(),
+        }),
+        _ => None,
     }
 }
 
@@ -125,14 +131,37 @@ impl StationClocks {
                 || is_clock_beside(FollowedClock::GlonassDay, marks, &self.glonass_day))
     }
 
-    // The last date, if it is far from the message behind it, and from the last one of each clock before it.
-    fn far_from_message(&self, marks: &ClockMarks, ms: u64) -> Option<FarDate>
-        ensures { result ≡ spec.far_from_message marks.now self.now ms }
+    // The last message of a clock, of GLONASS if it has one.
+    fn last_of_clocks(&self, marks: &ClockMarks) -> Option<GpsMs>
+        ensures { result ≡ spec.last_of_clocks marks.now self.now }
     {
-        if are_half_day_apart(marks.last.ms(), ms) && !self.has_clock_beside(marks) {
-            far_message(marks.date, ms)
-        } else {
+        let glonass = last_if_any(FollowedClock::GlonassWeek, marks, &self.glonass);
+        let beidou = last_if_any(FollowedClock::BeidouWeek, marks, &self.beidou);
+        let day = last_if_any(FollowedClock::GlonassDay, marks, &self.glonass_day);
+        one_of(glonass, one_of(beidou, day))
+    }
+
+    // The last date, if it is far from the last message of each clock before it, and is before it or far from the message
+    // behind it.
+    fn far_beside(&self, date: UtcDate, marks: &ClockMarks, ms: u64) -> Option<FarDate>
+        ensures { result ≡ spec.far_beside date marks.now self.now ms }
+    {
+        if self.has_clock_beside(marks) {
             None
+        } else if are_half_day_apart(marks.last.ms(), ms) {
+            Some(FarDate { date, epoch: ms })
+        } else {
+            far_if_before(date, marks.last, self.last_of_clocks(marks))
+        }
+    }
+
+    // The same if the moments are of dates.
+    fn far_from_message(&self, marks: &ClockMarks, ms: u64) -> Option<FarDate>
+        ensures { result ≡ spec.far_from_message marks.now.date marks.now self.now ms }
+    {
+        match marks.date {
+            Some(date) => self.far_beside(date, marks, ms),
+            None => None,
         }
     }
 
@@ -146,24 +175,15 @@ impl StationClocks {
         }
     }
 
-    // The last message of a clock, of GLONASS if it has one.
-    fn last_of_clocks(&self, marks: &ClockMarks) -> Option<GpsMs>
-        ensures { result ≡ spec.last_of_clocks marks.now self.now }
-    {
-        let glonass = last_if_any(FollowedClock::GlonassWeek, marks, &self.glonass);
-        let beidou = last_if_any(FollowedClock::BeidouWeek, marks, &self.beidou);
-        let day = last_if_any(FollowedClock::GlonassDay, marks, &self.glonass_day);
-        one_of(glonass, one_of(beidou, day))
-    }
-
     // The last date, if no message came behind it, and it is far from the last one of each clock.
     fn far_at_end(&self, marks: &ClockMarks) -> Option<FarDate>
-        ensures { result ≡ spec.far_at_end marks.now self.now }
+        ensures { result ≡ spec.far_at_end marks.now.date marks.now self.now }
     {
-        if self.has_clock_beside(marks) {
-            None
-        } else {
-            far_message_if_any(marks.date, self.last_of_clocks(marks))
+        match marks.date {
+            Some(date) if !self.has_clock_beside(marks) => {
+                far_with_last(date, self.last_of_clocks(marks))
+            }
+            _ => None,
         }
     }
 
