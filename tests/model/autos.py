@@ -41,19 +41,20 @@ def some_wanted(rng: Random, setup: Setup | Options) -> Wanted:
     wanted = Wanted(
         rng.choice((None, setup.station)), rng.choice((None, None, None, setup.near)), rng.random() < 0.2, rng.random() < 0.4
     )  # fmt: skip
-    count = rng.choice((0, 0, 1, 2))
-    if isinstance(setup, Options):
+    has_systems = isinstance(setup, Options)
+    if has_systems:
         station, near = rng.choice((None, *[setup.station] * 3)), rng.choice((None, setup.near))
-        wanted, count = wanted._replace(station=station, near=near), rng.randint(0, 3)
+        wanted = wanted._replace(station=station, near=near)
     given = {
         "--systems": {"systems": "".join(some_letters(rng, LETTERS))},
         "--codes": {"names": names_of(rng, some_letters(rng, LETTERS))},
         "--msm": {"msm": rng.choice(KINDS)},
-        "--channels": {"channels": {slot: rng.randint(-7, 6) for slot in rng.sample(range(1, 28), rng.choice((1, 5, 27)))}},
+        "--channels": {"channels": {slot: rng.randint(-7, 6) for slot in rng.sample(range(1, 28), rng.choice((1, 5, 27, 27)))}},
         "--leap-seconds": {"leap": rng.choice((17, 18, rng.randrange(100)))},
         "--doppler": {"doppler": True},
     }
-    for word in rng.sample(sorted(given), count):
+    words = rng.sample(sorted(given), rng.choice((0, 0, 1, 2)))
+    for word in [*words, *["--channels"] * (has_systems and rng.random() < 0.2)]:
         if not (word == "--codes" and wanted.systems or word == "--systems" and wanted.names):
             wanted = wanted._replace(**given[word])
     return wanted

@@ -174,7 +174,7 @@ def channels(rng: Random, turn: int, letters: str) -> Capture:
     slots = rng.sample(SLOTS, rng.randint(1, 6)) + rng.sample((25, 26, 27, 28), 2)
     making.change("R", bits=tuple(sorted(set(slots))), parts=rng.choice((1, 2)))
     making.orbits = rng.choice((0, 0.3, 0.8))
-    if rng.random() < 0.2:
+    if rng.random() < 0.5:
         making.sender.channels = dict.fromkeys(SLOTS, rng.randint(-7, 6))
     times = in_order(rng, making.options.near, rng.choice(STEPS), rng.randint(1, 6))
     return making.capture(dealt(rng, making.frames(times), rng.choice((1, 2))))

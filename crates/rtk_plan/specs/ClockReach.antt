@@ -138,7 +138,7 @@ placed_if_followed way clock c marks p None = None
 placed_if_followed way clock c marks p (Some k) = Some (placed_clock way clock c marks c.span p k)
 
 -- the first and the last moment of a clock in a capture whose epochs are dated so
-abbrev pub clock_placed : ClockDating → FollowedClock → CaptureSurvey → Option Placed → Option Placed
+unfoldable pub clock_placed : ClockDating → FollowedClock → CaptureSurvey → Option Placed → Option Placed
 clock_placed way clock s p =
     placed_if_followed way clock (capture_of way.station s) (marks_in_survey way.station s) p (span_of_clock clock (clocks_in_survey way.station s))
 

@@ -329,6 +329,7 @@ fn placed_if_followed(
 
 /// The first and the last moment of a clock in a capture whose epochs are dated so; `None` if it has no message of the
 /// clock with a value.
+#[tactic(auto, unfolding(crate::specs::ClockReach::clock_placed))]
 pub(crate) fn clock_placed(
     way: &ClockDating,
     clock: FollowedClock,

@@ -1,6 +1,6 @@
 //! The links of captures of a station: each capture has its place by its epochs, or without one by its clocks.
 
-ghost use Rattle.std.specs.Prelude.{◌≡◌, IfOk};
+ghost use Rattle.std.specs.Prelude.{◌≡◌, false, IfOk};
 ghost use Rattle.rtk_captures.specs.Dating.{ArePlaced, IsNearOf, IsSpanOf, captures_of};
 ghost use Rattle.rtk_plan.specs.LinkPlaces as spec;
 ghost use Rattle.rtk_survey.specs.Surveys.{places_of};
