@@ -80,7 +80,7 @@ far_at_end None m s = None
 far_at_end (Some d) m s = if has_clock_beside m s then None else far_with_last d (last_of_clocks m s)
 
 -- the clocks of a capture that ends, by its epochs or dates
-abbrev pub clocks_settled : Option ClockMarks → StationClocks → StationClocks
+unfoldable pub clocks_settled : Option ClockMarks → StationClocks → StationClocks
 clocks_settled e s = record s { glonass_day = day_so_far e s.day_before s.glonass_day }
 
 abbrev pub far_at_end_if_any : Option ClockMarks → StationClocks → Option FarDate
@@ -88,7 +88,7 @@ far_at_end_if_any None s = None
 far_at_end_if_any (Some m) s = far_at_end m.date m s
 
 -- the first date that is far from the messages beside it
-abbrev pub far_from_clocks : Option ClockMarks → StationClocks → Option FarDate
+unfoldable pub far_from_clocks : Option ClockMarks → StationClocks → Option FarDate
 far_from_clocks e s = first_far_date s.far (far_at_end_if_any e (clocks_settled e s))
 
 -- ---- the clocks of a station
@@ -121,7 +121,7 @@ with_time_of_clock GlonassWeek e t s = with_glonass_clock e (clock_followed Glon
 with_time_of_clock BeidouWeek e t s = with_beidou_clock e (clock_followed BeidouWeek e s.beidou t) s
 with_time_of_clock GlonassDay e t s = with_day_behind e (day_so_far e s.day_before s.glonass_day) t s
 
-abbrev pub with_followed_time : Option ClockMarks → FollowedTime → StationClocks → StationClocks
+unfoldable pub with_followed_time : Option ClockMarks → FollowedTime → StationClocks → StationClocks
 with_followed_time e told s = with_time_of_clock told.clock e told.time s
 
 -- the clocks of a station; of one without an entry no clock is followed

@@ -197,6 +197,7 @@ impl StationClocks {
     }
 
     /// The clocks of a capture that ends, by its epochs or dates.
+    #[tactic(auto, unfolding(crate::specs::StationClocks::clocks_settled))]
     pub fn settled(&self, marks: &Option<ClockMarks>) -> StationClocks
         ensures { result ≡ spec.clocks_settled marks.now self.now }
     {
@@ -210,6 +211,7 @@ impl StationClocks {
     }
 
     /// The first date that is far from the messages of the clocks beside it.
+    #[tactic(auto, unfolding(crate::specs::StationClocks::far_from_clocks))]
     pub fn far_date(&self, marks: &Option<ClockMarks>) -> Option<FarDate>
         ensures { result ≡ spec.far_from_clocks marks.now self.now }
     {
@@ -256,6 +258,7 @@ impl StationClocks {
     }
 
     // A time more of a clock, after these epochs or dates.
+    #[tactic(auto, unfolding(crate::specs::StationClocks::with_followed_time))]
     fn take(&mut self, marks: &Option<ClockMarks>, told: FollowedTime)
         ensures { self.new ≡ spec.with_followed_time marks.now told self.old }
     {
