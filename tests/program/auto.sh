@@ -19,7 +19,7 @@ unfinished() { ls | grep '^file' >>err; rm -f file*; }
 while IFS='|' read -r want words lines <&3; do
     eval "auto -o file.rnx $words"
     unfinished
-    # pins: words_and_name, look_text, looks_like, unpacker, unpacking, unpacking_by, count_line_of, unread_line, unread_gps, unread_glonass_to_sbas, unread_qzss_to_navic, all_unread, station_line, epochs_text, epochs_heard, number_and_station, date_message_text, is_told_later, Parting.apart_ms, is_time_break, parted_frame, parting_text, part_command, to_come_line, is_to_come, from_until, reach_line, msm_words, system_words, held_line, read_of_station, position_line, coordinate_after_blank, coordinate_text, metres_text, point_and_decimals
+    # pins: words_and_name, look_text, looks_like, unpacker, unpacking, unpacking_by, count_line_of, unread_line, unread_gps, unread_glonass_to_sbas, unread_qzss_to_navic, all_unread, station_line, epochs_text, epochs_heard, number_and_station, date_message_text, is_told_later, Parting.apart_ms, is_time_break, parted_frame, parting_text, part_command, to_come_line, is_to_come, from_until, until_text, reach_line, msm_words, system_words, held_line, read_of_station, position_line, coordinate_after_blank, coordinate_text, metres_text, point_and_decimals
     expect "refused_$(echo "$words" | tr ' ' _)" "$want" '' "rtcm2rinex: $(printf '%b' "$lines")"
 done 3<<'ROWS'
 1|nowhere|cannot open nowhere
@@ -77,6 +77,7 @@ done 3<<'ROWS'
 3|one over_half_week|the captures tell dates that differ; choose one by --near\n 2024-05-17T12:00:00 by 1013 of station 2003 in one\n 2024-05-21T00:00:01 by 1019 in over_half_week
 3|glonass_4_days one|the captures are longer than half a week; convert them in parts\n 2024-05-21T12:00:00 until 2024-05-21T12:00:01 in glonass_4_days: 0 epochs\n 2024-05-17T12:00:00 until 2024-05-17T12:00:01 in one: 2 epochs
 3|beidou_4_days one|the captures are longer than half a week; convert them in parts\n 2024-05-21T12:00:00 until 2024-05-21T12:00:00 in beidou_4_days: 0 epochs\n 2024-05-17T12:00:00 until 2024-05-17T12:00:01 in one: 2 epochs
+3|glonass_8_days one|the captures are longer than half a week; convert them in parts\n 2024-05-17T12:00:00 until later in glonass_8_days: 0 epochs\n 2024-05-17T12:00:00 until 2024-05-17T12:00:01 in one: 2 epochs
 3|glonass_before|the captures are longer than half a week; convert them in parts\n 2024-05-13T12:00:00 until 2024-05-17T12:00:00 in glonass_before: 1 epochs
 3|glonass_too_far|the captures are longer than half a week; convert them in parts\n 2024-05-17T12:00:00 until 2024-05-21T00:00:00 in glonass_too_far: 2 epochs
 3|undated|the captures tell no date; give one, as in --near GPS-TIME-WITHIN-HALF-A-WEEK

@@ -218,6 +218,8 @@ CAPTURES = {
     "glonass_2_days": date(43_200, 60_449) + glonass(NOON + 172_800),
     "glonass_4_days": date(43_200, 60_451) + glonass(NOON + 345_600, NOON + 345_601),
     "beidou_4_days": date(43_200, 60_451) + without_epochs(BEIDOU, 1124, NOON + 345_600),
+    # a clock that goes on for more than a week
+    "glonass_8_days": date(43_200) + glonass(NOON) + date(43_200, 60_455) + glonass(NOON + 691_200),
     "glonass_before": date(43_200) + glonass(NOON - 345_600, NOON - 172_800, NOON) + epochs(NOON),
     "glonass_on": ONE + glonass(*(NOON + it for it in (0, 172_800, 302_399))),
     "glonass_too_far": ONE + glonass(*(NOON + it for it in (0, 172_800, 302_400))),
