@@ -65,9 +65,9 @@ impl CellsOfMsm for Msm {
     }
 }
 
-// Returns the phase in millicycles of a frequency in Hz, if it is known, from a fine one without
-// extended resolution.
-fn msm_phase_on(frequency: Option<u32>, rough: Option<i64>, fine: i32) -> Option<i64>
+/// Returns the phase in millicycles of a frequency in Hz, if it is known, from a fine one without
+/// extended resolution.
+pub(crate) fn msm_phase_on(frequency: Option<u32>, rough: Option<i64>, fine: i32) -> Option<i64>
     requires { IfSome rough (λ r. unsigned_abs r ≤ 2 ^ 38) }
     ensures { (kind : MsmKind) → has_extended_resolution kind ≡ false → result ≡ phase_on kind frequency rough fine }
 {

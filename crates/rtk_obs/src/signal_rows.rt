@@ -1,23 +1,96 @@
 //! Which satellite and which signal each cell of an MSM of any system has, row by row of its cell mask.
 
-ghost use Rattle.std.specs.Prelude.{◌≡◌, ℕ, ◌+◌, ◌^◌, ◌≤◌, ◌<◌, [], ◌++◌, List, length, take, IfSome, IfNone, count_ones, slice_index, unsigned_abs};
-ghost use Rattle.std.specs.List.{All};
+ghost use Rattle.std.specs.Prelude.{◌≡◌, ℕ, ◌+◌, ◌%◌, ◌^◌, ◌≤◌, ◌<◌, [], ◌++◌, List, length, map, take, IfSome, IfNone, count_ones, slice_index, unsigned_abs};
 ghost use Rattle.rtk_message.specs.declared.msm1074.MsmHeader.{MsmHeader};
+ghost use Rattle.rtk_message.specs.declared.system.System.{System};
 ghost use Rattle.rtk_message.specs.Msm1074.{satellite_count};
 ghost use Rattle.rtk_obs.specs.declared.signal_cells.SignalEntry.{SignalEntry};
 ghost use Rattle.rtk_obs.specs.declared.signal_rows.SignalRow.{SignalRow};
+ghost use Rattle.rtk_obs.specs.AnyCode.{carrier_of};
+ghost use Rattle.rtk_obs.specs.Carriers.{frequency_at};
 ghost use Rattle.rtk_obs.specs.Mask.{join_from};
 ghost use Rattle.rtk_obs.specs.MsmCells.{Slot, satellites_of, signals_of, row_slots, slots_of};
+ghost use Rattle.rtk_obs.specs.Signals.{code_in};
 ghost use Rattle.rtk_obs.specs.Steps.MsmRows.{IsCellMask, cells_in};
 ghost use Rattle.rtk_obs.specs.Steps.SignalRows.{SetsEntry};
 
+use crate::any_code::AnyCode;
 use crate::carrier::Channel;
 use crate::mask::{places_of_bits, top_bit};
 use crate::msm_rows::{Progress, signal_identifiers};
 use crate::satellite_index::SatelliteIndex;
 use crate::signal_cells::SignalEntry;
+use crate::signals::code_of_signal;
 use arrayvec::ArrayVec;
-use rtk_message::MsmHeader;
+use rtk_message::{MsmHeader, System};
+use std::marker::Model;
+
+/// A signal with a code. Its frequency is kept, so that it is found once for each message and not for each cell.
+/// Contracts see the code.
+#[derive(Clone, Copy)]
+pub(crate) struct CodedSignal {
+    code: AnyCode,
+    // In Hz, or `None` if it depends on a channel.
+    frequency: Option<u32>,
+}
+
+impl Model for CodedSignal {
+    ghost use Rattle.std.specs.Prelude.{◌≡◌, None};
+    ghost use Rattle.rtk_obs.specs.declared.any_code.AnyCode.{AnyCode};
+    ghost use Rattle.rtk_obs.specs.AnyCode.{carrier_of};
+    ghost use Rattle.rtk_obs.specs.Carriers.{frequency_at};
+
+    ghost Value = { AnyCode };
+
+    ghost view = { λ s. s.code };
+
+    ghost invariant = { λ s. frequency_at (carrier_of s.code) None ≡ s.frequency };
+
+    ghost inverse = { λ c. record { code = c; frequency = frequency_at (carrier_of c) None } };
+
+    ghost inverse_ok = { λ s h i. record { code = s.code; frequency = h i } };
+}
+
+impl CodedSignal {
+    /// Makes the signal that has a code.
+    pub(crate) fn new(code: AnyCode) -> CodedSignal
+        ensures { result ≡ code }
+    {
+        CodedSignal {
+            code,
+            frequency: code.carrier().frequency(None),
+        }
+    }
+
+    /// Returns the code.
+    pub(crate) fn code(self) -> AnyCode
+        ensures { result ≡ self }
+    {
+        self.code
+    }
+
+    /// Returns the frequency in Hz, or `None` if it depends on a channel that is not known.
+    #[inline(always)]
+    pub(crate) fn frequency(self, channel: Option<Channel>) -> Option<u32>
+        ensures value { result ≡ frequency_at (carrier_of self) channel }
+        ensures whole { IfSome result (λ f. f % 4 ≡ 0) }
+    {
+        match self.frequency {
+            Some(frequency) => Some(frequency),
+            None => self.code.carrier().frequency(channel),
+        }
+    }
+}
+
+// Returns the signal of an identifier (DF395), or `None` if it gives no cells.
+fn coded_signal(system: System, identifier: u8) -> Option<CodedSignal>
+    ensures { result ≡ code_in system identifier }
+{
+    match code_of_signal(system, identifier) {
+        Some(code) => Some(CodedSignal::new(code)),
+        None => None,
+    }
+}
 
 /// What the cells of a satellite have in common.
 #[derive(Clone, Copy)]
@@ -37,6 +110,9 @@ pub(crate) trait SignalsOfMsm {
     /// that the masks give.
     ghost IsValid: { Self → Type 0 };
 
+    /// The system whose satellites the message tells.
+    ghost system: { Self → System };
+
     /// The fields before the cell mask.
     ghost header: { Self → MsmHeader };
 
@@ -48,6 +124,10 @@ pub(crate) trait SignalsOfMsm {
 
     /// This is what the cells of the satellite of a row have in common.
     ghost IsRow: { Self → ℕ → SignalRow → Type 0 };
+
+    /// Returns the system whose satellites the message tells.
+    fn own_system(&self) -> System
+        ensures { result ≡ system self.now };
 
     /// Returns the fields before the cell mask.
     fn mask_header(&self) -> MsmHeader
@@ -75,13 +155,30 @@ pub(crate) trait SignalsOfMsm {
 
     /// Sets an entry to that of a cell, and returns whether the cell gives one. Each field is written where
     /// it stays.
-    fn set_entry(&self, entry: &mut SignalEntry, cell: usize, row: &SignalRow, signal: u8) -> bool
+    fn set_entry(
+        &self,
+        entry: &mut SignalEntry,
+        cell: usize,
+        row: &SignalRow,
+        signal: Option<CodedSignal>,
+    ) -> bool
         requires valid { IsValid self.now }
         requires cell { cell < cells_in (cell_mask self.now) }
         requires rough { IfSome row.now.rough (λ r. unsigned_abs r ≤ 2 ^ 38) }
-        requires signal { signal ≤ 32 }
-        ensures { (place : ℕ) → IsRow self.now place row.now
-            → SetsEntry result entry.new (entry_of self.now cell (record { row = place; signal = signal })) };
+        ensures { (place identifier : ℕ) → IsRow self.now place row.now → code_in (system self.now) identifier ≡ signal
+            → SetsEntry result entry.new (entry_of self.now cell (record { row = place; signal = identifier })) };
+}
+
+// Returns the signals of these identifiers (DF395), or `None` for each that gives no cells.
+fn coded_signals(system: System, identifiers: &[u8]) -> ArrayVec<Option<CodedSignal>, 64>
+    requires { length identifiers.now ≤ 64 }
+    ensures { result.items ≡ map (code_in system) identifiers.now }
+{
+    let mut found = ArrayVec::new();
+    for identifier in identifiers {
+        found.push(coded_signal(system, *identifier));
+    }
+    found
 }
 
 // Lengthens a list, if it must be, to this number of places, which can then be written.
@@ -102,15 +199,14 @@ fn put_entry<M: SignalsOfMsm>(
     message: &M,
     cell: usize,
     row: &SignalRow,
-    signal: u8,
+    signal: Option<CodedSignal>,
 ) -> usize
     requires valid { M.IsValid message.now }
     requires cell { cell < cells_in (M.cell_mask message.now) }
     requires rough { IfSome row.now.rough (λ r. unsigned_abs r ≤ 2 ^ 38) }
-    requires signal { signal ≤ 32 }
     requires room { count < length found.old.items }
-    ensures entries { (place : ℕ) → M.IsRow message.now place row.now
-        → take result found.new.items ≡ take count found.old.items ++ M.entry_of message.now cell (record { row = place; signal = signal }) }
+    ensures entries { (place identifier : ℕ) → M.IsRow message.now place row.now → code_in (M.system message.now) identifier ≡ signal
+        → take result found.new.items ≡ take count found.old.items ++ M.entry_of message.now cell (record { row = place; signal = identifier }) }
     ensures room { length found.new.items ≡ length found.old.items }
     ensures one { result ≤ count + 1 }
 {
@@ -128,20 +224,20 @@ fn put_row<M: SignalsOfMsm>(
     start: Progress,
     message: &M,
     row: &SignalRow,
-    signals: &[u8],
+    signals: &[Option<CodedSignal>],
     bits: u32,
 ) -> Progress
     requires valid { M.IsValid message.now }
     requires mask { IsCellMask (M.header message.now) (M.cell_mask message.now) }
     requires rough { IfSome row.now.rough (λ r. unsigned_abs r ≤ 2 ^ 38) }
-    requires bounds { All (λ p. (1 ≤ p) × (p ≤ 32)) signals.now }
-    requires fits { bits < 2 ^ length signals.now }
+    requires signals { signals.now ≡ map (code_in (M.system message.now)) (signals_of (M.header message.now)) }
+    requires fits { bits < 2 ^ length (signals_of (M.header message.now)) }
     requires cells { start.cell + count_ones bits ≤ cells_in (M.cell_mask message.now) }
     requires room { cells_in (M.cell_mask message.now) ≤ length found.old.items }
     requires few { start.count ≤ start.cell }
     ensures entries { (place : ℕ) → M.IsRow message.now place row.now
         → take result.count found.new.items ≡ take start.count found.old.items
-        ++ join_from (M.entry_of message.now) start.cell (row_slots signals.now place bits) }
+        ++ join_from (M.entry_of message.now) start.cell (row_slots (signals_of (M.header message.now)) place bits) }
     ensures cells { result.cell ≡ start.cell + count_ones bits }
     ensures room { length found.new.items ≡ length found.old.items }
     ensures few { result.count ≤ result.cell }
@@ -168,7 +264,7 @@ fn put_satellite<M: SignalsOfMsm>(
     message: &M,
     place: usize,
     bit: u8,
-    signals: &[u8],
+    signals: &[Option<CodedSignal>],
     bits: u32,
 ) -> Progress
     requires valid { M.IsValid message.now }
@@ -176,13 +272,13 @@ fn put_satellite<M: SignalsOfMsm>(
     requires place { place < satellite_count (M.header message.now) }
     requires bit { bit ≡ slice_index (satellites_of (M.header message.now)) place }
     requires low { 1 ≤ bit }
-    requires bounds { All (λ p. (1 ≤ p) × (p ≤ 32)) signals.now }
-    requires fits { bits < 2 ^ length signals.now }
+    requires signals { signals.now ≡ map (code_in (M.system message.now)) (signals_of (M.header message.now)) }
+    requires fits { bits < 2 ^ length (signals_of (M.header message.now)) }
     requires cells { start.cell + count_ones bits ≤ cells_in (M.cell_mask message.now) }
     requires room { cells_in (M.cell_mask message.now) ≤ length found.old.items }
     requires few { start.count ≤ start.cell }
     ensures entries { take result.count found.new.items ≡ take start.count found.old.items
-        ++ join_from (M.entry_of message.now) start.cell (row_slots signals.now place bits) }
+        ++ join_from (M.entry_of message.now) start.cell (row_slots (signals_of (M.header message.now)) place bits) }
     ensures cells { result.cell ≡ start.cell + count_ones bits }
     ensures room { length found.new.items ≡ length found.old.items }
     ensures few { result.count ≤ result.cell }
@@ -205,7 +301,8 @@ pub(crate) fn put_entries<M: SignalsOfMsm>(found: &mut ArrayVec<SignalEntry, 64>
     let header = message.mask_header();
     let bit_list = places_of_bits(header.satellite_mask, 64);
     let numbers = bit_list.as_slice();
-    let signal_list = signal_identifiers(header);
+    let identifiers = signal_identifiers(header);
+    let signal_list = coded_signals(message.own_system(), identifiers.as_slice());
     let signals = signal_list.as_slice();
     let masks = message.mask_rows();
     make_places(found, message.cell_count());
