@@ -301,8 +301,10 @@ pub(crate) fn put_entries<M: SignalsOfMsm>(found: &mut ArrayVec<SignalEntry, 64>
     let header = message.mask_header();
     let bit_list = places_of_bits(header.satellite_mask, 64);
     let numbers = bit_list.as_slice();
-    let identifiers = signal_identifiers(header);
-    let signal_list = coded_signals(message.own_system(), identifiers.as_slice());
+    let identifier_list = signal_identifiers(header);
+    let identifiers = identifier_list.as_slice();
+    let system = message.own_system();
+    let signal_list = coded_signals(system, identifiers);
     let signals = signal_list.as_slice();
     let masks = message.mask_rows();
     make_places(found, message.cell_count());
