@@ -44,14 +44,14 @@ pub whole : (c : Carrier) (f : ℕ) → frequency_at c None ≡ Some f → f % 4
 whole c f h = subst IsWhole h (without-channel c)
 
 -- a signal of GPS that has a code of any system has one of GPS
-module _ {Q : Type 0} (n : ℕ) (code : AnyCode) (h : gps_code n ≡ Some code) (use : (d : Code) → code_of_signal n ≡ Some d → code_of_gps d ≡ code → Q) where
+module _ {Q : Type 0} (n : ℕ) (code : AnyCode) (h : gps_code n ≡ Some code) (then : (d : Code) → code_of_signal n ≡ Some d → code_of_gps d ≡ code → Q) where
   by-code : (o : Option Code) → code_of_signal n ≡ o → Q
   by-code None is =
       let none : None ≡ Some code = sym (gps-code n ∙ ap (λ (x : Option Code). option_map code_of_gps x) is) ∙ h in
       absurd cc
   by-code (Some d) is =
       let same : Some (code_of_gps d) ≡ Some code = sym (gps-code n ∙ ap (λ (x : Option Code). option_map code_of_gps x) is) ∙ h in
-      use d is cc
+      then d is cc
 
   pub with-code : Q
   with-code = by-code (code_of_signal n) refl

@@ -84,10 +84,7 @@ pub(crate) fn set_values_1074(
     let fine = message.fine_phase.as_slice()[place];
     cell.range_mm = msm_range(rough, i32::from(message.fine_range.as_slice()[place]));
     cell.phase_millicycles = msm_phase_on(frequency, rough, fine);
-    cell.strength_millidbhz = strength_from_steps(
-        MSM_STRENGTH_STEP,
-        message.cnr.as_slice()[place],
-    );
+    cell.strength_millidbhz = strength_from_steps(MSM_STRENGTH_STEP, message.cnr.as_slice()[place]);
     cell.lock_time_ms = lock_time(message, place);
     cell.half = message.half_cycle.as_slice()[place];
     cell.source = CellSource::Msm;

@@ -16,7 +16,7 @@ pub returns : goal.returns
 returns c = λ place identifier is known.
     let m = c.args.self.now in
     with-code identifier c.in-Some.signal (known ∙ c.in-Some.is) (λ d coded same.
-      let frequency = c.frequency-frequency.ensures.value ∙ ap (λ (x : AnyCode). frequency_at (carrier_of x) None) (sym same) ∙ frequency-of-gps d in
-      let cell = c.set_values_1074.ensures place (band_of d) is.rough frequency in
-      is-set _ _ (gps-entry-there m c.args.cell place identifier c.args.row.now d c.set_values_1074.new.cell is coded cell
-      ∙ ap (λ (x : AnyCode). record { satellite = c.args.row.now.satellite; code = x; doppler_millihertz = pos 0; cell = c.set_values_1074.new.cell } ∷ []) (same ∙ sym c.code.ensures)))
+    let frequency = c.frequency-frequency.ensures.value ∙ ap (λ (x : AnyCode). frequency_at (carrier_of x) None) (sym same) ∙ frequency-of-gps d in
+    let cell = c.set_values_1074.ensures place (band_of d) is.rough frequency in
+    is-set _ _ (gps-entry-there m c.args.cell place identifier c.args.row.now d c.set_values_1074.new.cell is coded cell
+    ∙ ap (λ (x : AnyCode). record { satellite = c.args.row.now.satellite; code = x; doppler_millihertz = pos 0; cell = c.set_values_1074.new.cell } ∷ []) (same ∙ sym c.code.ensures)))
