@@ -1,4 +1,4 @@
-use Rattle.std.proofs.Common.{◌≡◌, ◌-◌, ◌∙◌, ℕ, List, Option, None, length, take, get_or, refl, sym, ap, subst, arith}
+use Rattle.std.proofs.Common.{◌≡◌, ◌-◌, ◌∙◌, ℕ, List, Option, None, length, take, get_or, refl, sym, ap, arith}
 use Rattle.std.proofs.lemmas.List.{length-map}
 use Rattle.std.proofs.lemmas.Nat.{one_shl}
 use Rattle.rtk_obs.specs.declared.any_code.AnyCode.{AnyCode}
@@ -52,7 +52,7 @@ loop-rest-preserved g c =
     let at : ℕ = length (signals_of (g.M.SignalsOfMsm.header c.args.message.now)) - 1 - c.top_bit-top.result in
     let code : ℕ → Option AnyCode = code_in (g.M.SignalsOfMsm.system c.args.message.now) in
     let same = ap length c.requires.signals ∙ length-map (signals_of (g.M.SignalsOfMsm.header c.args.message.now)) code in
-    let here = subst (λ (n : ℕ). get_or c.args.signals.now (n - 1 - c.top_bit-top.result) None ≡ c.index-signals-width.result) same (c.index-signals-width.is None) in
+    let here = ap (λ (n : ℕ). get_or c.args.signals.now (n - 1 - c.top_bit-top.result) None) (sym same) in
     let known = sym (get-mapped code (signals_of (g.M.SignalsOfMsm.header c.args.message.now)) at 0 None (omega (arith, bit.0))) ∙ ap (λ (xs : List (Option AnyCode)). get_or xs at None) (sym c.requires.signals) ∙ here in
     rw one (record {
       entries = λ place is. next_entries (g.M.SignalsOfMsm.entry_of c.args.message.now) (signals_of (g.M.SignalsOfMsm.header c.args.message.now)) place c.loop-rest.cell c.loop-rest.rest c.top_bit-top.result (get_or (signals_of (g.M.SignalsOfMsm.header c.args.message.now)) at 0)
