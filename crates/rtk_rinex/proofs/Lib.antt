@@ -1,4 +1,5 @@
 -- The facts of the public laws, which proofs of other crates cite
+mod PlainLemmas
 pub mod PublicLaws
 -- Laws on the definitions, and what this crate's functions compute
 mod ColumnsLemmas

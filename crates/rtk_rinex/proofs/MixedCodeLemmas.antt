@@ -12,7 +12,6 @@ use Rattle.rtk_rinex.specs.Record.{is_present, observation, observations, observ
 use Rattle.rtk_rinex.specs.Table.{IsObserved, IsObservedWithDoppler, IsObservedIn}
 use Rattle.rtk_rinex.proofs.CellLemmas.{one_value, or-none, and-left, and-right, solid-value, solid-cell, no_more, left-nil, drop_more}
 use Rattle.rtk_rinex.proofs.DigitsLemmas.{take-exact, drop-exact}
-use Rattle.rtk_rinex.proofs.LineLemmas.{IsNoEnd, both, of_observation, of_observations, strength_is, lli_is}
 use Rattle.rtk_rinex.proofs.ValuesLemmas.{are_blanks, are_blanks-append, code_shown, observed_of-observations, length-observation}
 use Rattle.rtk_rinex.proofs.WrittenLemmas.{length-code, blank-code, no-width, more-width}
 
@@ -95,22 +94,6 @@ pub solid-code : (doppler : Bool) (o : Observed) → IsObservedIn doppler o → 
 solid-code false o h e = solid-cell o h e
 solid-code true o h e = solid-if-shown o (has_observation o) refl e h
 
-no-end-shifted : (o : Observed) → HasNoEnd (observations_with_doppler o)
-no-end-shifted o =
-    let digit = strength_digit o.strength_millidbhz in
-    let lli = lli_digit o.slip o.half in
-    let blank : 32 ≢ 10 = λ e. omega (arith, e) in
-    let a : List ℕ = observation o.range_mm 32 digit in
-    let b : List ℕ = observation o.phase_millicycles lli digit in
-    let d : List ℕ = observation o.doppler_millihertz 32 32 in
-    let c : List ℕ = observation (strength_value o.strength_millidbhz) 32 32 in
-    let front = both a b (of_observation o.range_mm 32 digit blank (strength_is o.strength_millidbhz)) (of_observation o.phase_millicycles lli digit (lli_is o.slip o.half) (strength_is o.strength_millidbhz)) in
-    both ((a ++ b) ++ d) c (both (a ++ b) d front (of_observation o.doppler_millihertz 32 32 blank blank)) (of_observation (strength_value o.strength_millidbhz) 32 32 blank blank)
-
-no-end-code : (doppler : Bool) (o : Observed) → HasNoEnd (code_text doppler o)
-no-end-code false o = of_observations o
-no-end-code true o = no-end-shifted o
-
 -- ---- columns with the blanks at their end
 
 pub left-full : (w : ℕ) (columns : List ℕ) → length columns ≡ w → left w columns ≡ columns
@@ -150,10 +133,6 @@ module _ (doppler : Bool) where
   pub left-code : (n : ℕ) (xs : List ℕ)
       → left (code_width doppler * suc n) xs ≡ left (code_width doppler) (take (code_width doppler) xs) ++ left (code_width doppler * n) (drop (code_width doppler) xs)
   left-code n xs = ap (λ (k : ℕ). left k xs) (more-width doppler n) ∙ left-two (code_width doppler) (code_width doppler * n) xs
-
-  pub no-end-codes : (os : List Observed) → HasNoEnd (flat_map (code_text doppler) os)
-  no-end-codes [] = All-nil IsNoEnd
-  no-end-codes (o ∷ os) = both (code_text doppler o) (flat_map (code_text doppler) os) (no-end-code doppler o) (no-end-codes os)
 
   -- the columns of one code, and those after it
   pub first-code : (o p : Observed) (x y : List ℕ) → code_text doppler o ++ x ≡ code_text doppler p ++ y → (code_text doppler o ≡ code_text doppler p) × (x ≡ y)
