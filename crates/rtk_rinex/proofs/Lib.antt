@@ -1,5 +1,4 @@
 -- The facts of the public laws, which proofs of other crates cite
-mod PlainLemmas
 pub mod PublicLaws
 -- Laws on the definitions, and what this crate's functions compute
 mod ColumnsLemmas
@@ -19,6 +18,7 @@ mod OneLemmas
 mod HeaderShownLemmas
 mod HeaderRowsLemmas
 mod HeaderGoodLemmas
+mod PlainLemmas
 mod PartLemmas
 mod HeaderTypesLemmas
 mod HeaderPartsLemmas
