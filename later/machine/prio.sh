@@ -4,18 +4,17 @@ while :; do
 for p in $(pgrep -f 'rattle (check|build)|rattle-try'); do
   d=$(readlink /proc/$p/cwd)
   case $d in
+    /tmp/rt-edit*) continue;;
     /tmp/rt-copy*/rtk_chart) g=-14;;
     /tmp/rt-copy*/rtk_plan|/tmp/rt-copy*/rtk_cli|/tmp/rt-copy*/rtcm2rinex) g=-13;;
-    /tmp/rt-copy*/rtk_chart|/tmp/rt-copy*/rtk_compare|/tmp/rt-copy*/rtk_commands|/tmp/rt-copy*/rtk_systems|/tmp/rt-copy*/rtk_captures|/tmp/rt-copy*/rtk_obs|/tmp/rt-copy*/rtk_rinex|/tmp/rt-copy*/rtk_survey) g=-11;;
-    /work/w/gate/*) g=2;;
-    /work/w/rinex/*|/work/w/all/*|/work/w/survchk*|/work/w/sysck/*|/work/w/capck/*) g=-11;;
-    /work/w/upper*) g=-15;;
+    /tmp/rt-copy*/rtk_survey|/tmp/rt-copy*/rtk_systems|/tmp/rt-copy*/rtk_captures|/tmp/rt-copy*/rtk_obs|/tmp/rt-copy*/rtk_message|/tmp/rt-copy*/rtk_rinex|/tmp/rt-copy*/rtk_setup|/tmp/rt-copy*/rtk_tracking|/tmp/rt-copy*/rtk_label) g=-14;;
+    /work/w/gate/*|/work/w/prg/*) g=-3;;
+    /work/w/surv2/*) g=-11;;
+    /work/w/survey/*|/work/w/bits/*) g=-4;;
+    /work/w/plan/*) g=-14;;
+    /work/w/conv/*|/work/w/upper/*|/work/w/rinex/*) g=-8;;
+    /tmp/rt-copy*/rtk_convert|/tmp/rt-copy*/rtk_quality) g=-11;;
     /tmp/rt-copy*) g=-6;;
-    /work/w/upper*) g=-11;;
-    /work/w/chart*) g=-9;;
-    /work/w/prg/*|/work/w/surv-*/crates/rtcm2rinex) g=-10;;
-    /work/w/surv-*) g=10;;
-    /tmp/rt-edit*) continue;;
     *) g=0;;
   esac
   echo $g > /proc/$p/autogroup 2>/dev/null

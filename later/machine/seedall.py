@@ -3,7 +3,7 @@ import sys, os, json, glob, shutil, subprocess
 sys.path.insert(0,'/opt/rattle/bin')
 sys.argv, clones = sys.argv[:1], sys.argv[1:]
 import rtlib
-KEPT='/opt/rattle-kept'; GATE='/work/w/all'
+KEPT='/opt/rattle-kept'; GATE='/work/w/land'
 def same(name, clone):
     return subprocess.run(['diff','-rq',*sum(([ '-x',x] for x in ('out','must-fail','stdin','stdout')),[]),f'{GATE}/crates/{name}',f'{clone}/crates/{name}'],capture_output=True).returncode==0
 for clone in clones:

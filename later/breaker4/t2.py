@@ -1,0 +1,17 @@
+from tgt import *
+S=frame(m1005(1006,7,POS,1.5))
+ep=[T+k*1000 for k in range(4)]
+R=lambda t,**k: g(t,sys='R',kind=7,ext={5:8,9:9},**k)
+go('R only second capture',{'a':S+d13(T)+b''.join(g(t) for t in ep),'b':b''.join(R(t) for t in ep)}); rec(5)
+go('R only second capture, next week by own 1013',{'a':S+d13(T)+b''.join(g(t) for t in ep),'b':d13(T+WEEK)+b''.join(R(t+WEEK) for t in ep)}); rec(5)
+go('R only second capture, 2 days later',{'a':S+d13(T)+b''.join(g(t) for t in ep),'b':d13(T+2*DAY)+b''.join(R(t+2*DAY) for t in ep)}); rec(30)
+go('R only second capture, 6 days later own 1013',{'a':S+d13(T)+b''.join(g(t) for t in ep),'b':d13(T+6*DAY)+b''.join(R(t+6*DAY) for t in ep)}); rec(30)
+go('R only second capture, 6 days later no date',{'a':S+d13(T)+b''.join(g(t) for t in ep),'b':b''.join(R(t+6*DAY) for t in ep)}); rec(3)
+go('1012 only second capture 2 days later',{'a':S+d13(T)+b''.join(g(t) for t in ep),'b':d13(T+2*DAY)+b''.join(frame(m1012(7,glotod(t+2*DAY),[(3,5,0,21e6,21000005.,40,0,21e6,21000002.,40)])[0]) for t in ep)}); rec(30)
+go('1012 only second capture same time',{'a':S+d13(T)+b''.join(g(t) for t in ep),'b':b''.join(frame(m1012(7,glotod(t),[(3,5,0,21e6,21000005.,40,0,21e6,21000002.,40)])[0]) for t in ep)}); rec(6)
+go('BDS only second capture next week',{'a':S+d13(T)+b''.join(g(t) for t in ep),'b':d13(T+WEEK)+b''.join(g(t+WEEK,sys='C',codes=('2I',)) for t in ep)}); rec(6)
+go('gap 6 days rising tow in capture',{'a':S+d13(gms(2024,5,12,1,0,0))+b''.join(g(gms(2024,5,12,1,0,0)+k*1000) for k in range(3))+b''.join(g(gms(2024,5,18,1,0,0)+k*1000) for k in range(3))}); rec(8)
+go('gap 6 days rising tow in capture, own 1013 after',{'a':S+d13(gms(2024,5,12,1,0,0))+b''.join(g(gms(2024,5,12,1,0,0)+k*1000) for k in range(3))+d13(gms(2024,5,18,1,0,0))+b''.join(g(gms(2024,5,18,1,0,0)+k*1000) for k in range(3))})
+go('gap 7 days in capture 1019 in both',{'a':S+frame(m1019(3,T//WEEK,T%WEEK//1000))+b''.join(g(t) for t in ep)+frame(m1019(3,T//WEEK+1,T%WEEK//1000))+b''.join(g(t+WEEK+10000) for t in ep)})
+go('gap 7 days in capture 1013 + 1045 next week after',{'a':S+d13(T)+b''.join(g(t) for t in ep)+frame(m1045(1045,3,T//WEEK-1024+1,T%WEEK//1000//60*60))+b''.join(g(t+WEEK+10000) for t in ep)})
+go('gap 7 days in capture 1013 + 1019 next week after',{'a':S+d13(T)+b''.join(g(t) for t in ep)+frame(m1019(3,T//WEEK+1,T%WEEK//1000//16*16))+b''.join(g(t+WEEK+10000) for t in ep)})

@@ -1,0 +1,28 @@
+from sl import *
+Q=dict(recs=2)
+D0=gms(2024,5,17); W=WEEK
+hh=lambda a,b,st=1: [D0+k*H for k in range(a,b,st)]
+GA=lambda t0=T,n=4: [S,d13(t0),[g(t) for t in E(t0,n)]]
+go('N1 a GPS; b E alone clock +1 s',{'a':GA(),'b':[d13(T+9000),[g(t,sys='E',off=1) for t in E(T+9000)]]},**Q)
+go('N1b a GPS+R; b J alone clock +1 s',{'a':[S,d13(T),[g(t,sync=1)+R(t) for t in ep]],'b':[d13(T+9000),[g(t,sys='J',off=1) for t in E(T+9000)]]},**Q)
+go('N1c a E+R, b G alone 10 times more',{'a':[S,d13(T),[g(t,sys='E',sync=1)+R(t) for t in ep]],'b':[d13(T+9000),[g(t) for t in E(T+9000,20)]]},**Q)
+go('N2 a undated 12:00, b dated 13:00 by 1013',{'a':[S,[g(t) for t in ep]],'b':[d13(T+H),[g(t) for t in E(T+H)]]},**Q)
+go('N2b a undated, b 1019, c 1013 (weeks same)',{'a':[S,[g(t) for t in ep]],'b':[e19(T+H),[g(t) for t in E(T+H)]],'c':[d13(T+2*H),[g(t) for t in E(T+2*H)]]},**Q)
+go('N2c a undated; b 1019 wrong week; c 1013',{'a':[S,[g(t) for t in ep]],'b':[e19(T+H-W),[g(t) for t in E(T+H)]],'c':[d13(T+2*H),[g(t) for t in E(T+2*H)]]},**Q)
+go('N2d a undated; b by 1045 -1 wk R-only; c undated epochs',{'a':[S,[g(t) for t in ep]],'b':[e45(T+H-W),[R(t) for t in E(T+H)]],'c':[[g(t) for t in E(T+2*H)]]},**Q)
+go('N2e a undated; b R-only own 1013 wk0, c R-only own 1013 wk-1',{'a':[S,[g(t) for t in ep]],'b':[d13(T+H),[R(t) for t in E(T+H)]],'c':[d13(T-W+2*H),[R(t) for t in E(T+2*H)]]},**Q)
+go('N2f a undated; b R-only 1019 wk0; c R-only 1013 of 8 wk-1',{'a':[S,[g(t) for t in ep]],'b':[e19(T+H),[R(t) for t in E(T+H)]],'c':[d13(T-W+2*H,8),[R(t) for t in E(T+2*H)]]},**Q)
+go('N2g a undated Sunday 01h; b R-only own 1013 Sat 23h',{'a':[S,[g(t) for t in E(gms(2024,5,19,1))]],'b':[d13(gms(2024,5,18,23)),[R(t) for t in E(gms(2024,5,18,23))]]},**Q)
+go('N2h a undated Sun 01h; b date-only own 1013 Wed of that week before (3.6 d)',{'a':[S,[g(t) for t in E(gms(2024,5,19,1))]],'b':[d13(gms(2024,5,15,8))]},**Q)
+go('N3 --near, a own 1013 wk0, b own 1013 wk1 same tow',{'a':GA(),'b':[d13(T+W),[g(t+W) for t in E(T+9000)]]},['--near',iso(T)],**Q)
+go('N4 R-only first (earlier), g later by 1019; R own 1013',{'a':[S,e19(T+H),[g(t) for t in E(T+H)]],'b':[d13(T),[R(t) for t in ep]]},**Q)
+go('N4b R-only b 1013 one week before, g 1019',{'a':[S,e19(T+H),[g(t) for t in E(T+H)]],'b':[d13(T-W),[R(t) for t in ep]]},**Q)
+go('N4c R-only 1012 b 1013 one week before, g 1019',{'a':[S,e19(T+H),[g(t) for t in E(T+H)]],'b':[d13(T-W),[m12(t) for t in ep]]},**Q)
+go('N5 1012 in b; b has 1013 of own not counting (future) + 1019',{'a':GA(),'b':[d13(T+2000*DAY),e19(T),[m12(t) for t in ep]]},**Q)
+go('N6 1012 b undated; a has epochs on two half days 0..1h & 22..23h',{'a':[S,d13(D0),[g(t) for t in hh(0,2)],[g(t) for t in hh(22,24)]],'b':[[m12(t) for t in hh(22,24)]]},**Q)
+go('N6b 1012 b undated at 22..23; a 0..1h only',{'a':[S,d13(D0),[g(t) for t in hh(0,2)]],'b':[[m12(t) for t in hh(22,24)]]},**Q)
+go('N7 wide: dow7 D in b undated and C beside it (C tells tow)',{'a':[S,d13(D0),[g(t,sync=1)+m12(t) for t in hh(0,2)]],'b':[[g(t,sys='C',sync=1)+R(t,n=(6,),clock=(7<<27)|glotod(t)) for t in hh(14,16)]]},**Q)
+go('N8 --station given, absent',{'a':GA()},['--station','9'],**Q)
+go('N9 R-only of station; --station 7 and b obs of 8 GPS',{'a':GA(),'b':[d13(T),[R(t)+g(t,st=8) for t in ep]]},['--station','7'],**Q)
+go('N10 SBAS of 1004 only epochs other captures; --codes S1C',{'a':[S,d13(T),[s4(t,(5,43)) if k%2 else s4(t,(5,)) for k,t in enumerate(ep)]]},['--codes','S1C'],**Q)
+go('N11 1004 with 40..58 all',{'a':[S,d13(T),[s4(t,(40,58,59,33,39)) for t in ep]]},**Q)

@@ -1,0 +1,16 @@
+from sl import *
+Q=dict(recs=1)
+bad=lambda f: f[:-1]+bytes([f[-1]^1])
+x=lambda k,f: bad(f) if k==20 else f
+go('x1 E(1) R(0), one R bad',{'a':[S,d13(T),[g(t,sys='E',sync=1)+x(k,R(t)) for k,t in enumerate(E(T,40))]]},**Q)
+go('x2 E alone sync 1 except each 5th',{'a':[S,d13(T),[g(t,sys='E',sync=int(k%5!=4)) for k,t in enumerate(E(T,40))]]},**Q)
+go('x3 E alone sync 1 always',{'a':[S,d13(T),[g(t,sys='E',sync=1) for k,t in enumerate(E(T,40))]]},**Q)
+go('x4 G alone sync 1 except each 5th',{'a':[S,d13(T),[g(t,sync=int(k%5!=4)) for k,t in enumerate(E(T,40))]]},**Q)
+go('x5 J(1) C(0), one C bad',{'a':[S,d13(T),[g(t,sys='J',sync=1)+x(k,g(t,sys='C')) for k,t in enumerate(E(T,40))]]},**Q)
+go('x6 E(1) J(1) C(0), one C bad',{'a':[S,d13(T),[g(t,sys='E',sync=1)+g(t,sys='J',sync=1)+x(k,g(t,sys='C')) for k,t in enumerate(E(T,40))]]},**Q)
+go('x7 G(1)E(1)C(0) but --systems EC, one C bad',{'a':[S,d13(T),[g(t,sync=1)+g(t,sys='E',sync=1)+x(k,g(t,sys='C')) for k,t in enumerate(E(T,40))]]},['--systems','EC'],**Q)
+go('x8 S of 1104(1) + 1012(0), one bad',{'a':[S,d13(T),[g(t,sys='S',sync=1)+x(k,m12(t)) for k,t in enumerate(E(T,40))]]},**Q)
+go('x9 E 1094(1) 1097(0) two kinds, one 1097 bad',{'a':[S,d13(T),[g(t,sys='E',sync=1)+x(k,g(t,sys='E',kind=7)) for k,t in enumerate(E(T,40))]]},**Q)
+go('x10 E split in two messages (1)(0), one second bad',{'a':[S,d13(T),[g(t,sys='E',sync=1)+x(k,g(t,sys='E',n=(11,12))) for k,t in enumerate(E(T,40))]]},**Q)
+go('x11 GPS split (1)(0), one bad, E none',{'a':[S,d13(T),[g(t,sync=1)+x(k,g(t,n=(11,12))) for k,t in enumerate(E(T,40))]]},**Q)
+go('x12 G to 12:00:10, then E alone + C',{'a':[S,d13(T),[g(t,sync=1)+g(t,sys='E',sync=1)+g(t,sys='C') for t in E(T,10)],[g(t,sys='E',sync=1)+x(k,g(t,sys='C')) for k,t in enumerate(E(T+10000,40))]]},**Q)

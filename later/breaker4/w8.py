@@ -1,0 +1,27 @@
+from sl import *
+Q=dict(recs=2)
+D0=gms(2024,5,17); W=WEEK
+hh=lambda a,b,st=1: [D0+k*H for k in range(a,b,st)]
+GA=lambda t0=T,n=4: [S,d13(t0),[g(t) for t in E(t0,n)]]
+e45t=lambda toe,n=1045: frame(m1045(n,5,toe//WEEK-1024,(toe%WEEK)//1000//60*60))
+go('M1 R-only: 20 1045 of 10-min steps (13..16h), then own 1013 16:20, 1012 16:20..; a GPS 14h',{'a':GA(D0+14*H),'b':[[e45t(D0+13*H+k*600000) for k in range(20)],d13(D0+16*H+1200000),[m12(t) for t in E(D0+16*H+1200000)]]},keep='m1',**Q)
+go('M1b the same: 20 1045 of toe 02..05h (12 h+ earlier), then own 1013, 1012',{'a':GA(D0+14*H),'b':[[e45t(D0+2*H+k*600000) for k in range(20)],d13(D0+16*H+1200000),[m12(t) for t in E(D0+16*H+1200000)]]},keep='m1b',**Q)
+go('M2 epochs: 20 1045 in 10-min steps then own 1013 of the next week (wrong)',{'a':[S,[e45t(D0+13*H+k*600000) for k in range(20)],[g(t) for t in E(D0+16*H)],d13(D0+16*H+W),[g(t) for t in E(D0+16*H+9000)]]},**Q)
+go('M2b epochs: 20 foreign 1013 hourly same week, then own 1013 next week + right 1045',{'a':[S,[d13(D0+k*H,8) for k in range(20)],e45t(D0+16*H),[g(t) for t in E(D0+16*H)],d13(D0+16*H+W)]},**Q)
+go('M3 R-only: 20 1013 of other stations hourly (20 differ), then own 1013 a day... 1012',{'a':GA(D0+14*H),'b':[[d13(D0-DAY+k*H,8) for k in range(20)],d13(D0+16*H),[m12(t) for t in E(D0+16*H)]]},**Q)
+go('M3b R-only 1012 w/o own, 20 others: earliest is the 18th',{'a':GA(D0+14*H),'b':[[d13(D0+13*H+k*60000,8) for k in range(17)],d13(D0+1*H,8),[m12(t) for t in E(D0+14*H)]]},**Q)
+go('M4 captures: 30 own 1013 in R-only capture of 30 h steps 1h, MSM',{'a':GA(D0+14*H),'b':[[d13(D0+k*H)+R(D0+k*H) for k in range(30)]]},**Q)
+go('M5 100 stations with obs + --station',{'a':[S,d13(T),[[g(t,st=k) for k in range(7,107)] for t in ep]]},['--station','7'],**Q)
+go('M5b 100 stations with R obs only beside 7',{'a':[S,d13(T),[[g(t,st=7)]+[R(t,st=k) for k in range(8,108)] for t in ep]]},**Q)
+un=lambda n: frame(B().u(n,12).u(7,12).u(0,40).b())
+go('M6 1000 unknown numbers',{'a':[S,d13(T),[un(n) for n in range(1,1001)],[g(t) for t in ep]]},recs=1)
+go('M6b observation numbers: 1001,1002,1003,1009,1010,1011, MSM1-3 of all',{'a':[S,d13(T),[un(n) for n in (1001,1002,1003,1009,1010,1011,1071,1072,1073,1081,1082,1083,1091,1101,1111,1121,1131,1230,1300)],[g(t) for t in ep]]},recs=1)
+go('M7 40 conflicting positions',{'a':[S,d13(T),[frame(m1005(1006,7,(POS[0]+k,)+POS[1:],1.5)) for k in range(40)],[g(t) for t in ep]]},recs=1)
+go('M8 refused of 30 kinds',{'a':[S,d13(T),[frame(B().u(n,12).u(7,12).u(0,8).b()) for n in (1004,1005,1006,1012,1013,1029,1033,1007,1008,1019,1020,1042,1045,1046,1074,1077,1084,1087,1094,1097,1104,1114,1124,1127,1134)],[g(t,sync=1)+R(t) for t in ep]]},recs=1)
+go('M8b truncated 1013 then 1019',{'a':[S,frame(d13(T)[3:-3][:6]),e19(T),[g(t) for t in ep]]},recs=1)
+go('M8c truncated 1012 (R-only) ',{'a':GA(),'b':[d13(T),[frame(m12(t)[3:-3][:20]) for t in ep]]},recs=1)
+go('M9 1029 zero length, bad utf8',{'a':[S,frame(m1029(7,*mjdsod(T),text='')),[g(t) for t in ep]]},recs=1)
+go('M10 1230, 1020 only',{'a':[S,frame(m1020(5,2)),d13(T),[g(t) for t in ep]]},recs=1)
+go('M11 all-zero obs',{'a':[S,d13(T),[frame(msm('G',7,7,t%WEEK,{(5,'1C'):(None,None,None,0)},None,0)[0]) for t in ep]]},recs=1)
+go('M12 E values only strength',{'a':[S,d13(T),[g(t,sync=1)+frame(msm('E',7,7,t%WEEK,{(5,'1C'):(None,None,40,0),(5,'5X'):(None,None,0.125,0)},None,0)[0]) for t in ep]]},recs=1)
+go('M13 G only L5 strengths of 0.0625',{'a':[S,d13(T),[frame(msm('G',7,7,t%WEEK,{(5,'1C'):(22e6,22e6,0.0625,0),(5,'5X'):(None,None,0.0625,0)},None,0)[0]) for t in ep]]},recs=1)
