@@ -20,7 +20,7 @@ from mixed_model import Options, channels_text
 from model import Conversion, civil, moment
 from msm import LEGACY, LEGACY_GLONASS, letter_of, read_frame
 from summaries import UNTAKEN, look_of, sh_quoted
-from systems import BY_LETTER, GLONASS, LETTERS, SBAS, number_of
+from systems import BY_LETTER, GLONASS, GPS, LETTERS, SBAS, number_of
 from wire import MSMS, WEEK_MS, Fields, Message
 
 # By their bytes, as link1, link10, .., link2: another order than that of their numbers.
@@ -83,7 +83,7 @@ STOPPED = {
     "too many links": "more than 16 captures are of the same time, and 16 links are taken",
     "positions differ": "the station stands at positions that differ; --links-as-given takes them for one",
     "no rates": "--doppler needs MSM5 or MSM7 of SYSTEM",
-    "no code": "neither a 1004 nor the MSM of --msm has an observation; choose another MSM",
+    "no code": "no observation that is asked for can be converted; choose others by --msm or --systems",
 }
 
 
@@ -95,6 +95,8 @@ def refusal_pattern(stopped: Stopped, asked: Asked, texts: list[bytes]) -> str:
     if stopped.cause in ("two dates", "no date"):
         told = two_dates_text(asked.now, captures, station, *stopped.about) if stopped.about else to_come_text(asked.now, captures)
         listed = re.escape(told)
+    if stopped.cause == "no code":
+        listed = re.escape("".join(f"{clock}\n" for clock in stopped.about))
     line = STOPPED[stopped.cause].replace("STATION", str(station)).replace("SYSTEM", "".join(map(str, stopped.about[:1])))
     return f"rtcm2rinex: {line}\n{listed}"
 
@@ -135,15 +137,18 @@ def to_come_lines(now: int, captures: list[finding.Capture], at: int) -> list[st
     return [] if it is None else [f"{date_text(*it, name_of(at))}: it is after the time of making"]
 
 
-# pins: far_head, far_epoch
+# pins: far_head, far_epoch, far_neighbour
 def far_lines(now: int, captures: list[finding.Capture], at: int, station: int) -> list[str]:
-    """The first date of the station in the capture at this place that is far from the epoch beside it, or nothing."""
-    far = finding.far_date(now, captures[at], station)
+    """The first date of the station in the capture at this place that is far from the epochs beside it, or if it has none from the
+    messages of GLONASS and BeiDou; or nothing."""
+    has_epochs = bool(captures[at].times(station))
+    far = finding.far_date(now, captures[at], station) if has_epochs else finding.far_from_clocks(now, captures[at], station)
     if far is None:
         return []
-    fields, epoch = far
+    fields, moment = far
     date = date_text(fields, finding.utc_moment(fields), name_of(at))
-    return [f" other-date{date}: it dates the epoch beside it as {shown_time(epoch)}"]
+    beside = "it dates the epoch beside it as" if has_epochs else "the message beside it is dated"
+    return [f" other-date{date}: {beside} {shown_time(moment)}"]
 
 
 def distinct(told: list[finding.Told]) -> list[finding.Told]:
@@ -262,13 +267,14 @@ def date_lines(found: Found, asked: Asked, texts: list[bytes]) -> list[str]:
 
 # pins: to_text, greatest_text, leap_words_of, found_leap_words
 def leap_lines(found: Found, asked: Asked, texts: list[bytes]) -> list[str]:
-    """The captures in which a 1013 of the station tells other leap seconds than those by which GLONASS is compared; and those by
-    which GLONASS is right, if they are not given."""
+    """The captures in which a 1013 of the station tells other leap seconds than those that date GLONASS from the first to the last
+    epoch; and those by which GLONASS is right, if they are not given."""
     chosen, lines = found.chosen, []
-    due = leap_seconds_at(found.near) if chosen.leap is None else chosen.leap
+    epochs = [it for of in found.epochs for it in of]
+    least, greatest = (leap_seconds_at(it) if chosen.leap is None else chosen.leap for it in (min(epochs), max(epochs)))
     for at, capture in enumerate(asked.captures(texts)):
         told = [it for it in capture.sent(found.station).leap_seconds if it != NOT_TOLD]
-        if GLONASS.letter in chosen.kinds and at not in found.skipped and {*told} - {due}:
+        if GLONASS.letter in chosen.kinds and at not in found.skipped and told and not least <= min(told) <= max(told) <= greatest:
             range_of = f"{min(told)}" if min(told) == max(told) else f"{min(told)} to {max(told)}"
             lines.append(f" other-leap-seconds {range_of} by 1013 in {name_of(at)}")
     is_found = GLONASS.letter in chosen.kinds and chosen.leap is not None and asked.wanted.leap is None
@@ -316,7 +322,8 @@ def system_text(number: int) -> str:
 
 # pins: msm_line_of, obs_1004_line, is_gps_system, ended_count_line, long_line, unread_legacy_glonass
 def left_out_lines(found: Found, texts: list[bytes], has_doppler: bool) -> list[str]:
-    """How many messages are not converted, or without a part: of GPS those of the station, of other systems those of all stations."""
+    """How many messages are not converted, or without a part: of GPS those of the station, of other systems those of all stations. With
+    SBAS and without GPS, 1004 are converted if one has a satellite of SBAS."""
     chosen = found.chosen
     read = [read_message(it.payload, MSMS) for text in texts for it in frames_of(text)]
     own = [it for it in read if isinstance(it, Message) and it.header["station"] == found.station]
@@ -325,7 +332,9 @@ def left_out_lines(found: Found, texts: list[bytes], has_doppler: bool) -> list[
     others.update(it.header["number"] for it in own if it.header["number"] in gps)
     others.update(it.number for it in read if isinstance(it, Refusal) and it.number in MSMS)  # they tell no station
     told = {*gps, *UNTAKEN, *range(1009, 1013), *(it for it in range(1081, 1138) if 1 <= it % 10 <= 7)}
-    numbers = sorted((set(others) & told) - chosen.numbers, key=lambda it: (system_text(it) != "GPS", it))
+    is_legacy_taken = GPS.letter in chosen.kinds or any(map(has_sbas, own))
+    taken = chosen.numbers if is_legacy_taken else chosen.numbers - {LEGACY}
+    numbers = sorted((set(others) & told) - taken, key=lambda it: (system_text(it) != "GPS", it))
     of_gps = [it for it in numbers if it in gps]
     lines = [f" not in the file: GPS {it}, {others[it]} messages" for it in of_gps]
     lines += [] if has_doppler else doppler_lines(found, texts)

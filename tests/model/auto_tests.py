@@ -11,27 +11,30 @@ from typing import Iterable
 
 import worked_rows as rows
 from auto_lines import Asked, auto_text
-from chains import Date, is_wrong, offset_lines, offsets_of, told_offset
+from chains import Date, chains_of, is_wrong, offset_lines, offsets_of, told_offset
 from channels import orbit_of, slots_of
-from choosing import Chosen, Wanted, kind_of
-from finding import Capture, Found, find
+from choosing import DATING, Chosen, Wanted, kind_of
+from clock_spans import placed
+from clocks import DAY_MS, glonass_clock
+from finding import Capture, Found, clocks_in, find, own_dates
 from mixed_model import convert_mixed
 from mixed_sender import with_more
-from model import moment
+from model import civil, moment
+from station import date
 from systems import BEIDOU, GALILEO, GLONASS, GPS, QZSS, SBAS, System
-from tested import NOON, one_cell, run_tests, same, test
-from wire import WEEK_MS, frame_of
+from tested import NOON, of_1012_at, one_cell, run_tests, same, test
+from wire import WEEK_MS, Message, frame_of
 
 MADE = moment("2024-05-17T13:00:00")
 CLOCKS = "GEJSICR"
 
 
-def epoch(time: int, *sent: tuple[System, int]) -> bytes:
-    """A chain of MSM7 of these systems, whose clocks are ahead by so many ms. Channels are -5."""
+def epoch(time: int, *sent: tuple[System, int], lost: int = 0) -> bytes:
+    """A chain of MSM7 of these systems, whose clocks are ahead by so many ms, of which so many at its end are lost. Channels are -5."""
     last = len(sent) - 1
     return b"".join(
         one_cell(system, 7, time + ahead, 10, next(iter(system.signals.values())) or 0, more=int(at < last), channel=2, cnr=160)
-        for at, (system, ahead) in enumerate(sent)
+        for at, (system, ahead) in enumerate(sent[: len(sent) - lost])
     )
 
 
@@ -107,6 +110,50 @@ def the_clock_of_a_chain() -> None:
     text = epoch(NOON, (GPS, 0), (GALILEO, 7), (BEIDOU, 5))
     whole = Capture.of(text, "G").messages()
     same("without its end", {it for it in offsets_of(whole[:2], None).values() if it}, set())
+
+
+@test
+def chains_that_are_cut_off() -> None:
+    """A chain of which the end is lost is compared with nothing, once a system tells another time of day than before in it."""
+
+    def lengths(*sent: tuple[int, int, int]) -> list[int]:
+        """Of numbers, clocks, and whether more messages follow."""
+        messages = [Message({"number": number, "tow": tow, "multiple_message": more}) for number, tow, more in sent]
+        return [len(it) for it in chains_of(messages)]
+
+    moscow, day = glonass_clock(1, 3_600_000), DAY_MS + 7_200_000
+    second = (1077, day + 1000, 1), (1087, moscow + 1000, 0)
+    same("its end is lost", lengths((1077, day, 1), *second), [2])
+    same("two messages of one system", lengths((1077, day, 1), (1077, day, 1), (1087, moscow, 1), (1087, moscow, 0)), [4])
+    same("kinds of one system", lengths((1074, day, 1), (1077, day + 1, 1), (1087, moscow, 0)), [2])
+    same("the same time of another day", lengths((1077, day, 1), (1077, day + DAY_MS, 1), (1087, glonass_clock(7, 3_600_000), 1),
+                                                 (1087, moscow, 0)), [4])
+    same("a leap second", lengths((1087, glonass_clock(0, DAY_MS + 5), 1), (1087, glonass_clock(1, 5), 1), (1077, day, 0)), [3])
+    same("other systems apart", lengths((1077, day, 1), (1097, day + 1000, 1), (1127, day, 0)), [3])
+    same("behind the end", lengths((1077, day, 1), (1087, moscow, 0), *second), [2, 2])
+    same("a system that is sent seldom", lengths(*((1077, day + at, 1) for at in range(5)), (1087, moscow + 4, 0)), [2])
+    same("the last one alone", lengths((1097, day, 1), (1097, day + 1, 0)), [1])
+    # a clock that is passed over, since 32 came before it, begins no epoch
+    many = [(1077, day, 1)] * 32
+    same("32 clocks", lengths(*many, (1097, day, 1), (1097, day + 1, 1), (1077, day, 0)), [32])
+    same("31 clocks", lengths(*many[1:], (1097, day, 1), (1097, day + 1, 1), (1077, day, 0)), [2])
+    of_legacy = ((1012, glonass_clock(7, 5), 1), (1004, day, 1), (1012, glonass_clock(7, 6), 0))
+    messages = [Message({"number": number, "tow": tow, "synchronous": more}) for number, tow, more in of_legacy]
+    same("a 1012", [len(it) for it in chains_of(messages)], [1])
+
+
+@test
+def no_clock_across_a_lost_end() -> None:
+    """BeiDou ends each epoch of Galileo, and one is lost; or GLONASS those of GPS, and each second one is. All clocks are right."""
+    sent = [(GALILEO, 0), (BEIDOU, 0)]
+    chosen = chosen_in(b"".join(epoch(NOON + 1000 * at, *sent, lost=int(at == 30)) for at in range(60)))
+    same("one lost", (chosen.clocks, chosen.wrong, chosen.letters), ([], "", "EC"))
+    sent = [(GPS, 0), (GLONASS, 0)]
+    chosen = chosen_in(b"".join(epoch(NOON + 1000 * at, *sent, lost=1 - at % 2) for at in range(20)))
+    same("each second one", (chosen.clocks, chosen.leap, chosen.unchecked, chosen.letters), ([], None, "", "GR"))
+    ended = [epoch(NOON, (GLONASS, 0), (GALILEO, 0), (BEIDOU, 0), lost=1), epoch(NOON + 1000, (GLONASS, 0), (GALILEO, 5), (BEIDOU, 0))]
+    chosen = chosen_in(b"".join(ended))
+    same("of three systems", chosen.clocks, [" clock R -0.005 1 of 1", " clock C -0.005 1 of 1"])
 
 
 @test
@@ -199,6 +246,31 @@ def channels_in_the_command() -> None:
     same("a code that is not listed", chosen_in(unknown, names=("1C", "R2P")).slots.without, [10])
     same("a 1020", chosen_in(unknown + orbit).slots.channels, {10: -3})
     same("no code of it", chosen_in(unknown, systems="G").slots, None)
+
+
+@test
+def a_1012_before_the_first_epoch() -> None:
+    """At 02:16:00, behind a 1013 of 02:15:42 in UTC or none; an epoch follows. Saturday is day 58,873."""
+    saturday, sunday = moment("2020-01-25T02:16:00"), moment("2020-01-26T02:16:00")
+    rows_due = (
+        # without a date it is the nearest 02:16:00
+        (None, "12:00:00", saturday), (None, "15:00:00", sunday),
+        (58_873, "12:00:00", saturday), (58_873, "15:00:00", saturday),
+        # by this date it would come after the epoch, so that tells nothing
+        (58_874, "12:00:00", saturday), (58_874, "15:00:00", sunday),
+        # by this one it came a day before
+        (58_872, "12:00:00", saturday - DAY_MS),
+    )  # fmt: skip
+    for day, time, due in rows_due:
+        epoch_at = moment(f"2020-01-25T{time}")
+        text = b"" if day is None else date(8_142, day, 1)
+        entry = {"slot": 3, "channel": 7, "l1_cnr": 160}
+        text += of_1012_at(saturday, entry) + one_cell(GPS, 7, epoch_at, 1, 2, cnr=160)
+        for behind in ([], [epoch_at]):
+            capture = Capture.of(text + b"".join(of_1012_at(it, entry) for it in behind), DATING)
+            clocks = clocks_in(capture, 1, [epoch_at], own_dates(MADE, capture, 1, None))
+            got = placed("day", clocks["day"], None, epoch_at, 18)
+            same(f"{day} {time}", [*map(civil, got)], [*map(civil, [due, *behind])])
 
 
 if __name__ == "__main__":

@@ -16,7 +16,7 @@ from mixed_model import Options, convert_mixed
 from model import Setup
 from msm import LEGACY_GLONASS
 from program import Ended
-from properties import HOLDS, Answer, Case, ends_with, pieces_of, with_dates
+from properties import HOLDS, NOT_MET, Answer, Case, ends_with, pieces_of, with_dates
 from systems import KINDS, LETTERS
 from wire import WEEK_MS
 
@@ -92,14 +92,37 @@ def auto_as_modelled(case: Case) -> Answer:
         case.program.write(name, text)
     # the order of the captures makes no difference, since their names count
     given = names if asked.wanted.as_given else case.rng.sample(names, len(names))
+    return of_captures(case, asked, texts, given)
+
+
+def sessions_as_modelled(case: Case) -> Answer:
+    """`auto` of a capture of two sessions says what the slow model finds, most often where the second one begins."""
+    if case.capture.scene != "sessions":
+        return NOT_MET
+    setup = case.capture.setup
+    case.program.write(name_of(0), *case.links)
+    return of_captures(case, Asked(LAST_MADE, setup.marker, setup.window, Wanted()), case.links, [name_of(0)])
+
+
+def of_captures(case: Case, asked: Asked, texts: list[bytes], given: list[str]) -> Answer:
+    """How `auto` of these captures, whose names are given in this order, is not as it is due."""
     run = case.program.run(["auto", *asked.words(), *given])
     try:
         case.found = find(texts, asked.now, asked.wanted)
     except Stopped as stopped:
+        if stopped.cause == "two dates":
+            case.second = second_part(asked, texts, *stopped.about)
         line = refusal_pattern(stopped, asked, texts)
         is_said = re.match(line.encode(), run.err)
         return ends_with(run, 3, b"", None) or (HOLDS if is_said else f"{run.err!r} and not {line!r}")
     return judged(run, case.found, asked, texts)
+
+
+def second_part(asked: Asked, texts: list[bytes], at: int, byte: int) -> bytes:
+    """What comes behind a byte of the capture at this place, among those of the station."""
+    captures = asked.captures(texts)
+    station = finding.station_of(captures, asked.wanted.station)
+    return [text for text, it in zip(texts, captures) if it.is_of_station(station)][at][byte:]
 
 
 def judged(run: Ended, found: Found, asked: Asked, texts: list[bytes]) -> Answer:

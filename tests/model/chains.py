@@ -6,7 +6,7 @@ from __future__ import annotations
 from collections import Counter
 from typing import Iterable, NamedTuple, Optional
 
-from clocks import DAY_MS, glonass_moment, leap_seconds_at
+from clocks import DAY_MS, glonass_moment, glonass_parts, leap_seconds_at
 from model import dated
 from msm import letter_of
 from systems import BEIDOU, BY_LETTER, GLONASS
@@ -36,13 +36,33 @@ class Date(NamedTuple):
 
 def chains_of(messages: Iterable[Message]) -> list[list[Message]]:
     """The observations of the chains that ended."""
-    chains: list[list[Message]] = [[]]
+    return parted(messages)[0]
+
+
+def parted(messages: Iterable[Message]) -> tuple[list[list[Message]], list[list[Message]]]:
+    """The observations of the chains that ended, and of those that were cut off: an epoch begins with a system that has told another time
+    of day in the chain, so its end is lost, and which of its messages are of one epoch is not known."""
+    ended: list[list[Message]] = []
+    cut: list[list[Message]] = []
+    chain: list[Message] = []
     for message in messages:
-        if "tow" in message.header:
-            chains[-1].append(message)
-            if not message.header.get("multiple_message", message.header.get("synchronous")):
-                chains.append([])
-    return [chain[:MOST_CLOCKS] for chain in chains[:-1]]
+        if "tow" not in message.header:
+            continue
+        if any(letter_of(it) == letter_of(message) and _time_of_day(it) != _time_of_day(message) for it in chain):
+            cut.append(chain)
+            chain = []
+        if len(chain) < MOST_CLOCKS:
+            chain.append(message)
+        if not message.header.get("multiple_message", message.header.get("synchronous")):
+            ended.append(chain)
+            chain = []
+    return ended, cut
+
+
+def _time_of_day(message: Message) -> int:
+    """That of the clock. A leap second of GLONASS is the first one of the next day."""
+    clock = message.header["tow"]
+    return (glonass_parts(clock)[1] if letter_of(message) == GLONASS.letter else clock) % DAY_MS
 
 
 def _ahead(message: Message, base: int, date: Date | None) -> int | None:

@@ -16,14 +16,15 @@ from math import dist
 from pathlib import Path
 from typing import NamedTuple
 
+from chains import parted
 from channels import orbit_of
 from choosing import Allowed, Chosen, Sent, Wanted, choose, has_value_of_1012, leap_of
-from clock_spans import CLOCKS, DAY, Going, Marked, going, placed
+from clock_spans import DAY, Far, Going, Marked, clock_of_message, followed, placed
 from clocks import leap_seconds_at, near_of_span
 from equipment import equipment_of
 from messages import Refusal, frames_of
 from model import civil, moment
-from msm import read_frame
+from msm import letter_of, read_frame
 from systems import GLONASS, LETTERS
 from valued import cells_in, has_value, letter_of_name, name_of_code, names_in
 from wire import WEEK_MS, BitReader, Fields, Message, table
@@ -214,14 +215,15 @@ WAITING = 64  # how many messages before the first epoch are looked at,
 WAITING_WEEKS = 16  # and how many 1042, 1045 and 1046 beside them
 
 
-def dates_beside(capture: Capture, station: int) -> list[tuple[Fields, int]]:
-    """The messages that are looked at, each with the time of week of the last epoch before it, or else of the first one."""
+def dates_beside(capture: Capture, station: int) -> list[tuple[Fields, int, int | None, int]]:
+    """The messages that are looked at, each with the time of week of the last epoch before it, or else of the first one; with that of
+    the epoch behind it, if one comes; and how many epochs come before it."""
     times = capture.times(station)
     beside, epochs, waits = [], 0, {at for at, _ in waiting_in(capture)}
     for place, entry in enumerate(capture.read):
         epochs += capture.observes(station, entry)
         if not isinstance(entry, Message) and times and (epochs > 0 or place in waits):
-            beside.append((entry, times[max(epochs - 1, 0)]))
+            beside.append((entry, times[max(epochs - 1, 0)], times[epochs] if epochs < len(times) else None, epochs))
     return beside
 
 
@@ -282,8 +284,8 @@ def is_rolled_over(told: list[Told]) -> bool:
 
 
 def second_begins(capture: Capture, told: list[Told], station: int) -> int | None:
-    """The byte at which a second date of the station begins: that of its first message; or of an epoch before it, if no epoch
-    between the last message of the first date and the first epoch behind that message steps back, or on by more than 60 s, by more.
+    """The byte at which a second date of the station begins: that of its first message; or of the first message of an epoch before it, if
+    no epoch between the last message of the first date and the first epoch behind that message steps back, or on by more than 60 s, by more.
     None without a second date, and if it came before all epochs."""
     own = [it for it in told if it.fields.get("station") == station]
     others = [it for it in own if it.first != own[0].first]
@@ -297,7 +299,27 @@ def second_begins(capture: Capture, told: list[Told], station: int) -> int | Non
     steps = [(after - before, at) for before, after, at in zip(moments, moments[1:], epochs[1:]) if after != before and at > last]
     behind = next((at for _, at in steps if at > second), len(capture.read))
     breaks = [(abs(step), at) for step, at in steps if at <= behind and not 0 <= step <= 60_000]
-    return capture.places[min(second, max(breaks, default=(0, second))[1])]
+    break_at = max(breaks, default=(0, None))[1]
+    return capture.places[second if break_at is None else min(second, chain_start(capture, station, epochs[0], break_at))]
+
+
+# pins: is_within_minute
+def chain_start(capture: Capture, station: int, first: int, last: int) -> int:
+    """The place of the first message of the chain of the station in which the last of these stands, behind the first one. A chain ends
+    with a message behind which no other follows, and before one that is more than 60 s from its first in the time of day, or is of the
+    system of this and tells another time of day."""
+    start: tuple[int, str | None, int] | None = None
+    for at in range(first + 1, last + 1):
+        it = capture.read[at]
+        if not isinstance(it, Message) or "tow" not in it.header or it.header["station"] != station:
+            continue
+        letter, (_, time) = letter_of(it), clock_of_message(it) or ("", it.header["tow"])
+        if start is None or start[1] == letter and (start[2] - time) % DAY_MS or (start[2] - time + 60_000) % DAY_MS > 120_000:
+            start = at, letter, time
+        begun = start[0]
+        if not it.header.get("multiple_message", it.header.get("synchronous")):
+            start = None
+    return begun
 
 
 def passed_over(told: list[Told], station: int) -> tuple[list[Told], list[Told], list[Told]]:
@@ -346,6 +368,7 @@ class Found(NamedTuple):
     unnamed: list[int]  # captures without an epoch that name no date, and have clocks that are converted and no word dates
     falling: list[int]  # captures in which a clock of these falls, and no epoch
     days: dict[int, Told]  # by capture what names the day of its 1012, if the capture has no epoch and no date of the station
+    cut_off: int  # chains of which the end is lost
 
 
 def station_of(captures: list[Capture], named: int | None) -> int:
@@ -426,12 +449,31 @@ def utc_moment(fields: Fields) -> int:
 
 # pins: is_far_from_epoch
 def far_date(now: int, capture: Capture, station: int) -> tuple[Fields, int] | None:
-    """The first 1013 or 1029 of the station that tells a time more than half a day from the epoch that it dates, with that epoch."""
-    for entry, tow in dates_beside(capture, station):
-        date = told_moment(now, entry, tow) if entry.get("station") == station else None
-        if date is not None and abs(date - utc_moment(entry)) > DAY_MS // 2:
+    """The first 1013 or 1029 of the station that tells a time more than half a day from the epoch before it and the one behind it, as
+    it dates them, with the one before it. Of several between two epochs the last counts. One before the first epoch has that alone."""
+    beside = [it for it in dates_beside(capture, station) if it[0].get("station") == station]
+    fars: dict[int, tuple[Fields, int, int | None]] = {}
+    for entry, tow, behind, epochs in beside:
+        date = far_moment(now, entry, tow)
+        if date is not None and epochs == 0:
+            return entry, date
+        if date is not None:
+            fars[epochs] = entry, date, behind
+    for entry, date, behind in fars.values():
+        if behind is None or far_moment(now, entry, behind) is not None:
             return entry, date
     return None
+
+
+def far_moment(now: int, fields: Fields, tow: int) -> int | None:
+    """An epoch at this time of week as a 1013 or 1029 dates it, if it is more than half a day from its time."""
+    date = told_moment(now, fields, tow)
+    return date if date is not None and abs(date - utc_moment(fields)) > DAY_MS // 2 else None
+
+
+def far_from_clocks(now: int, capture: Capture, station: int) -> Far | None:
+    """The same of a capture without epochs, by the messages of GLONASS and BeiDou beside the date."""
+    return followed(marked_in(capture, station, [], own_dates(now, capture, station, None)))[1]
 
 
 def stray_of(epochs: list[list[int]], places: list[int]) -> tuple[int, list[int]] | None:
@@ -535,7 +577,7 @@ def find(texts: list[bytes], now: int, wanted: Wanted = Wanted()) -> Found:
     allowed = Allowed(span, near, middle is not None)
     chosen = choose(sent, links, orbits, allowed, wanted)
     if not chosen.names:
-        raise Stopped("no code")
+        raise Stopped("no code", *chosen.clocks)
     if FIRST_NEAR <= near <= LAST_NEAR:
         stop_without_rates(chosen.kinds, wanted)
         stop_if_far(middle if chosen.with_1012 and middle is not None else near, chosen.letters, clocks, moments)
@@ -546,7 +588,7 @@ def find(texts: list[bytes], now: int, wanted: Wanted = Wanted()) -> Found:
     letters = {*chosen.letters, *[DAY] * chosen.with_1012}
     taken = [{it: its for it, its in of.items() if it in letters} for of in clocks]
     leaves_1012 = middle is None and GLONASS.letter in wanted.letters and any(has_value_of_1012(it) for it in messages)
-    has_day = [DAY in clock and (chosen.with_1012 or leaves_1012) for clock in clocks]
+    has_day = [DAY in clock and not clock[DAY].has_day and (chosen.with_1012 or leaves_1012) for clock in clocks]
     by_words = wanted.near is not None  # which tells the week, and so not the day of 1012
     undated = [own is None and not of and (has or bool(it) and not by_words) for own, of, it, has in zip(owns, epochs, taken, has_day)]
     days = {at: it for at, it, has in zip(places, owns, has_day) if has and it is not None and it.fields.get("station") != number}
@@ -555,6 +597,7 @@ def find(texts: list[bytes], now: int, wanted: Wanted = Wanted()) -> Found:
         [places[at] for at, of in enumerate(epochs) if not of], skipped, few_phases(captures, number, wanted.station, chosen), stray_of(epochs, places),
         leaves_1012, [at for at, is_undated in zip(places, undated) if is_undated],
         [at for at, of, it in zip(places, epochs, taken) if any(its.falls for its in it.values()) and of == sorted(of)], days,
+        sum(len(parted(it.messages)[1]) for it in sent),
     )
 
 
@@ -573,23 +616,28 @@ def own_dates(now: int, capture: Capture, station: int, near: int | None) -> dic
 
 def clocks_in(capture: Capture, station: int, epochs: list[int], dates: dict[int, int]) -> dict[str, Going]:
     """How the clocks of GLONASS and BeiDou of the station go that have a message with a value."""
+    return followed(marked_in(capture, station, epochs, dates))[0]
+
+
+def marked_in(capture: Capture, station: int, epochs: list[int], dates: dict[int, int]) -> list[Marked]:
+    """The messages of the station with the moments of its epochs, and the dates that it names."""
     dated_by = iter(epochs)
     entries = []
     for at, it in enumerate(capture.read):
         if at in dates:
-            entries.append(Marked(None, date=dates[at]))
+            entries.append(Marked(None, date=dates[at], fields=fields_of(it)))
         elif isinstance(it, Message) and it.header["station"] == station:
             entries.append(Marked(it, next(dated_by) if capture.observes(station, it) else None))
-    goings = {clock: going(clock, entries) for clock in CLOCKS}
-    return {clock: it for clock, it in goings.items() if it.moments}
+    return entries
 
 
 # pins: middle_up, middle_second, can_date, dates_ends
 def near_with_1012(epochs: list[int], clocks: list[dict[str, Going]], moments: list[dict[str, list[int]]]) -> int | None:
-    """The moment near which the station's 1012 are dated right, if there is one."""
-    every = [*epochs, *(it for of in moments for it in of.get(DAY, []))]
+    """The moment near which the station's 1012 are dated right, if there is one: all MSM of GLONASS lie near it, too."""
+    of_glonass = (GLONASS.letter, DAY)
+    every = [*epochs, *(it for of in moments for clock in of_glonass for it in of.get(clock, []))]
     middle = near_of_span(min(every), max(every))
-    if any(DAY in of and of[DAY].is_wide for of in clocks):
+    if any(clock in of and of[clock].is_wide for of in clocks for clock in of_glonass):
         return None
     return middle if middle is not None and FIRST_NEAR <= middle <= LAST_NEAR else None
 

@@ -12,11 +12,10 @@ import worked_rows as rows
 from clocks import DAY_MS, UNKNOWN_DAY, clock_of, glonass_clock, glonass_parts
 from mixed_model import Options, convert_mixed
 from model import COUNTS, Conversion, moment
-from msm import HEADER_1012, SATELLITE_1012, payload_of_1012
 from station import legacy_of
 from systems import GLONASS
-from tested import NOON, one_cell, run_tests, same, test, without_cells
-from wire import WEEK_MS, Fields, Message, frame_of, payload_of
+from tested import NOON, of_1012, of_1012_at, one_cell, run_tests, same, test, without_cells
+from wire import WEEK_MS, Fields, frame_of, payload_of
 
 MADE = moment("2024-05-17T13:00:00")
 TOLD = "2024-05-17 12:00:00.000"
@@ -29,17 +28,6 @@ ONE_MODULUS = {"slot": 3, "channel": 7, "modulus_ambiguity": 1, "l1_lock": 127, 
 def options_of(codes: str, channels: dict[int, int] | None, near: int = NOON, window: int = 64, **values: object) -> Options:
     with_1012 = values.get("with_1012", True) is True
     return Options(1, near, MADE, "BASE", tuple(codes.split(",")), window, "7", channels, None, with_1012)
-
-
-def of_time(time_of_day: int, *entries: Fields, station: int = 1) -> bytes:
-    """The frame of a 1012 of these entries at a time of day in Moscow."""
-    head = {it.name: 0 for it in HEADER_1012} | {"number": 1012, "station": station, "clock": time_of_day, "satellites": len(entries)}
-    return frame_of(payload_of_1012(Message(head, [{it.name: 0 for it in SATELLITE_1012} | it for it in entries])))
-
-
-def at(time: int, *entries: Fields) -> bytes:
-    """The same at a GPS time."""
-    return of_time(glonass_parts(clock_of(GLONASS, time))[1], *entries)
 
 
 def legacy(time: int, *entries: Fields) -> bytes:
@@ -70,15 +58,15 @@ def values_in(line: str) -> list[str]:
 def values_of_a_1012() -> None:
     due = ["19916942.748", "106392733.308", "50.500", "19916941.068", "82749896.446", "47.750"]
     near = moment("2020-01-25T02:16:00")
-    got = convert_mixed(options_of("R1C,R2P", {12: -1}, near), [of_time(18_942_000, BNDM)])
+    got = convert_mixed(options_of("R1C,R2P", {12: -1}, near), [of_1012(18_942_000, BNDM)])
     same("its record", records_of(got)[0], "> 2020 01 25 02 16  0.0000000  0  1")
     same("its values", [(line[:3], values_in(line)) for line in records_of(got)[1:]], [("R12", due)])
     same("its report", (lines_of(got), counts_of(got)), (["other-channel -", "no-channel -"], {"frames": 1, "taken": 1, "epochs": 1}))
     same("its leap seconds", [line[:6] for line in got.file.splitlines() if "LEAP" in line], ["    18"])
     due = ["19271851.392", "102729811.697", "49.000", "19271859.552", "79900966.285", "43.000"]
-    got = convert_mixed(options_of("R1C,R2C", {14: -7}), [at(NOON, TESTGLO)])
+    got = convert_mixed(options_of("R1C,R2C", {14: -7}), [of_1012_at(NOON, TESTGLO)])
     same("those of L2 C", [values_in(line) for line in records_of(got)[1:]], [due])
-    got = convert_mixed(options_of("R1C,R2P", {12: -1}, near, with_1012=False), [of_time(18_942_000, BNDM)])
+    got = convert_mixed(options_of("R1C,R2P", {12: -1}, near, with_1012=False), [of_1012(18_942_000, BNDM)])
     same("without the word", (lines_of(got)[2:], counts_of(got)), (["no-message R"], {"frames": 1, "other": 1}))
 
 
@@ -91,19 +79,19 @@ def a_1012_is_dated_within_half_a_day() -> None:
         ("2017-01-01T12:00:00", 10_800_000, "2017 01 01 00 00 18.0"), ("2016-12-31T12:00:00", 10_799_999, "2016 12 31 00 00 16.999"),
     )  # fmt: skip
     for near, time_of_day, due in cases:
-        got = convert_mixed(options_of("R1C", {12: -1}, moment(near)), [of_time(time_of_day, BNDM)])
+        got = convert_mixed(options_of("R1C", {12: -1}, moment(near)), [of_1012(time_of_day, BNDM)])
         same(f"{time_of_day} near {near}", records_of(got)[0][2 : 2 + len(due)], due)
 
 
 @test
 def a_1012_of_26_hours() -> None:
     """Hours that are half a day away or more are dated a day off, where the same was told before."""
-    text = b"".join(at(NOON + HOUR_MS * hour, BNDM) for hour in range(-13, 14))
+    text = b"".join(of_1012_at(NOON + HOUR_MS * hour, BNDM) for hour in range(-13, 14))
     got = convert_mixed(options_of("R1C", {12: -1}), [text])
     same("counts", counts_of(got), {"frames": 27, "taken": 24, "repeat": 3, "epochs": 24})
     days = [line[2:12] for line in records_of(got) if line[0] == ">"]
     same("days", (days[0], days[-1], len(days)), ("2024 05 17", "2024 05 17", 24))
-    text = b"".join(at(NOON - DAY_MS // 2 + 1000 * second, BNDM) for second in (0, 1, 43_199, 43_200, 43_201, 86_398, 86_399))
+    text = b"".join(of_1012_at(NOON - DAY_MS // 2 + 1000 * second, BNDM) for second in (0, 1, 43_199, 43_200, 43_201, 86_398, 86_399))
     got = convert_mixed(options_of("R1C", {12: -1}), [text])
     same("from 00:00:00 to 23:59:59", [line[13:20] for line in records_of(got) if line[0] == ">"][::6], ["00 00  ", "23 59 5"])
     same("its epochs", counts_of(got)["epochs"], 7)
@@ -119,7 +107,7 @@ def other_clocks_without_a_day() -> None:
     same("an MSM", counts_of(got), {"frames": 2, "taken": 1, "repeat": 1, "epochs": 1})
     got = convert_mixed(options_of("R1C", {3: 0}, with_1012=False), [text + unknown])
     same("an MSM without the word", counts_of(got), {"frames": 2, "taken": 1, "refused": 1, "epochs": 1})
-    late = [of_time(it, BNDM) for it in (86_400_999, 86_401_000)] + [frame_of(at(NOON, BNDM)[3:-4])]
+    late = [of_1012(it, BNDM) for it in (86_400_999, 86_401_000)] + [frame_of(of_1012_at(NOON, BNDM)[3:-4])]
     got = convert_mixed(options_of("R1C", {12: -1}), [b"".join(late)])
     same("clocks of 1012", counts_of(got), {"frames": 3, "taken": 1, "refused": 2, "epochs": 1})
     same("why", lines_of(got)[:2], ["link 1 refused M4 1012", "link 1 refused M3 1012"])
@@ -128,33 +116,33 @@ def other_clocks_without_a_day() -> None:
 @test
 def an_msm_goes_before_a_1012() -> None:
     msm = one_cell(GLONASS, 7, NOON, 12, 2, channel=15, cnr=160)
-    for texts in ([msm, at(NOON, BNDM)], [at(NOON, BNDM), msm], [at(NOON, BNDM) + msm]):
+    for texts in ([msm, of_1012_at(NOON, BNDM)], [of_1012_at(NOON, BNDM), msm], [of_1012_at(NOON, BNDM) + msm]):
         got = convert_mixed(options_of("R1C,R2P", {12: -1}), texts)
         shown = [values_in(line) for line in records_of(got)[1:]]
         same("values", [(it[0], it[2], it[3]) for it in shown], [("20985472.060", "10.000", "19916941.068")])
         same("counts", counts_of(got), {"frames": 2, "taken": 2, "epochs": 1})
     for entry, due in ((TESTGLO, {"taken": 1}), (BNDM, {"repeat": 1})):
-        got = convert_mixed(options_of("R1C", {12: -1, 14: -7}), [at(NOON, BNDM) + at(NOON, entry)])
+        got = convert_mixed(options_of("R1C", {12: -1, 14: -7}), [of_1012_at(NOON, BNDM) + of_1012_at(NOON, entry)])
         same("two copies", counts_of(got), {"frames": 2, "taken": 1, "epochs": 1, **{it: n + (it == "taken") for it, n in due.items()}})
-    got = convert_mixed(options_of("R1C", {12: -1}), [at(NOON, BNDM) + at(NOON, {**BNDM, "l1_cnr": 1})])
+    got = convert_mixed(options_of("R1C", {12: -1}), [of_1012_at(NOON, BNDM) + of_1012_at(NOON, {**BNDM, "l1_cnr": 1})])
     same("a conflict", lines_of(got)[0], f"link 1 conflict 1012 {TOLD} R12 1C")
 
 
 @test
 def rolls_of_a_1012() -> None:
     for rise, due in ((280_704, "3204749.999"), (280_705, "3203250.001")):
-        text = at(NOON, ONE_MODULUS) + at(NOON + 1000, {**ONE_MODULUS, "l1_offset": rise})
+        text = of_1012_at(NOON, ONE_MODULUS) + of_1012_at(NOON + 1000, {**ONE_MODULUS, "l1_offset": rise})
         got = convert_mixed(options_of("R1C", {3: 0}), [text])
         same(f"{rise}", [values_in(line)[1] for line in records_of(got) if line[0] == "R"], ["3204000.000", due])
-    slip = at(NOON + 1000, {**ONE_MODULUS, "l1_offset": 280_705, "l1_lock": 0})
-    got = convert_mixed(options_of("R1C", {3: 0}), [at(NOON, ONE_MODULUS) + slip])
+    slip = of_1012_at(NOON + 1000, {**ONE_MODULUS, "l1_offset": 280_705, "l1_lock": 0})
+    got = convert_mixed(options_of("R1C", {3: 0}), [of_1012_at(NOON, ONE_MODULUS) + slip])
     same("a slip", [line[19:34] for line in records_of(got) if line[0] == "R"][1], "   3204750.0011")
 
 
 @test
 def channels_of_a_1012() -> None:
     for given, sent, normal in rows.CHANNELS_1012:
-        got = convert_mixed(options_of("R1C,R2P", given), [at(NOON, {**BNDM, "channel": sent})])
+        got = convert_mixed(options_of("R1C,R2P", given), [of_1012_at(NOON, {**BNDM, "channel": sent})])
         marks = [f"other-channel {'R12' if normal == 30 else '-'}", f"no-channel {'R12' if normal == 31 else '-'}"]
         same(f"{sent} with {given}", lines_of(got), marks)
         has_phase = [it != "" for it in values_in(records_of(got)[1])[1::3]]
@@ -165,13 +153,13 @@ def channels_of_a_1012() -> None:
 def slots_of_a_1012() -> None:
     """Slots 0 and 33 have no name, and the first entry of a slot counts."""
     nameless = [{**BNDM, "slot": slot} for slot in (0, 33)]
-    got = convert_mixed(options_of("R1C", {12: -1}), [at(NOON, *nameless)])
+    got = convert_mixed(options_of("R1C", {12: -1}), [of_1012_at(NOON, *nameless)])
     same("no cell", (lines_of(got), counts_of(got)), (["other-channel -", "no-channel -"], {"frames": 1, "taken": 1}))
-    got = convert_mixed(options_of("R1C", {12: -1}), [at(NOON, *nameless, {**BNDM, "l1_cnr": 40}, BNDM)])
+    got = convert_mixed(options_of("R1C", {12: -1}), [of_1012_at(NOON, *nameless, {**BNDM, "l1_cnr": 40}, BNDM)])
     same("twice", [values_in(line)[2] for line in records_of(got)[1:]], ["10.000"])
-    got = convert_mixed(options_of("R2C,R2P", {12: -1, 13: 0}), [at(NOON, {**BNDM, "l2_code": 2}, {**BNDM, "slot": 13, "l2_code": 3})])
+    got = convert_mixed(options_of("R2C,R2P", {12: -1, 13: 0}), [of_1012_at(NOON, {**BNDM, "l2_code": 2}, {**BNDM, "slot": 13, "l2_code": 3})])
     same("other codes of L2", counts_of(got), {"frames": 1, "taken": 1})
-    text = at(NOON - 1000, BNDM) + legacy(NOON, {"satellite": 5, "l1_range": 5_000_000}) + at(NOON, BNDM)
+    text = of_1012_at(NOON - 1000, BNDM) + legacy(NOON, {"satellite": 5, "l1_range": 5_000_000}) + of_1012_at(NOON, BNDM)
     got = convert_mixed(options_of("1C,R1C", {12: -1}), [text])
     same("a lone 1012 first", [line[:3] for line in records_of(got)], ["> 2", "R12", "> 2", "G05", "R12"])
 

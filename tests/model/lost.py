@@ -9,7 +9,7 @@ from finding import Capture, Found
 from messages import Refusal, cells_of, frames_of
 from mixed_cells import all_cells, sbas_of_1004
 from msm import LEGACY, LEGACY_GLONASS, letter_of, read_frame, system_of
-from systems import BY_LETTER, GLONASS, GPS, LETTERS, number_of
+from systems import BY_LETTER, GLONASS, GPS, SBAS, number_of
 from wire import Fields, Message
 
 
@@ -35,11 +35,13 @@ def has_no_day(message: Message) -> bool:
 
 # pins: is_nameless_id, has_value_on_l2, is_nameless_slot, cells_sent_by_four, has_cells_left, nameless_beside_msm, nameless_words, nameless_line
 def nameless_lines(found: Found, messages: list[Message]) -> list[str]:
-    """How many messages of each system that is converted have cells of a satellite or a signal that has no name."""
-    lines = []
-    for letter in (it for it in LETTERS if it in found.chosen.letters):
-        numbers = {number_of(BY_LETTER[letter], found.chosen.kinds[letter])}
-        numbers |= {LEGACY} if letter == GPS.letter else {LEGACY_GLONASS} if letter == GLONASS.letter and found.chosen.with_1012 else set()
+    """How many messages of each system that is converted have cells of a satellite or a signal that has no name. A satellite of a 1004
+    that is neither of GPS nor of SBAS counts as GPS, or as SBAS if GPS is not converted."""
+    lines, letters = [], found.chosen.letters
+    legacy = {GPS.letter if GPS.letter in letters else SBAS.letter: LEGACY}
+    legacy |= {GLONASS.letter: LEGACY_GLONASS} if found.chosen.with_1012 else {}
+    for letter in letters:
+        numbers = {number_of(BY_LETTER[letter], found.chosen.kinds[letter]), legacy.get(letter)}
         count = sum(it.header["number"] in numbers and has_nameless(it) for it in messages)
         lines += [f" without-name {letter} {count}"] * (count > 0)
     return lines

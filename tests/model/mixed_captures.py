@@ -10,12 +10,15 @@ from random import Random
 from typing import Callable, Iterable, Mapping, Sequence
 
 from captures import CALM_WINDOW, LAST_MADE, LAST_NEAR, NEARS, STEPS, Capture, any_marker, any_times, any_window, dealt, with_noise
+from choosing import NOT_TOLD
 from clocks import DAY_MS, LEAP_ROWS, clock_of, leap_seconds_at
+from finding import FIRST_DAY, SYSTEM_PARAMETERS
 from mixed_model import Options
 from mixed_sender import ALL_TRUE, SELDOM_TRUE, MixedSender, Voice
 from model import dated, moment
 from msm import payload_of_msm
 from sender import Pick, pick_any, pick_end, pick_near_lock, pick_zero
+from station import frame_of_row
 from systems import BY_LETTER, KINDS, LETTERS, SYSTEMS, System, number_of
 from wire import WEEK_MS
 
@@ -281,8 +284,34 @@ def late(rng: Random, turn: int, letters: str) -> Capture:
     return making.capture(dealt(rng, making.frames(times, 0.3), rng.choice((1, 1, 1, 2, 4))))
 
 
+def date_of(station: int, at: int) -> bytes:
+    """The frame of a 1013 of a station that tells this moment."""
+    day, second = divmod(at // 1000, DAY_MS // 1000)
+    fields = {"station": station, "day": FIRST_DAY + day, "second": second, "leap_seconds": NOT_TOLD}
+    return frame_of_row(SYSTEM_PARAMETERS, number=1013, **fields)
+
+
+def long_before(rng: Random, letters: str) -> Capture:
+    """1012 hours before the first 1004, mostly behind a 1013, of the station or of another one, and perhaps in a capture of their own."""
+    making = Making(rng, some_letters(rng, letters, "G", "R"), rng.choice(NEARS[2:]), CALM_WINDOW, True, pick_near_lock(1000))
+    making.take(with_1012="R" in making.options.codes)
+    making.sender.legacies = dict.fromkeys(making.sender.legacies, 1)
+    begin, count = rng.randint(1, 3), rng.randint(4, 6)
+    voices = [making.voice(BY_LETTER[it])._replace(kinds=()) for it in "GR"]
+    making.sender.voices = [voices[0]._replace(begin=begin), voices[1]._replace(end=rng.choice((begin, count)))]
+    gap = 3_600_000 * rng.choice((9, 13, 13, 15, 20))
+    first = making.options.near + 3_600_000 * rng.randrange(-20, 5)
+    frames = making.frames((first + 1000 * at + gap * (at >= begin) for at in range(count)), 0)
+    frames[:0] = [date_of(rng.choice((making.options.station, 5, 5)), first)] * rng.choice((0, 1, 1, 1, 1))
+    apart = {1012, 1013} if rng.random() < 0.7 else set()
+    links = [[it for it in frames if (number_of_frame(it) in apart) is is_apart] for is_apart in (True, False)]
+    return making.capture([b"".join(it) for it in links if it])
+
+
 def silent(rng: Random, turn: int, letters: str) -> Capture:
-    """Listed systems that are not sent, and others that are; also without GPS, whose 1004 are sent none the less."""
+    """Listed systems that are not sent, and others that are; also without GPS, whose 1004 are sent none the less. GPS may come late."""
+    if rng.random() < 0.5:
+        return long_before(rng, letters)
     listed = some_letters(rng, letters)
     listed = [it for it in listed if it != "G"] or listed if rng.random() < 0.5 else listed
     making = Making(rng, listed, some_near(rng), CALM_WINDOW, True)
@@ -309,11 +338,11 @@ def before_msm(rng: Random, turn: int, letters: str) -> Capture:
     making.sender.without_day = rng.choice((0, 0, 0.3))
     slots = rng.sample(SLOTS, rng.randint(1, 8)) + rng.choice(([], [33], [25, 26, 27, 28]))
     making.change("R", bits=tuple(sorted({*slots, *rng.choice(((), (63, 64)))})), begin=rng.choice((0, 0, 1)))
-    making.change("G", begin=rng.choice((0, 0, 1)))
     if rng.random() < 0.6:
         making.sender.voices = [it._replace(kinds=()) for it in making.sender.voices if it.system.letter in "GR"]
     step = rng.choice(STEPS_OF_1012)
     count = rng.choice((rng.randint(2, 8), 14))
+    making.change("G", begin=rng.choice((0, 0, 1)))
     half = DAY_MS // 2
     first = making.options.near + rng.choice((0, 1, -step * count // 2 // 1000 * 1000, half - 1000, half, -half, -half - 1000))
     frames = making.frames(in_order(rng, first, step, count), 0.1)
@@ -328,6 +357,56 @@ def streams(rng: Random, turn: int, letters: str) -> Capture:
     making.sender.faith = ALL_TRUE
     times = in_order(rng, making.options.near, 1000, rng.randint(8, 20))
     return making.capture([b"".join(making.frames(times, 0.05))])
+
+
+def number_of_frame(frame: bytes) -> int:
+    """What stands in a frame where its message has the number."""
+    return int.from_bytes(frame[3:5], "big") >> 4
+
+
+def passed_on(rng: Random, epochs: list[list[bytes]]) -> bytes:
+    """What a link has of these epochs: some frames are lost or damaged, and one number comes in one of so many epochs, or never."""
+    lost = rng.choice((0, 0.02, 0.2))
+    seldom = number_of_frame(rng.choice((epochs[0][-1], rng.choice(epochs[0]))))
+    each = rng.choice((1, 1, 2, 3, len(epochs) + 1))
+    kept = []
+    for at, frames in enumerate(epochs, 1):
+        for frame in frames:
+            if number_of_frame(frame) == seldom and at % each:
+                continue
+            if rng.random() >= lost:
+                kept.append(frame)
+            elif rng.random() < 0.5:
+                kept.append(frame[:-1] + bytes([frame[-1] ^ 1]))
+    return b"".join(kept)
+
+
+def losses(rng: Random, turn: int, letters: str) -> Capture:
+    """Epochs that say where they end, with clocks that are right, on links that lose messages: also the last one of an epoch."""
+    chosen = some_letters(rng, letters, *rng.choice(("GREC", "GR", "RG", "EC", "GEJC")))
+    making = Making(rng, chosen, some_near(rng), CALM_WINDOW, True, pick_near_lock(1000))
+    making.sender.voices = [making.voice(BY_LETTER[it]) for it in chosen]
+    making.sender.is_chained = True
+    times = in_order(rng, making.options.near, rng.choice((1000, 1000, 200, 30_000)), rng.randint(6, 20))
+    epochs = [making.frames([time], 0.03) for time in times]
+    return making.capture([passed_on(rng, epochs) for _ in range(rng.choice((1, 1, 2, 3)))])
+
+
+def sessions(rng: Random, turn: int, letters: str) -> Capture:
+    """Two sessions of different weeks in one capture, each with a date of the station. GLONASS or BeiDou comes first in an epoch."""
+    chosen = some_letters(rng, letters, *rng.choice(("RG", "CG", "RCE")))
+    making = Making(rng, chosen, some_near(rng), CALM_WINDOW, True)
+    making.sender.voices = [making.voice(BY_LETTER[it]) for it in chosen]
+    making.sender.is_chained = rng.random() < 0.9
+    begin, count = making.options.near, rng.randint(2, 6)
+    weeks = rng.choice((1, 1, 2, 30)) * (-1 if begin > LAST_NEAR - 31 * WEEK_MS else 1)
+    later = begin + weeks * WEEK_MS + rng.choice((0, 0, 1000 * count, 60_000, 61_000, 3_600_000, -3_600_000))
+    frames = []
+    for at in (begin, later):
+        of_session = making.frames(in_order(rng, at, 1000, count), 0.03)
+        of_session.insert(rng.choice((len(of_session), rng.randint(len(of_session) // 2, len(of_session)))), date_of(making.options.station, at))
+        frames += [it for it in of_session if rng.random() < rng.choice((1, 1, 0.9))]
+    return making.capture([b"".join(frames)])
 
 
 def cut_to(those: Sequence[int], size: int) -> list[Sequence[int]]:
@@ -353,7 +432,7 @@ def whole(rng: Random, turn: int, letters: str) -> Capture:
 
 
 SCENES: tuple[Callable[[Random, int, str], Capture], ...] = (
-    systems, channels, clocks, turns, spans, kinds, parts, odd, late, silent, noisy, before_msm, streams
+    systems, channels, clocks, turns, spans, kinds, parts, odd, late, silent, noisy, before_msm, losses, sessions, streams
 )  # fmt: skip
 
 

@@ -17,7 +17,7 @@ from random import Random
 
 import auto_marks
 import mixed_marks
-from autos import auto_as_modelled
+from autos import auto_as_modelled, sessions_as_modelled
 from chains import WEEKS
 from messages import frames_of
 from mixed_captures import mixed_capture
@@ -33,7 +33,7 @@ from workers import Looked, Task, counts_of_all, keep, parser_of, tally_of, task
 
 CAPTURES = 1000
 SEED = 20260619
-DEALINGS = 7  # of each stream: with 1,000 captures more than 500
+DEALINGS = 9  # of each stream: with 1,000 captures more than 500
 DRAWN = 1  # of the properties that need more runs, for each capture
 
 
@@ -84,8 +84,8 @@ def summarized_with_systems(case: Case) -> Answer:
 
 
 FREE = (
-    Property(as_modelled, 100), Property(file_is_valid, 100), Property(same_however_dealt, 7), Property(summarized_with_systems, 100),
-    Property(auto_as_modelled, 100),
+    Property(as_modelled, 100), Property(file_is_valid, 100), Property(same_however_dealt, 6), Property(summarized_with_systems, 100),
+    Property(sessions_as_modelled, 6), Property(auto_as_modelled, 100),
 )  # fmt: skip
 # Each capture has one more: of those whose premises it seldom meets, and else of the others.
 SELDOM = (Property(same_in_any_order, 10), Property(same_dealt_to_two, 5), Property(same_with_link_before, 2))

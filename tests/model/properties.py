@@ -21,6 +21,7 @@ from typing import Callable, Iterable, NamedTuple, Optional
 import qualities
 from captures import Capture
 from checker import fault
+from clocks import leap_seconds_at
 from damages import damaged_file
 from finding import EPHEMERIS, FIRST_DAY, OTHER_EPHEMERIDES, SYSTEM_PARAMETERS, TEXT, Found
 from messages import Placed, frames_of, show_line
@@ -49,6 +50,7 @@ class Case:
     base: Ended
     rng: Random
     found: Found | None = None  # what `auto` found, if it made a file
+    second: bytes | None = None  # a capture from the byte on at which it begins a second date, if `auto` made no file for that
 
     def convert(self, links: list[bytes], on_stdin: int | None = None) -> Ended:
         return self.program.convert(self.capture.setup, links, on_stdin)
@@ -202,6 +204,7 @@ def with_dates(rng: Random, setup: Setup, text: bytes) -> bytes:
             "number": number, "station": rng.choice((setup.station, setup.station, 5)), "day": FIRST_DAY + at // 86_400,
             "second": rng.choice((*[at % 86_400] * 9, 86_400, 86_401)), "announced": rng.choice((0, 1, 31)),
             "week": at // 604_800 % 1024, "toe": at % 604_800 // 16,
+            "leap_seconds": rng.choice((255, rng.randrange(256), *[leap_seconds_at(1000 * at) + it for it in (0, 0, 1)])),
         }
         if number in OTHER_EPHEMERIDES:
             _, unit, weeks_apart, first = OTHER_EPHEMERIDES[number]

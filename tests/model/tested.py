@@ -5,11 +5,12 @@ from __future__ import annotations
 from typing import Callable
 
 import worked_rows as rows
-from clocks import clock_of
+from clocks import clock_of, glonass_parts
 from model import moment
-from msm import message_of, payload_of_msm
-from systems import SYSTEMS, System, number_of
-from wire import Message, frame_of
+from msm import HEADER_1012, LEGACY_GLONASS, SATELLITE_1012, message_of, payload_of_1012, payload_of_msm
+from station import row
+from systems import GLONASS, SYSTEMS, System, number_of
+from wire import Fields, Message, frame_of
 
 NOON = moment(rows.NOON)
 TESTS: list[Callable[[], object]] = []
@@ -48,6 +49,17 @@ def one_cell(system: System, kind: int, time: int, bit: int, signal: int, more: 
     """The frame of an MSM of one cell, whose rough range is 70 ms, and which says whether more of its epoch follow."""
     header = {"number": number_of(system, kind), "station": 1, "tow": clock_of(system, time), "multiple_message": more}
     return frame_of(payload_of_msm(message_of(header, {bit: {"rough_ms": 70, "extended": channel}}, {(bit, signal): values})))
+
+
+def of_1012(time_of_day: int, *entries: Fields, station: int = 1, more: int = 0) -> bytes:
+    """The frame of a 1012 of these entries at a time of day in Moscow, which says whether more of its epoch follow."""
+    head = {"number": LEGACY_GLONASS, "station": station, "clock": time_of_day, "synchronous": more, "satellites": len(entries)}
+    return frame_of(payload_of_1012(Message(row(HEADER_1012, head), [row(SATELLITE_1012, it) for it in entries])))
+
+
+def of_1012_at(time: int, *entries: Fields, more: int = 0) -> bytes:
+    """The same at a GPS time."""
+    return of_1012(glonass_parts(clock_of(GLONASS, time))[1], *entries, more=more)
 
 
 def without_cells(system: System, kind: int, clock: int) -> bytes:

@@ -19,7 +19,7 @@ unfinished() { ls | grep '^file' >>err; rm -f file*; }
 while IFS='|' read -r want words lines <&3; do
     eval "auto -o file.rnx $words"
     unfinished
-    # pins: words_and_name, look_text, looks_like, unpacker, unpacking, unpacking_by, count_line_of, unread_line, unread_gps, unread_glonass_to_sbas, unread_qzss_to_navic, all_unread, station_line, epochs_text, epochs_heard, number_and_station, date_message_text, is_told_later, Parting.apart_ms, is_time_break, parted_frame, parting_text, part_command, to_come_line, is_to_come, from_until, reach_line, msm_words, system_words, held_line, read_of_station, position_line, coordinate_after_blank, coordinate_text, metres_text, point_and_decimals
+    # pins: words_and_name, look_text, looks_like, unpacker, unpacking, unpacking_by, count_line_of, unread_line, unread_gps, unread_glonass_to_sbas, unread_qzss_to_navic, all_unread, station_line, epochs_text, epochs_heard, number_and_station, date_message_text, is_told_later, Parting.apart_ms, is_time_break, parted_frame, parting_text, part_command, to_come_line, is_to_come, from_until, until_text, reach_line, msm_words, system_words, held_line, read_of_station, position_line, coordinate_after_blank, coordinate_text, metres_text, point_and_decimals
     expect "refused_$(echo "$words" | tr ' ' _)" "$want" '' "rtcm2rinex: $(printf '%b' "$lines")"
 done 3<<'ROWS'
 1|nowhere|cannot open nowhere
@@ -77,6 +77,7 @@ done 3<<'ROWS'
 3|one over_half_week|the captures tell dates that differ; choose one by --near\n 2024-05-17T12:00:00 by 1013 of station 2003 in one\n 2024-05-21T00:00:01 by 1019 in over_half_week
 3|glonass_4_days one|the captures are longer than half a week; convert them in parts\n 2024-05-21T12:00:00 until 2024-05-21T12:00:01 in glonass_4_days: 0 epochs\n 2024-05-17T12:00:00 until 2024-05-17T12:00:01 in one: 2 epochs
 3|beidou_4_days one|the captures are longer than half a week; convert them in parts\n 2024-05-21T12:00:00 until 2024-05-21T12:00:00 in beidou_4_days: 0 epochs\n 2024-05-17T12:00:00 until 2024-05-17T12:00:01 in one: 2 epochs
+3|glonass_8_days one|the captures are longer than half a week; convert them in parts\n 2024-05-17T12:00:00 until later in glonass_8_days: 0 epochs\n 2024-05-17T12:00:00 until 2024-05-17T12:00:01 in one: 2 epochs
 3|glonass_before|the captures are longer than half a week; convert them in parts\n 2024-05-13T12:00:00 until 2024-05-17T12:00:00 in glonass_before: 1 epochs
 3|glonass_too_far|the captures are longer than half a week; convert them in parts\n 2024-05-17T12:00:00 until 2024-05-21T00:00:00 in glonass_too_far: 2 epochs
 3|undated|the captures tell no date; give one, as in --near GPS-TIME-WITHIN-HALF-A-WEEK
@@ -90,7 +91,7 @@ done 3<<'ROWS'
 3|here.0 far|the station stands at positions that differ; --links-as-given takes them for one\n position 1114204.6000 -4850729.7108 3975521.4643 in far\n position 1114104.5999 -4850729.7108 3975521.4643 in here.0
 3|moves|the station stands at positions that differ; --links-as-given takes them for one\n position 1114104.5999 -4850729.7108 3975521.4643 in moves\n position 1114204.6000 -4850729.7108 3975521.4643 in moves
 3|here.0 moves|the station stands at positions that differ; --links-as-given takes them for one\n position 1114104.5999 -4850729.7108 3975521.4643 in here.0\n position 1114204.6000 -4850729.7108 3975521.4643 in moves
-3|--msm 4 of_1077|neither a 1004 nor the MSM of --msm has an observation; choose another MSM\n holds 1013, 1 messages\n holds GPS 1077, 2 messages
+3|--msm 4 of_1077|no observation that is asked for can be converted; choose others by --msm or --systems\n holds 1013, 1 messages\n holds GPS 1077, 2 messages
 3|--near 1980-01-13T00:00:00 one|the first epoch is not dated from 1980-01-13 to 2099-12-31; choose a date by --near
 3|--near 2099-12-31T23:59:59 one|the first epoch is not dated from 1980-01-13 to 2099-12-31; choose a date by --near
 ROWS
@@ -259,10 +260,13 @@ finds galileo_of_now "$two 1013" "$one_command galileo_of_now" '4 2 0 0 2 0 0 0 
 finds tuesday '2024-05-24T12:00:00 until 2024-05-24T12:00:01 by 1013' "$(command 2024-05-24T12:00:00) tuesday" "$counts" 0 '' \
     ' other-date 2024-05-21T12:00:00 by 1013 of station 2003 in tuesday: it dates the epoch beside it as 2024-05-24T12:00:00'
 finds monday "$two 1013" "$one_command monday" '5 3 0 0 2 0 0 0 2' 0 one.rnx \
-    ' other-date 2024-05-20T12:00:02 by 1013 of station 2003 in monday: it dates the epoch beside it as 2024-05-17T12:00:01'
+    ' other-date 2024-05-19T12:00:03 by 1013 of station 2003 in monday: it dates the epoch beside it as 2024-05-17T12:00:01'
 finds half_day "$two 1013" "$one_command half_day" "$counts" 0 one.rnx
 finds over_half_day "$two 1029" "$one_command over_half_day" "$counts" 0 one.rnx \
     ' other-date 2024-05-18T00:00:01 by 1029 of station 2003 in over_half_day: it dates the epoch beside it as 2024-05-17T12:00:00'
+finds behind_a_gap "$noon until 2024-05-18T01:00:00 by 1013" "$one_command behind_a_gap" '4 2 0 0 2 0 0 0 2' 0 ''
+finds next_day "$two 1013" "$one_command next_day" '4 2 0 0 2 0 0 0 2' 0 one.rnx \
+    ' other-date 2024-05-18T12:00:01 by 1013 of station 2003 in next_day: it dates the epoch beside it as 2024-05-17T12:00:00'
 finds monday_of_another "$two 1013" "$one_command monday_of_another" '4 2 0 0 2 0 0 0 2' 0 one.rnx
 position=
 finds 'one position' "$two 1013" "cat position one | $one_command stdin" '4 1 0 0 3 0 0 0 2' 0 '' ' no-epoch position'
@@ -394,6 +398,9 @@ finds 'glonass one' "$two 1013" "$glonass_command glonass one" '5 1 0 0 4 0 0 0 
 finds '--near 2024-05-17T12:00:00 glonass one' "$two --near" "$glonass_command glonass one" '5 1 0 0 4 0 0 0 2' 0 '' "$of_glonass no-epoch glonass"
 finds 'glonass_2_days one' "$noon until 2024-05-19T12:00:00 by 1013" "cat one glonass_2_days | $glonass_command stdin" '5 2 0 0 3 0 0 0 3' 0 '' \
     " gap 2024-05-17T12:00:01 until 2024-05-19T12:00:00\n$of_glonass no-epoch glonass_2_days"
+# pins: far_neighbour
+finds 'glonass_next_day one' "$two 1013" "cat glonass_next_day one | $glonass_command stdin" '5 2 0 0 3 0 0 0 2' 0 '' \
+    " other-date 2024-05-18T12:00:00 by 1013 of station 2003 in glonass_next_day: the message beside it is dated 2024-05-17T11:59:42\n$of_glonass no-epoch glonass_next_day"
 finds '--near 2024-05-17T12:00:00 glonass_4_days one' "2024-05-14T12:00:00 until 2024-05-17T12:00:01 by --near" "cat glonass_4_days one | $glonass_command stdin" '6 2 0 0 4 0 0 0 4' 0 '' \
     " gap 2024-05-14T12:00:01 until 2024-05-17T12:00:00\n other-date 2024-05-24T12:00:00 by 1013 of station 2003 in glonass_4_days\n$of_glonass no-epoch glonass_4_days"
 finds '--systems G glonass_4_days one' "$two 1013" "cat one glonass_4_days | $one_command stdin" '6 4 0 0 2 0 0 0 2' 0 '' \

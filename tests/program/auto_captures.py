@@ -161,6 +161,9 @@ CAPTURES = {
     "half_day": date(0, 60_448) + epochs(NOON, NOON + 1),
     "over_half_day": text_date(1, 60_448) + epochs(NOON, NOON + 1),
     "monday_of_another": ONE + date(43_202, 60_450, 7),
+    # a date behind a gap of 13 hours, which the epoch behind it fits; and one of the next day, which no epoch beside it fits
+    "behind_a_gap": date(43_200) + epochs(NOON) + date(3_600, 60_448) + epochs(NOON + 46_800),
+    "next_day": date(43_200) + epochs(NOON) + date(43_201, 60_448) + epochs(NOON + 1),
     "with_sbas": date(43_200) + epochs(NOON, satellites=(5, 40)) + epochs(NOON + 1, satellites=(58, 5)) + epochs(NOON + 2),
     "sbas_alone": date(43_200) + epochs(NOON, satellites=(40,)),
     "without_sbas": date(43_200) + epochs(NOON, satellites=(39, 5, 59)),
@@ -217,7 +220,10 @@ CAPTURES = {
     "glonass": glonass(NOON, NOON + 1),
     "glonass_2_days": date(43_200, 60_449) + glonass(NOON + 172_800),
     "glonass_4_days": date(43_200, 60_451) + glonass(NOON + 345_600, NOON + 345_601),
+    "glonass_next_day": date(43_200, 60_448) + glonass(NOON),
     "beidou_4_days": date(43_200, 60_451) + without_epochs(BEIDOU, 1124, NOON + 345_600),
+    # a clock that goes on for more than a week
+    "glonass_8_days": date(43_200) + glonass(NOON) + date(43_200, 60_455) + glonass(NOON + 691_200),
     "glonass_before": date(43_200) + glonass(NOON - 345_600, NOON - 172_800, NOON) + epochs(NOON),
     "glonass_on": ONE + glonass(*(NOON + it for it in (0, 172_800, 302_399))),
     "glonass_too_far": ONE + glonass(*(NOON + it for it in (0, 172_800, 302_400))),

@@ -165,7 +165,7 @@ absent() {
     expect "$name" 3 '' "rtcm2rinex: the file has no codes of $letter"
 }
 without_types='/^ .*OBS TYPES/d; /GLONASS/d; /LEAP/d'
-# pins: KeptSystems.keeps, kept_table
+# pins: flag_of, kept_table
 cut --systems E "$mixed"; kept galileo_alone galileo
 cut --systems E stdin <"$mixed"; kept galileo_of_standard_input galileo
 cut --systems EEE "$mixed"; kept a_letter_three_times galileo

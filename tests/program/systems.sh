@@ -1,6 +1,6 @@
 #!/bin/sh
 # Runs `convert` and `auto` with all systems as a user does. The program is $1. The payloads and their values were worked out by
-# hand from the tables of RTCM 10403.3.
+# hand from the tables of RTCM 10403.3. Captures of many epochs are made and described by systems_captures.py.
 . "$(dirname "$(readlink -f "$0")")/converting"
 
 # bad_words NAME LINE [MORE]: nothing is out, and standard error has this fault line, and one line more
@@ -370,6 +370,13 @@ convert 5X,I5A --msm 7 beidou_ahead.rtcm; cp out without.rnx
 # pins: is_wrong_offset, gps_ahead
 finds beidou_14_s_ahead without.rnx '5X,I5A --msm 7 --window 4096 beidou_ahead.rtcm' '3 1 0 0 2 0 0 0 1' \
     " clock C +14.000 1 of 1\n$(rates 1077 1137) not in the file: BeiDou 1127, 1 messages\n" beidou_ahead.rtcm
+# If no other system is asked for there is no file, and the clock tells why.
+run auto --near $near --made $made --systems C beidou_ahead.rtcm
+expect auto_beidou_14_s_ahead_alone 3 '' 'rtcm2rinex: no observation that is asked for can be converted; choose others by --msm or --systems
+ clock C +14.000 1 of 1
+ holds GPS 1077, 1 messages
+ holds BeiDou 1127, 1 messages
+ holds NavIC 1137, 1 messages'
 # GLONASS a day ahead is left out, and 1 ms ahead it stays in records of its own.
 chain $(more $G05_5X) 43F001CCDECCC0${R10_2P#??????????????} >day_ahead.rtcm
 finds glonass_a_day_ahead gps_alone.rnx '5X --msm 7 --window 4096 day_ahead.rtcm' '2 1 0 0 1 0 0 0 1' \
@@ -392,6 +399,42 @@ chain $G05_5X $R10_2P >apart.rtcm
 convert 5X,R2P --msm 7 --channels 10:-5 apart.rtcm; cp out apart.rnx
 # pins: unchecked_system_line
 finds glonass_apart apart.rnx '5X,R2P --msm 7 --window 4096 --channels 10:-5 apart.rtcm' '2 0 0 0 2 0 0 0 1' " unchecked R\n$(rates 1077 1087)" apart.rtcm
+# If the message that ends an epoch is missing, its clocks are not compared with those of the next epoch.
+python3 -B "$here/systems_captures.py" || exit 1
+# times_of SATELLITE: the seconds of the records that have it, in a row
+times_of() { awk -v name="$1" '/^>/ { second = 60 * $6 + $7 } index($0, name " ") == 1 { printf " %d", second }' out; }
+# without_clocks CAPTURE CODES TIMES..: `auto` lists these codes, tells nothing of clocks and leap seconds, and the satellites stand
+# in the records of these seconds, as G05=0..9 or G05=1,3
+without_clocks() {
+    name=$1 want_codes=$2
+    shift 2
+    run auto --made $made --marker BASE $name.rtcm
+    {
+        sed -n 's/.* --codes \([^ ]*\) .*/\1/p' err
+        grep -E '^ (clock|leap-seconds|unchecked)' err
+        for times; do echo "${times%=*}=$(times_of "${times%=*}")"; done
+    } >told
+    { echo "$want_codes"; for times; do echo "${times%%=*}= ${times#*=}"; done; } >want
+    # pins: differs_in_time
+    same "auto_$name" told want
+}
+all_seconds=$(seq -s ' ' 0 59)
+without_clocks one_lost E1C,C2I "E05=$all_seconds" "C05=$(seq -s ' ' 0 59 | sed 's/ 30 / /')"
+for name in seldom seldom_by_1019; do without_clocks $name 1C,R1C "G05=$(seq -s ' ' 0 9)" 'R05=1 3 5 7 9'; done
+without_clocks seldom_1012 1C,R1C "G05=$(seq -s ' ' 0 19)" 'R05=4 9 14 19'
+without_clocks not_read 1C,E1C "G05=$(seq -s ' ' 0 8)" 'E05=2 5 8'
+# So it is in `summary`.
+run summary one_lost.rtcm; { grep '^ clock' out; sed -n 's/.* --codes \([^ ]*\) .*/\1/p' out; } >told; echo E1C,C2I >want
+same summary_of_a_lost_end told want
+# A capture of two sessions is parted before the first message of an epoch, which is of GLONASS here. The second session tells its
+# date behind its last epoch.
+for name in msm legacy; do
+    cat $name.1.rtcm $name.2.rtcm >sessions
+    run auto --made 2024-06-01T00:00:00 sessions; grep -E '^(head|tail) ' err >commands; sh ./commands
+    # pins: is_within_minute
+    same "auto_parted_${name}_1" sessions.1 $name.1.rtcm
+    same "auto_parted_${name}_2" sessions.2 $name.2.rtcm
+done
 # 1012 are converted where they and all epochs lie within a day, near the middle of it.
 # legacy NAME NEAR OPTIONS PAYLOAD..: `auto` says this command, which writes the same file
 legacy() {
@@ -417,6 +460,15 @@ echo ' untaken GLONASS 1012 1: more than a day' >want; grep 1012 said >told; sam
 legacy with_1012_cut_short 2020-01-25T02:16:00 '1C --window 4096' $G05_1004 "$(echo $R12_1012 | cut -c 1-16)"
 # pins: glonass_line_of
 printf '%s\n' ' not in the file: GLONASS 1012, 1 messages' ' refused M3 1012 1 in legacy.rtcm' >want; grep 1012 said >told; same auto_with_1012_cut_short told want
+# Of a 1004 the file has GPS, or SBAS alone. Satellites that are neither, here 33 beside 40, count as SBAS then.
+python3 "$here/framed.py" 3EC0017D8AAC0020841E848000000291AC0800200000000500F424000000148D6040010000000000 >of_sbas.rtcm; python3 "$here/framed.py" $S58_5I $G05_1004 >beside_sbas.rtcm
+run auto --near 2020-01-25T02:16:00 --made $made of_sbas.rtcm; grep without-name err >told; echo ' without-name S 1' >want; same auto_1004_of_sbas told want
+run auto --near $near --made $made --systems S beside_sbas.rtcm; grep 'GPS 1004' err >told; echo ' not in the file: GPS 1004, 1 messages' >want; same auto_1004_beside_sbas told want
+# A 1012 keeps the day of the 1013 before it, though the first epoch, 12 h 44 min behind it, is nearer to its time of the next day.
+# pins: last_moved
+python3 "$here/framed.py" 3F5001E5F90FE70048 $R12_1012 3EC0018878860210141E848000000291AC08002000000000 >before_epoch.rtcm
+run auto --made $made before_epoch.rtcm; grep '^ from' err >told
+echo ' from 2020-01-25T02:16:00 until 2020-01-25T15:00:00 by 1013' >want; same auto_1012_of_the_day_of_its_1013 told want
 # The channels that are told of slot 12: by 1012 -1, none or +10; by 1020 -2 or 3. Of two alike it is the lesser.
 told_slots() {
     name=$1 want=$2 options=$3
@@ -474,6 +526,17 @@ for more in '' $R12_1012; do
 done >told
 printf '> 2020 01 %s.0000000\n' '25 02 16  0' '25 14 00  0' '25 14 30 18' '24 14 30 18' '25 02 16  0' '25 14 00  0' >want
 same auto_1012_in_the_middle told want
+# A 1013 a day behind the 1012 before it is told.
+python3 "$here/framed.py" $AT_1430 $R12_LATER 3F5001E5FA65F40048 >of_two_days.rtcm; run auto --made $made --marker BASE of_gps.rtcm of_two_days.rtcm
+grep '^ other-date' err >told
+echo ' other-date 2020-01-26T14:30:00 by 1013 of station 1 in of_two_days.rtcm: the message beside it is dated 2020-01-25T14:30:00' >want
+same auto_1013_a_day_behind told want
+# On both sides of a leap second, here that of 2016-12-31, 1013 tell the leap seconds that date GLONASS there. Others are told.
+python3 "$here/framed.py" 3F5001E199A8B28044 3EC001903173C210141E848000000291AC08002000000000 3F4001148C4100818318EAEE800097221CA7FACFF289C97E >of_17.rtcm
+behind='3EC0010004C2C210141E848000000291AC08002000000000 3F400114B6BC00818318EAEE800097221CA7FACFF289C97E'
+python3 "$here/framed.py" 3F5001E19A001E0048 $behind >of_18.rtcm; python3 "$here/framed.py" 3F5001E19A001E0040 $behind >of_16.rtcm
+for capture in of_18 of_16; do run auto --made $made --marker BASE of_17.rtcm $capture.rtcm; grep '^ other-leap-seconds' err; done >told
+echo ' other-leap-seconds 16 by 1013 in of_16.rtcm' >want; same auto_over_a_leap_second told want
 # No word tells the day of 1012: --near tells the week.
 python3 "$here/framed.py" $R12_LATER >of_none.rtcm; run auto --near 2020-01-25T00:00:00 --made $made --marker BASE of_gps.rtcm of_none.rtcm
 grep '^ undated' err >told; echo ' undated of_none.rtcm: dated near the others' >want; same auto_1012_of_no_day told want

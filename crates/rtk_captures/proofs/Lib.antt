@@ -1,1 +1,2 @@
+mod DateLawLemmas
 mod WalkLemmas

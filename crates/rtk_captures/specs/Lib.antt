@@ -6,6 +6,7 @@ pub mod Dating
 pub mod FarDateLines
 pub mod Joining
 pub mod Kept
+pub mod Laws
 pub mod Linking
 pub mod Lists
 pub mod OtherPositions

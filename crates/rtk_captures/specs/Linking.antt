@@ -1,6 +1,6 @@
 -- How the captures of the station are grouped in links (this project's rule). A link is the list of the
 -- places of its captures.
-use Rattle.std.specs.Prelude.{ℕ, ◌-◌, ◌==◌, slice_get, Bool, true, false, not, List, [], ◌∷◌, length, map, filter, flat_map, Option, None, Some, if◌then◌else◌}
+use Rattle.std.specs.Prelude.{ℕ, ◌-◌, ◌==◌, slice_get, Bool, not, List, [], ◌∷◌, length, map, filter, flat_map, Option, None, Some, if◌then◌else◌}
 use Rattle.std.specs.List.{range_with_len}
 use Rattle.rtk_survey.specs.declared.placing.Placed.{Placed}
 use Rattle.rtk_captures.specs.Joining.{in_order, links_of}

@@ -1,5 +1,5 @@
 -- The lines that list what a refusal or a warning speaks of (this project's rule).
-use Rattle.std.specs.Prelude.{ℕ, ℤ, ◌+◌, ◌/◌, ◌%◌, ◌==◌, ◌||◌, unsigned_abs, List, [], ◌∷◌, ◌++◌, length, nat_lt, min, codes, decimal, Option, None, Some, if◌then◌else◌}
+use Rattle.std.specs.Prelude.{ℕ, ℤ, ◌+◌, ◌/◌, ◌%◌, ◌==◌, unsigned_abs, List, [], ◌∷◌, ◌++◌, length, nat_lt, min, codes, decimal, Option, None, Some, if◌then◌else◌}
 use Rattle.std.specs.Fmt.{sign_text}
 use Rattle.std.specs.Int.{is_negative}
 use Rattle.rtk_message.specs.ShellText.{sh_quoted}
@@ -117,15 +117,20 @@ parting_text name byte =
 -- ---- what a refusal lists
 
 -- formula
--- the first and the last of epochs
-abbrev pub from_until : ℕ → ℕ → List ℕ
-from_until from until = codes " " ++ time_text from ++ codes " until " ++ time_text until
+-- the last of epochs, or that it is later than it can be written, as that of a clock that goes on for more than a week
+abbrev pub until_text : ℕ → List ℕ
+until_text until = if nat_lt LAST_MS until then codes "later" else time_text until
 
 -- formula
--- the epochs of a capture, if they can be written
+-- the first and the last of epochs
+abbrev pub from_until : ℕ → ℕ → List ℕ
+from_until from until = codes " " ++ time_text from ++ codes " until " ++ until_text until
+
+-- formula
+-- the epochs of a capture, if the first one can be written
 abbrev pub reach_line : Placed → ℕ → List ℕ → List ℕ
 reach_line p epochs name =
-    if nat_lt LAST_MS p.from || nat_lt LAST_MS p.until then [] else
+    if nat_lt LAST_MS p.from then [] else
     from_until p.from p.until ++ words_and_name (codes " in ") name ++ epochs_text epochs
 
 -- formula

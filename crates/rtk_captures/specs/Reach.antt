@@ -52,7 +52,7 @@ moment_if counts moment = if counts then moment else None
 -- the moment of a capture, if messages of the station name it, if a 1019 does, if a 1013 or 1029 does, or by whatever
 -- message
 abbrev pub moment_named : NamedBy → StationCapture → Option Told
-moment_named Own c = moment_if c.is_own_moment c.moment
+moment_named Own c = moment_if c.is_moment_of_station c.moment
 moment_named Week c = moment_if (is_named_by_week c.moment) c.moment
 moment_named Day c = moment_if (is_named_by_day c.moment) c.moment
 moment_named Any c = c.moment

@@ -45,6 +45,7 @@ mod dating;
 mod far_dates;
 mod joining;
 mod kept;
+mod laws;
 mod linking;
 mod lists;
 mod other_positions;
@@ -65,6 +66,7 @@ pub use dating::{Dating, are_out_of_reach, date_captures};
 pub use far_dates::put_far_date;
 pub use joining::{Ordered, in_order, links_of};
 pub use kept::empty_captures;
+pub use laws::dates_count_or_are_told;
 pub use linking::{limit_links, links_as_given, links_found};
 pub use lists::{
     put_capture_line, put_date_line, put_name_line, put_parting, put_stray_line, put_to_come_line,

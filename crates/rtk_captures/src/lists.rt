@@ -145,18 +145,29 @@ fn put_epochs(lines: &mut Vec<u8>, epochs: u64) -> Result<(), AllocError>
     lines.extend_from_slice(b" epochs\n")
 }
 
+// Appends the last of epochs, or that it is later than it can be written.
+fn put_until(lines: &mut Vec<u8>, until: u64) -> Result<(), AllocError>
+    ensures { OnOk result (lines.new.items ≡ lines.old.items ++ spec.until_text until) }
+{
+    if LAST_MS < until {
+        lines.extend_from_slice(b"later")
+    } else {
+        put_time_at(lines, until)
+    }
+}
+
 // Appends the first and the last of epochs.
 fn put_from_until(lines: &mut Vec<u8>, from: u64, until: u64) -> Result<(), AllocError>
-    requires { (from ≤ LAST_MS) × (until ≤ LAST_MS) }
+    requires { from ≤ LAST_MS }
     ensures { OnOk result (lines.new.items ≡ lines.old.items ++ spec.from_until from until) }
 {
     lines.push(b' ')?;
     put_time_at(lines, from)?;
     lines.extend_from_slice(b" until ")?;
-    put_time_at(lines, until)
+    put_until(lines, until)
 }
 
-/// Appends the line of the epochs of a capture, if they can be written.
+/// Appends the line of the epochs of a capture, if the first one can be written.
 pub(crate) fn put_reach_line(
     lines: &mut Vec<u8>,
     reach: &Placed,
@@ -165,7 +176,7 @@ pub(crate) fn put_reach_line(
 ) -> Result<(), AllocError>
     ensures { OnOk result (lines.new.items ≡ lines.old.items ++ spec.reach_line reach.now epochs name.now) }
 {
-    if LAST_MS < reach.from || LAST_MS < reach.until {
+    if LAST_MS < reach.from {
         return Ok(());
     }
     put_from_until(lines, reach.from, reach.until)?;

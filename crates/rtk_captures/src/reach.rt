@@ -99,7 +99,7 @@ pub(crate) fn moment_named(named: NamedBy, capture: &StationCapture) -> Option<T
     ensures { result ≡ spec.moment_named named capture.now }
 {
     match named {
-        NamedBy::Own => moment_if(capture.is_own_moment, capture.moment),
+        NamedBy::Own => moment_if(capture.is_moment_of_station, capture.moment),
         NamedBy::Week => moment_if(is_named_by_week(capture.moment), capture.moment),
         NamedBy::Day => moment_if(is_named_by_day(capture.moment), capture.moment),
         NamedBy::Any => capture.moment,

@@ -50,8 +50,8 @@ pub enum Refusal {
     /// Epochs are more than half a week from the first one.
     #[error("the captures are longer than half a week; convert them in parts")]
     TooLong,
-    /// The station has observations, but none in a 1004 or in the MSM that words choose.
-    #[error("neither a 1004 nor the MSM of --msm has an observation; choose another MSM")]
+    /// The station has observations, but no code of the systems that are asked for has a value in the messages that are taken.
+    #[error("no observation that is asked for can be converted; choose others by --msm or --systems")]
     NoCode,
     /// A listed system has an MSM without Doppler, and words ask for Doppler.
     #[error("--doppler needs MSM5 or MSM7 of {letter}")]

@@ -32,7 +32,7 @@ pub struct StationCapture {
     /// The moment that a message names, if the capture has a message of the station and no epoch.
     pub moment: Option<Told>,
     /// A 1013 or a 1029 of the station names this moment.
-    pub is_own_moment: bool,
+    pub is_moment_of_station: bool,
     /// How many frames come before the place at which a second date begins, if 1013 or 1029 of the
     /// station tell one.
     pub parting: Option<u64>,
@@ -283,7 +283,7 @@ pub fn capture_of(station: u16, survey: &CaptureSurvey) -> StationCapture
         told: first_told(told),
         dates: told.len(),
         moment,
-        is_own_moment: is_named_by_own(station, moment),
+        is_moment_of_station: is_named_by_own(station, moment),
         parting: parting_in(station, survey),
         outside: survey.bytes.saturating_sub(survey.contents.framed),
         has_other_point: tells_other_point(heard),

@@ -3,7 +3,6 @@ pub mod BitLemmas
 pub mod BytesLemmas
 pub mod ChartLemmas
 pub mod ChoiceLemmas
-pub mod CodeLemmas
 pub mod FileLemmas
 pub mod GridLemmas
 pub mod GroupLemmas

@@ -1,5 +1,6 @@
 -- The pictures of a table.
 use Rattle.std.specs.Prelude.{◌≡◌, ℕ, ◌-◌, List, [], ◌∷◌, length, map, Option}
+use Rattle.std.specs.Int.{IsInRange}
 use Rattle.rtk_rinex.specs.Record.{EpochTableView}
 use Rattle.rtk_rinex.specs.Table.{WellFormedTable, IsWellFormedTable, table_text}
 use Rattle.rtk_tracking.specs.Epochs.{capped, newest_first}
@@ -15,6 +16,11 @@ use Rattle.rtk_obs.specs.Code.{name_of}
 use Rattle.rtk_obs.specs.declared.code.Code.{Code}
 use Rattle.rtk_chart.specs.declared.choice.Choice.{Choice}
 use Rattle.rtk_chart.specs.declared.scale.Scale.{Scale}
+
+-- constant
+-- the width of a picture in characters (this project's rule)
+abbrev pub IsWidth : ℕ → Type 0
+IsWidth width = IsInRange 40 400 width
 
 -- the slips of epochs as a picture at a scale counts them
 abbrev pub slips_at : Scale → List EpochTableView → ℕ

@@ -6,7 +6,6 @@ use Rattle.rtk_message.specs.declared.system.System.TheVariants.{Gps, Glonass, G
 use Rattle.rtk_obs.specs.declared.any_code.AnyCode.{AnyCode}
 use Rattle.rtk_obs.specs.AnyCode.{system_of, name_of, text_of}
 use Rattle.rtk_obs.specs.SatelliteIndex.{satellites_of_system, satellites_before, letter_of, name_offset}
-use Rattle.rtk_rinex.specs.MixedHeader.{codes_of}
 use Rattle.rtk_rinex.specs.MixedTable.{MixedTable, IsMixedTable, mixed_table_text}
 use Rattle.rtk_rinex.specs.Record.{EpochTableView}
 use Rattle.rtk_rinex.specs.declared.epoch_table.SatelliteRow.{SatelliteRow}
@@ -25,10 +24,6 @@ title_of code = if letter_of (system_of code) == 71 then name_of code else text_
 -- the systems, in the order of a file
 abbrev pub drawn_in_order : List System
 drawn_in_order = Gps ∷ Glonass ∷ Galileo ∷ Beidou ∷ Qzss ∷ Sbas ∷ Navic ∷ []
-
--- the codes of a system
-abbrev pub listed_in : System → List AnyCode → List AnyCode
-listed_in s listed = codes_of (letter_of s) listed
 
 -- ---- the groups of a system
 

@@ -8,9 +8,10 @@ use Rattle.rtk_rinex.specs.MixedTable.{MixedTable, IsMixedTable, mixed_table_tex
 use Rattle.rtk_rinex.specs.Record.{EpochTableView}
 use Rattle.rtk_tracking.specs.Epochs.{capped, newest_first}
 use Rattle.rtk_tracking.specs.Interval.{interval_of_epochs, missing_in}
+use Rattle.rtk_tracking.specs.SystemCodes.{codes_of_system}
 use Rattle.rtk_chart.specs.Chart.{slips_at, returns_at, rises_at}
 use Rattle.rtk_chart.specs.Grid.{bins_of, outages_of, gaps_of, recorded_of}
-use Rattle.rtk_chart.specs.Groups.{title_of, drawn_in_order, listed_in, first_group, second_group, group_epochs}
+use Rattle.rtk_chart.specs.Groups.{title_of, drawn_in_order, first_group, second_group, group_epochs}
 use Rattle.rtk_chart.specs.Scale.{scale_of}
 use Rattle.rtk_chart.specs.TextPicture.{satellite_rows, gap_row, never_in_line, all_never_lines, satellites_in, text_heading, number_lines, time_rows, text_of_none}
 use Rattle.rtk_chart.specs.declared.choice.Choice.{Choice}
@@ -105,7 +106,7 @@ with_listed s width choice es system (c ∷ cs) d = then_system system (drawn_of
 
 -- what is drawn, and then a system of a file of these codes
 abbrev pub with_drawn_system : Scale → ℕ → Choice → List EpochTableView → List AnyCode → DrawnView → System → DrawnView
-with_drawn_system s width choice es listed d system = with_listed s width choice es system (listed_in system listed) d
+with_drawn_system s width choice es listed d system = with_listed s width choice es system (codes_of_system system listed) d
 
 -- formula
 -- all systems of a file, in its order

@@ -13,8 +13,9 @@ use Rattle.rtk_rinex.specs.MixedTable.{MixedTable, IsMixedTable, mixed_table_tex
 use Rattle.rtk_rinex.specs.Record.{EpochTableView}
 use Rattle.rtk_tracking.specs.Epochs.{capped, newest_first}
 use Rattle.rtk_tracking.specs.Interval.{interval_of_epochs, missing_in}
+use Rattle.rtk_tracking.specs.SystemCodes.{codes_of_system}
 use Rattle.rtk_chart.specs.Grid.{bins_of, outages_of, gaps_of}
-use Rattle.rtk_chart.specs.Groups.{drawn_in_order, listed_in, first_group, second_group, group_epochs}
+use Rattle.rtk_chart.specs.Groups.{drawn_in_order, first_group, second_group, group_epochs}
 use Rattle.rtk_chart.specs.Means.{all_without, columns_of, bins_per_column}
 use Rattle.rtk_chart.specs.MixedChart.{no_drawn_numbers, drawn_numbers_at, both_numbers}
 use Rattle.rtk_chart.specs.Scale.{scale_of}
@@ -176,7 +177,7 @@ with_svg_listed s choice es system (c ∷ cs) v =
 
 -- what is drawn, and then a system of a file of these codes
 abbrev pub with_svg_system : Scale → Choice → List EpochTableView → List AnyCode → SvgView → System → SvgView
-with_svg_system s choice es listed v system = with_svg_listed s choice es system (listed_in system listed) v
+with_svg_system s choice es listed v system = with_svg_listed s choice es system (codes_of_system system listed) v
 
 -- formula
 -- all systems of a file, in its order

@@ -1,8 +1,7 @@
 //! The pictures of a table.
 
 ghost use Rattle.std.specs.Prelude.{◌≡◌, IfOk};
-ghost use Rattle.std.specs.Int.{IsInRange};
-ghost use Rattle.rtk_chart.specs.Chart.{ShowsTable, ShowsChosen, ShowsTableInSvg, ShowsChosenInSvg};
+ghost use Rattle.rtk_chart.specs.Chart.{IsWidth, ShowsTable, ShowsChosen, ShowsTableInSvg, ShowsChosenInSvg};
 
 use crate::choice::Choice;
 use crate::passes::{fill_grid, survey_records};
@@ -13,6 +12,12 @@ use crate::text_picture::{text_of_none, text_picture};
 use rtk_rinex::TextTable;
 use std::alloc::{AllocError, Global};
 
+/// How many characters wide a picture is at least.
+pub const LEAST_WIDTH: u16 = 40;
+
+/// How many characters wide a picture is at most.
+pub const MOST_WIDTH: u16 = 400;
+
 /// How many characters of a row are no bins: three of the label, and two bars, as in G05|5555|.
 pub(crate) const FRAME: u16 = 5;
 
@@ -20,7 +25,7 @@ pub(crate) const FRAME: u16 = 5;
 /// bin of time, the codes that satellites have nowhere, and what the signs mean. Rows are at most so many
 /// characters wide.
 pub fn chart_text(alloc: Global, table: &TextTable<'_>, width: u16) -> Result<Vec<u8>, AllocError>
-    requires { IsInRange 40 400 width }
+    requires { IsWidth width }
     // Fails only if memory is refused: tests/system/calls, row chart_text.
     ensures { IfOk result (λ text. ShowsTable table.now.text width text.items) }
 {
@@ -36,7 +41,7 @@ pub fn chosen_text(
     choice: &Choice,
     width: u16,
 ) -> Result<Vec<u8>, AllocError>
-    requires { IsInRange 40 400 width }
+    requires { IsWidth width }
     // Fails only if memory is refused: tests/system/calls, row chart_text.
     ensures { IfOk result (λ text. ShowsChosen choice.now table.now.text width text.items) }
 {

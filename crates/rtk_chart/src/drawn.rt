@@ -2,7 +2,7 @@
 
 ghost use Rattle.std.specs.Prelude.{◌≡◌, ◌≤◌, ◌++◌, length, IfOk, OnOk};
 ghost use Rattle.rtk_rinex.specs.MixedHead.{IsMixedList};
-ghost use Rattle.rtk_chart.specs.Groups.{listed_in, HoldsOfMixed};
+ghost use Rattle.rtk_chart.specs.Groups.{HoldsOfMixed};
 ghost use Rattle.rtk_chart.specs.MixedChart.{no_drawn_numbers, both_numbers, nothing_drawn, with_group, with_group_if_any, system_title, titled_rows, drawn_of_system, then_system, with_drawn_system, drawn_systems};
 ghost use Rattle.rtk_chart.specs.Scale.{IsScale};
 ghost use Rattle.rtk_chart.specs.Steps.Pictures.{numbers_of_grid, view_of, with_grid};
@@ -10,11 +10,12 @@ ghost use Rattle.rtk_chart.specs.Steps.Pictures.{numbers_of_grid, view_of, with_
 use crate::drawing::Drawing;
 use crate::grid::Grid;
 use crate::group_rows::fill_group;
-use crate::groups::{Group, Names, SYSTEMS, first_group, letter_of, second_group};
+use crate::groups::{Group, Names, SYSTEMS, first_group, second_group};
 use crate::never::{never_in_line, put_never_of_system};
 use crate::text_picture::{drawn_before, put_rows};
 use rtk_message::System;
-use rtk_obs::{AnyCode, any_code_laws};
+use rtk_obs::AnyCode;
+use rtk_tracking::codes_of_system;
 use std::alloc::{AllocError, Global};
 
 /// How many satellites are drawn, and how many slips, returns and rises their codes have.
@@ -150,27 +151,6 @@ impl Drawn {
     }
 }
 
-/// The codes of a system, in their order.
-pub(crate) fn listed_in(
-    alloc: Global,
-    system: System,
-    listed: &[AnyCode],
-) -> Result<Vec<AnyCode>, AllocError>
-    requires { IsMixedList listed.now }
-    ensures value { IfOk result (λ codes. codes.items ≡ listed_in system listed.now) }
-    ensures few { IfOk result (λ codes. length codes.items ≤ 16) }
-{
-    // A law: a place belongs to one code of a system, and is below 16.
-    any_code_laws();
-    let mut codes = Vec::new(alloc);
-    for code in listed {
-        if letter_of(code.system()) == letter_of(system) {
-            codes.push(*code)?;
-        }
-    }
-    Ok(codes)
-}
-
 // Adds the chosen satellites of a group, which has these codes.
 fn put_group(
     alloc: Global,
@@ -252,7 +232,7 @@ fn put_system(
     ensures { OnOk result (HoldsOfMixed drawing.now.table.now.text (λ es. view_of drawn.new
         ≡ with_drawn_system drawing.now.scale width drawing.now.choice.now es listed.now (view_of drawn.old) system)) }
 {
-    let own = listed_in(alloc, system, listed)?;
+    let own = codes_of_system(alloc, system, listed)?;
     let codes = own.as_slice();
     if codes.len() == 0 {
         return Ok(());

@@ -1,7 +1,6 @@
 //! The satellites of any systems in groups that a grid has places for.
 
 ghost use Rattle.std.specs.Prelude.{◌≡◌, ◌≤◌};
-ghost use Rattle.rtk_obs.specs.SatelliteIndex.{letter_of};
 ghost use Rattle.rtk_chart.specs.Groups.{whole_group, first_group, second_group};
 ghost use Rattle.rtk_chart.specs.TextPicture.{gps_names};
 
@@ -75,13 +74,6 @@ fn whole_group(system: System) -> Group
         System::Sbas => make_group(168, 39, b'S', 19),
         System::Navic => make_group(207, 14, b'I', 0),
     }
-}
-
-/// The letter of a system in names of RINEX.
-pub(crate) fn letter_of(system: System) -> u8
-    ensures { result ≡ letter_of system }
-{
-    whole_group(system).names.letter
 }
 
 /// The satellites of a system, or the first 32 of them.

@@ -88,7 +88,7 @@ mod time_bin;
 mod time_text;
 mod tracking;
 
-pub use chart::{chart_svg, chart_text, chosen_svg, chosen_text};
+pub use chart::{LEAST_WIDTH, MOST_WIDTH, chart_svg, chart_text, chosen_svg, chosen_text};
 pub use choice::{Choice, Chosen};
 pub use group_rows::is_there_of_any;
 pub use laws::{

@@ -1,7 +1,7 @@
 //! The pictures of a table of any systems.
 
 ghost use Rattle.std.specs.Prelude.{◌≡◌, ◌≤◌, ◌++◌, length, IfOk, OnOk};
-ghost use Rattle.std.specs.Int.{IsInRange};
+ghost use Rattle.rtk_chart.specs.Chart.{IsWidth};
 ghost use Rattle.rtk_chart.specs.MixedChart.{systems_picture, ShowsSystems};
 ghost use Rattle.rtk_chart.specs.Scale.{IsScale};
 ghost use Rattle.rtk_chart.specs.Steps.Pictures.{view_of};
@@ -73,7 +73,7 @@ pub fn mixed_chart_text(
     choice: &Choice,
     width: u16,
 ) -> Result<Vec<u8>, AllocError>
-    requires { IsInRange 40 400 width }
+    requires { IsWidth width }
     // Fails only if memory is refused: tests/system/calls, row mixed_chart_text.
     ensures { IfOk result (λ text. ShowsSystems choice.now table.now.text width text.items) }
 {

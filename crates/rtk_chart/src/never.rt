@@ -5,10 +5,10 @@ ghost use Rattle.rtk_obs.specs.Code.{name_of};
 ghost use Rattle.rtk_chart.specs.TextPicture.{satellite_label, never_in_line, never_before, line_end, never_start, never_part, never_lines, all_never_lines};
 ghost use Rattle.rtk_chart.specs.Groups.{title_of};
 
-use crate::groups::{Names, letter_of};
+use crate::groups::Names;
 use crate::signs::is_never;
 use crate::time_bin::TimeBin;
-use rtk_obs::{AnyCode, Code};
+use rtk_obs::{AnyCode, Code, letter_of};
 use std::alloc::AllocError;
 
 /// How many satellites stand in a line of a picture of this width, behind a code with a name of two characters.

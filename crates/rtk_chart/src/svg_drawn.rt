@@ -13,7 +13,7 @@ ghost use Rattle.rtk_chart.specs.TextPicture.{satellites_in};
 ghost use Rattle.rtk_chart.specs.declared.spacing.Spacing.TheVariants.{Close};
 
 use crate::drawing::Drawing;
-use crate::drawn::{DrawnNumbers, listed_in};
+use crate::drawn::DrawnNumbers;
 use crate::grid::Grid;
 use crate::group_rows::fill_group;
 use crate::groups::{Group, Names, SYSTEMS, first_group, second_group};
@@ -27,6 +27,7 @@ use crate::svg_text::put_between;
 use crate::text_picture::drawn_before;
 use rtk_message::System;
 use rtk_obs::AnyCode;
+use rtk_tracking::codes_of_system;
 use std::alloc::{AllocError, Global};
 
 /// How far below the bands before it the name of a system stands, in units of SVG.
@@ -354,7 +355,7 @@ fn put_system(
     ensures lines { drawn.new.lines ≤ drawn.old.lines + 32 }
     ensures bins { OnOk result (length drawn.new.tracked.items ≡ length drawn.old.tracked.items) }
 {
-    let own = listed_in(alloc, system, listed)?;
+    let own = codes_of_system(alloc, system, listed)?;
     let codes = own.as_slice();
     if codes.len() == 0 {
         return Ok(());

@@ -212,15 +212,8 @@ fn put_body(
     let counts = tracked_counts(alloc, bins)?;
     put_satellites(text, end + 26, counts.as_slice())?;
     let strengths = grid.strengths.as_slice();
-    put_strip(
-        alloc,
-        text,
-        false,
-        end + 72,
-        strengths,
-        scale.bins_per_column(),
-        bins.len(),
-    )?;
+    let each = scale.bins_per_column();
+    put_strip(alloc, text, false, end + 72, strengths, each, bins.len())?;
     let strip_end = end + strip_height(strengths);
     put_ticks(text, scale, strip_end + 72)?;
     put_legend(text, strip_end + 104)?;

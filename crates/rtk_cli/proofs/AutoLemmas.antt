@@ -9,9 +9,10 @@ use Rattle.rtk_cli.specs.declared.auto_words.AutoOptions.{AutoOptions}
 use Rattle.rtk_cli.specs.declared.words.BadWords.{BadWords}
 use Rattle.rtk_cli.specs.declared.words.BadWords.TheVariants.{Codes, CodeOfSystem, CodeOfGps, Channels}
 use Rattle.rtk_cli.specs.Steps.AnyCodeList.{in_file_order, IsCauseOfName, IsNameCause}
-use Rattle.rtk_cli.specs.Steps.AutoWords.{SaysCodesOrNone, IsCauseOfCodes, HasBadList, HasCodesOrNone, HasListOrNone, HasBothTimes, HasListToo, IsFirstAutoCause}
+use Rattle.rtk_cli.specs.Steps.AutoWords.{SaysCodes, IsCauseOfCodes, HasBadList, HasCodesOrNone, HasListOrNone, HasBothTimes, HasListToo, IsFirstAutoCause}
 use Rattle.rtk_cli.specs.Steps.ChannelList.{HasNoChannels}
 use Rattle.rtk_cli.specs.Steps.ConvertWords.{HasBadChannels}
+use Rattle.rtk_cli.specs.Steps.OptionTexts.{SaysIfAny}
 
 -- ---- the options
 
@@ -27,21 +28,21 @@ given-channels o text given cause (is, none) = (is, subst (λ (t : Option (Bor (
 -- ---- the codes
 
 -- codes that are said are listed
-pub has-codes : {A : Type 0} (o : Option (Bor (List ℕ))) (codes : Option (Vec AnyCode A)) → SaysCodesOrNone o codes → HasCodesOrNone o
+pub has-codes : {A : Type 0} (o : Option (Bor (List ℕ))) (codes : Option (Vec AnyCode A)) → SaysIfAny SaysCodes o codes → HasCodesOrNone o
 has-codes None None says = tt
 has-codes None (Some codes) says = tt
 has-codes (Some text) None says = absurd says
 has-codes (Some text) (Some codes) (own, lists, is) = (own, lists)
 
 -- codes that are good together
-pub has-list : {A : Type 0} (o : Option (Bor (List ℕ))) (codes : Option (Vec AnyCode A)) → SaysCodesOrNone o codes → ForSome codes (λ cs. IsMixedList cs.items) → HasListOrNone o
+pub has-list : {A : Type 0} (o : Option (Bor (List ℕ))) (codes : Option (Vec AnyCode A)) → SaysIfAny SaysCodes o codes → ForSome codes (λ cs. IsMixedList cs.items) → HasListOrNone o
 has-list None None says good = tt
 has-list None (Some codes) says good = tt
 has-list (Some text) None says good = absurd says
 has-list (Some text) (Some codes) (own, lists, is) good = (own, lists, subst (λ (l : List AnyCode). IsMixedList l) is (good codes refl))
 
 -- codes that are not
-pub has-bad-list : {A : Type 0} (o : Option (Bor (List ℕ))) (codes : Option (Vec AnyCode A)) → SaysCodesOrNone o codes → ¬ (ForSome codes (λ cs. IsMixedList cs.items)) → HasBadList o
+pub has-bad-list : {A : Type 0} (o : Option (Bor (List ℕ))) (codes : Option (Vec AnyCode A)) → SaysIfAny SaysCodes o codes → ¬ (ForSome codes (λ cs. IsMixedList cs.items)) → HasBadList o
 has-bad-list None None says bad = absurd (bad (λ x e. absurd (cc)))
 has-bad-list None (Some codes) says bad = absurd says
 has-bad-list (Some text) None says bad = absurd says
@@ -65,7 +66,7 @@ pub auto-name-cause : (o : AutoOptions) → HasBothTimes o → (cause : BadWords
 auto-name-cause o times Codes is = inl (times, is)
 auto-name-cause o times (CodeOfSystem s) is = (times, is)
 auto-name-cause o times (CodeOfGps c) is = (times, is)
-auto-name-cause o times _ is = absurd (only-of-names o.codes _ (λ name other. other) is)
+auto-name-cause o times cause is = absurd (only-of-names o.codes cause (λ name other. other) is)
 
 -- bad channels are a first cause
 pub auto-channels-cause : (o : AutoOptions) → HasListToo o → (cause : BadWords) → (cause ≡ Channels) × HasBadChannels o.channels → IsFirstAutoCause o cause

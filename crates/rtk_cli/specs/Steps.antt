@@ -8,9 +8,10 @@ pub mod ShowWords
 pub mod ChannelList
 pub mod Links
 pub mod MomentText
+pub mod OptionTexts
 pub mod ConvertWords
 pub mod ChartWords
 pub mod CutWords
-pub mod KeptWords
+pub mod SystemLetters
 pub mod LabelWords
 pub mod AutoWords

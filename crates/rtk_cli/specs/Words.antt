@@ -5,7 +5,7 @@ use Rattle.std.specs.Option.{ForSome}
 use Rattle.rtk_convert.specs.Converter.{IsLinkCount}
 use Rattle.rtk_setup.specs.Setup.{IsStation, IsWindow}
 use Rattle.rtk_cut.specs.Cut.{IsStepOrNone}
-use Rattle.rtk_commands.specs.ChartInput.{IsWidth}
+use Rattle.rtk_chart.specs.Chart.{IsWidth}
 use Rattle.rtk_cli.specs.FaultLines.{TellsCause}
 use Rattle.rtk_cli.specs.declared.words.BadWords.{BadWords}
 use Rattle.rtk_cli.specs.declared.words.Job.{Job}

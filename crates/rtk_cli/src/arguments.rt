@@ -1,8 +1,7 @@
 //! The arguments that several commands have.
 
-use crate::limits::MOST_LEAP_SECONDS;
 use clap::{Arg, ArgAction, value_parser};
-use rtk_setup::{GREATEST_STATION, LEAST_WINDOW, MOST_WINDOW};
+use rtk_setup::{GREATEST_LEAP_SECONDS, GREATEST_STATION, LEAST_WINDOW, MOST_WINDOW};
 use std::alloc::Global;
 
 /// The name of the one input of a command.
@@ -81,7 +80,13 @@ pub(crate) fn channels_arg<'a>(alloc: Global) -> Arg<'a> {
 /// The leap seconds that date GLONASS.
 pub(crate) fn leap_seconds_arg<'a>(alloc: Global) -> Arg<'a> {
     let help = "The leap seconds that date GLONASS, 0 to 99; those of the table if not given";
-    number_arg(alloc, "leap-seconds", 0, i64::from(MOST_LEAP_SECONDS), help)
+    number_arg(
+        alloc,
+        "leap-seconds",
+        0,
+        i64::from(GREATEST_LEAP_SECONDS),
+        help,
+    )
 }
 
 /// The marker's name.

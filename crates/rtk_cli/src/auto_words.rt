@@ -4,25 +4,26 @@ ghost use Rattle.std.specs.Prelude.{◌≡◌, IfOk, IfErr, Decides};
 ghost use Rattle.std.specs.Option.{ForSome};
 ghost use Rattle.rtk_rinex.specs.MixedHead.{IsMixedList};
 ghost use Rattle.rtk_cli.specs.FaultLines.{IsRefusal};
-ghost use Rattle.rtk_cli.specs.Steps.AutoWords.{flags_named, SaysFlags, SaysCodesOrNone, SaysChannelsOrNone, SaysMarkerOrNone, IsCauseOfCodes, RefusesAuto};
-ghost use Rattle.rtk_cli.specs.Steps.ChartWords.{HasNoSystems};
+ghost use Rattle.rtk_cli.specs.Steps.AutoWords.{SaysFlags, SaysCodes, SaysMarker, IsCauseOfCodes, RefusesAuto};
+ghost use Rattle.rtk_cli.specs.Steps.ChannelList.{WritesChannels};
 ghost use Rattle.rtk_cli.specs.Steps.ConvertWords.{HasBadChannels};
-ghost use Rattle.rtk_cli.specs.Steps.MomentText.{SaysMomentOrNone};
+ghost use Rattle.rtk_cli.specs.Steps.MomentText.{WritesMoment};
+ghost use Rattle.rtk_cli.specs.Steps.OptionTexts.{SaysIfAny};
+ghost use Rattle.rtk_cli.specs.Steps.SystemLetters.{HasNoSystems};
 
 use crate::channel_list::channels_said;
-use crate::chart_words::are_systems;
 use crate::code_words::{any_codes_said, in_file_order};
 use crate::option_numbers::{leap_seconds_of, msm_of, station_of, value_if_any, window_of};
 use crate::option_texts::{made_if_any, marker_if_any, moment_if_any, reference_if_any};
+use crate::system_letters::systems_named;
 use crate::words::{AutoWords, BadWords, WordsFault};
 use clap::ArgMatches;
 use rtk_convert::{MOST_WINDOW, Window};
 use rtk_message::MsmKind;
 use rtk_obs::{AnyCode, Channels};
 use rtk_plan::{Wanted, Ways};
-use rtk_rinex::is_mixed_list;
+use rtk_rinex::{SystemFlags, is_mixed_list};
 use rtk_setup::{LeapSeconds, Station};
-use rtk_systems::SystemFlags;
 use std::alloc::Global;
 
 /// The options of `auto`. `None` is to be found in the captures, or chosen.
@@ -83,7 +84,7 @@ pub(crate) fn auto_options<'a>(words: &ArgMatches<'a>) -> Option<AutoOptions<'a>
 
 // The codes, if any are given, in the order of a file. Whether they are good together is not looked at.
 fn codes_if_any(alloc: Global, text: Option<&str>) -> Result<Option<Vec<AnyCode>>, WordsFault>
-    ensures said { IfOk result (SaysCodesOrNone text.entry) }
+    ensures said { IfOk result (SaysIfAny SaysCodes text.entry) }
     // `OutOfMemory` comes only if memory is refused: tests/system/calls, rows `job of auto ..`.
     ensures refused { IfErr result (IsRefusal (IsCauseOfCodes text.entry)) }
 {
@@ -104,21 +105,6 @@ fn are_good_codes(codes: &Option<Vec<AnyCode>>) -> bool
     }
 }
 
-// The systems of which a text has the letters.
-fn systems_of(letters: &[u8]) -> SystemFlags
-    ensures { result ≡ flags_named letters.now }
-{
-    SystemFlags {
-        gps: letters.contains(&b'G'),
-        glonass: letters.contains(&b'R'),
-        galileo: letters.contains(&b'E'),
-        beidou: letters.contains(&b'C'),
-        qzss: letters.contains(&b'J'),
-        sbas: letters.contains(&b'S'),
-        navic: letters.contains(&b'I'),
-    }
-}
-
 // The systems that are converted: all, if none are named.
 fn systems_said(text: Option<&str>) -> Result<SystemFlags, BadWords>
     ensures said { IfOk result (SaysFlags text.entry) }
@@ -127,15 +113,13 @@ fn systems_said(text: Option<&str>) -> Result<SystemFlags, BadWords>
     let Some(text) = text else {
         return Ok(SystemFlags::ALL);
     };
-    if !are_systems(text.as_bytes()) {
-        return Err(BadWords::Systems);
-    }
-    Ok(systems_of(text.as_bytes()))
+    let systems = systems_named(text)?;
+    Ok(systems)
 }
 
 // The channels, if any are given.
 fn channels_if_any(alloc: Global, text: Option<&str>) -> Result<Option<Channels>, WordsFault>
-    ensures said { IfOk result (SaysChannelsOrNone text.entry) }
+    ensures said { IfOk result (SaysIfAny WritesChannels text.entry) }
     // `OutOfMemory` comes only if memory is refused: tests/system/calls, rows `job of auto ..`.
     ensures refused { IfErr result (IsRefusal (λ cause. (cause ≡ BadWords.Channels) × HasBadChannels text.entry)) }
 {
@@ -159,15 +143,15 @@ pub(crate) fn auto_words<'a>(
     alloc: Global,
     options: &AutoOptions<'a>,
 ) -> Result<AutoWords<'a>, WordsFault>
-    ensures codes { IfOk result (λ words. SaysCodesOrNone options.now.codes words.wanted.codes) }
+    ensures codes { IfOk result (λ words. SaysIfAny SaysCodes options.now.codes words.wanted.codes) }
     ensures systems { IfOk result (λ words. SaysFlags options.now.systems words.wanted.systems) }
-    ensures channels { IfOk result (λ words. SaysChannelsOrNone options.now.channels words.wanted.channels) }
+    ensures channels { IfOk result (λ words. SaysIfAny WritesChannels options.now.channels words.wanted.channels) }
     ensures leap_seconds { IfOk result (λ words. words.wanted.leap_seconds ≡ options.now.leap_seconds) }
     ensures values { IfOk result (λ words. (words.wanted.station ≡ options.now.station) × (words.wanted.msm ≡ options.now.msm)
         × (words.wanted.doppler ≡ options.now.doppler)) }
-    ensures near { IfOk result (λ words. SaysMomentOrNone options.now.near words.wanted.near) }
-    ensures marker { IfOk result (λ words. SaysMarkerOrNone options.now.marker words.wanted.marker) }
-    ensures made { IfOk result (λ words. SaysMomentOrNone options.now.made words.made) }
+    ensures near { IfOk result (λ words. SaysIfAny WritesMoment options.now.near words.wanted.near) }
+    ensures marker { IfOk result (λ words. SaysIfAny SaysMarker options.now.marker words.wanted.marker) }
+    ensures made { IfOk result (λ words. SaysIfAny WritesMoment options.now.made words.made) }
     // `OutOfMemory` comes only if memory is refused: tests/system/calls, rows `job of auto ..`.
     ensures refused { IfErr result (RefusesAuto options.now) }
 {

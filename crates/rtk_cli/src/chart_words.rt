@@ -1,18 +1,18 @@
 //! The words of `chart`: its options, as clap's answer fills them, and which satellites they choose.
 
 ghost use Rattle.std.specs.Prelude.{◌≡◌, ℕ, List, IfOk, IfErr, IfSome, MatchOption};
-ghost use Rattle.std.specs.List.{list_all};
 ghost use Rattle.std.specs.Option.{ForSome};
 ghost use Rattle.rtk_obs.specs.SatelliteIndex.{IsSatelliteIndex};
 ghost use Rattle.rtk_chart.specs.Choice.{is_chosen};
-ghost use Rattle.rtk_commands.specs.ChartInput.{IsWidth};
+ghost use Rattle.rtk_chart.specs.Chart.{IsWidth};
 ghost use Rattle.rtk_cli.specs.FaultLines.{IsRefusal};
-ghost use Rattle.rtk_cli.specs.Steps.ChartWords.{is_system, are_systems, ListsSatellites, is_of_system, is_named, SaysSystems, SaysSatellites, HasNoSystems, HasNoSatellites, SaysChoice, RefusesChoice};
+ghost use Rattle.rtk_cli.specs.Steps.ChartWords.{ListsSatellites, is_of_system, is_named, SaysSystems, SaysSatellites, HasNoSatellites, SaysChoice, RefusesChoice};
+ghost use Rattle.rtk_cli.specs.Steps.SystemLetters.{HasNoSystems};
 
-use crate::limits::{LEAST_WIDTH, MOST_WIDTH};
+use crate::system_letters::are_systems;
 use crate::words::{BadWords, WordsFault};
 use clap::ArgMatches;
-use rtk_chart::{Choice, Chosen};
+use rtk_chart::{Choice, Chosen, LEAST_WIDTH, MOST_WIDTH};
 use rtk_obs::{SatelliteIndex, satellite_name, satellite_named};
 use std::alloc::{AllocError, Global};
 
@@ -39,7 +39,7 @@ fn chart_width(words: &ArgMatches<'_>) -> Option<Option<u16>>
         return Some(None);
     }
     let width = words.get_one::<u32>("columns").unwrap_or(COLUMNS);
-    if width < LEAST_WIDTH || width > MOST_WIDTH {
+    if width < u32::from(LEAST_WIDTH) || width > u32::from(MOST_WIDTH) {
         return None;
     }
     Some(Some(width as u16))
@@ -54,26 +54,6 @@ pub(crate) fn chart_options<'a>(words: &ArgMatches<'a>) -> Option<ChartOptions<'
         systems: words.get_str("systems"),
         satellites: words.get_str("satellites"),
     })
-}
-
-// A letter stands for a system in names of RINEX.
-fn is_system(letter: u8) -> bool
-    ensures { result ≡ is_system letter }
-{
-    b"GRECJSI".contains(&letter)
-}
-
-fn all_systems(letters: &[u8]) -> bool
-    ensures { result ≡ list_all is_system letters.now }
-{
-    letters.iter().all(|letter| is_system(*letter))
-}
-
-/// A text is of letters of systems, and has one.
-pub(crate) fn are_systems(text: &[u8]) -> bool
-    ensures { result ≡ are_systems text.now }
-{
-    !text.is_empty() && all_systems(text)
 }
 
 // The satellites whose names a text lists, with commas between; a satellite may stand twice. `None` if it is no such

@@ -1,19 +1,16 @@
 //! The observation codes of all systems as the words of a command line write them.
 
 ghost use Rattle.std.specs.Prelude.{◌≡◌, ◌≢◌, List, [], ◌∷◌, ◌++◌, length, IfOk, IfErr, OnOk, MatchOption};
-ghost use Rattle.rtk_message.specs.declared.system.System.{System};
 ghost use Rattle.rtk_obs.specs.declared.any_code.AnyCode.{AnyCode};
 ghost use Rattle.rtk_obs.specs.declared.code.Code.{Code};
 ghost use Rattle.rtk_obs.specs.Code as gps;
-ghost use Rattle.rtk_obs.specs.SatelliteIndex.{letter_of};
 ghost use Rattle.rtk_rinex.specs.MixedHeader.{codes_of};
 ghost use Rattle.rtk_cli.specs.FaultLines.{IsRefusal};
 ghost use Rattle.rtk_cli.specs.Steps.AnyCodeList.{code_word, ListsCodes, in_file_order, IsCauseOfName, IsNameCause};
 
 use crate::parts::first_part;
 use crate::words::{BadWords, WordsFault};
-use rtk_message::System;
-use rtk_obs::{AnyCode, Code};
+use rtk_obs::{AnyCode, Code, system_of_letter};
 use std::alloc::{AllocError, Global};
 
 // The code whose word is a band and an attribute.
@@ -47,22 +44,6 @@ fn code_of_word(name: &[u8]) -> Option<AnyCode>
         return long_code(name);
     };
     short_code(band, attribute)
-}
-
-/// The system whose names of codes begin with this letter.
-pub(crate) fn system_of_letter(letter: u8) -> Option<System>
-    ensures { MatchOption result ((s : System) → letter ≢ letter_of s) (λ s. letter ≡ letter_of s) }
-{
-    match letter {
-        b'G' => Some(System::Gps),
-        b'R' => Some(System::Glonass),
-        b'E' => Some(System::Galileo),
-        b'C' => Some(System::Beidou),
-        b'J' => Some(System::Qzss),
-        b'S' => Some(System::Sbas),
-        b'I' => Some(System::Navic),
-        _ => None,
-    }
 }
 
 // The code of GPS whose word stands behind the letter of GPS.

@@ -9,15 +9,16 @@ use crate::arguments::{
 use crate::auto_command::auto_command;
 use crate::help_texts;
 use crate::label_command::label_command;
-use crate::limits::{LEAST_WIDTH, MOST_STEP, MOST_WIDTH};
 use clap::{Arg, ArgAction, ArgGroup, Command};
+use rtk_chart::{LEAST_WIDTH, MOST_WIDTH};
+use rtk_cut::GREATEST_STEP_S;
 use std::alloc::{AllocError, Global};
 
 /// The name of the program in its texts; no word gives it.
 const NAME: &str = "rtcm2rinex";
 
 /// The version that `--version` shows.
-const VERSION: &str = "0.8.0";
+const VERSION: &str = "0.9.0";
 
 /// The window if none is given.
 const WINDOW: &str = "64";
@@ -118,7 +119,7 @@ fn links_arg<'a>(alloc: Global) -> Arg<'a> {
 
 fn every_arg<'a>(alloc: Global) -> Arg<'a> {
     let help = "Records at whole multiples of this step are kept, 1 to 86400";
-    number_arg(alloc, "every", 1, i64::from(MOST_STEP), help).value_name("SECONDS")
+    number_arg(alloc, "every", 1, i64::from(GREATEST_STEP_S), help).value_name("SECONDS")
 }
 
 // One of the options of `cut` must be given.

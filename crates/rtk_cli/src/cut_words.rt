@@ -4,11 +4,10 @@ ghost use Rattle.std.specs.Prelude.{◌↔◌, IfOk, IfErr, IfSome, IsTrue};
 ghost use Rattle.rtk_cut.specs.Cut.{IsStepOrNone};
 ghost use Rattle.rtk_cli.specs.Steps.CutWords.{IsAfter, SaysPart, RefusesPart};
 
-use crate::limits::MOST_STEP;
 use crate::option_texts::moment_if_any;
 use crate::words::BadWords;
 use clap::ArgMatches;
-use rtk_cut::Part;
+use rtk_cut::{GREATEST_STEP_S, Part};
 
 /// The options of `cut`.
 #[derive(Drop)]
@@ -29,7 +28,7 @@ pub(crate) fn cut_options<'a>(words: &ArgMatches<'a>) -> Option<CutOptions<'a>>
 {
     let every = words.get_one::<u32>("every");
     if let Some(step) = every {
-        if step < 1 || step > MOST_STEP {
+        if step < 1 || step > GREATEST_STEP_S {
             return None;
         }
     }

@@ -12,11 +12,11 @@ use crate::command_line::program_command;
 use crate::compare_words::{compared_files, comparison};
 use crate::convert_words::{convert_job, convert_options};
 use crate::cut_words::{cut_options, part_of};
-use crate::kept_words::kept_said;
 use crate::kind_list::has_kind_list;
 use crate::label_words::{label_of, label_options, time_lines};
 use crate::quality_words::quality_form;
 use crate::show_words::shown_kinds;
+use crate::system_letters::systems_named;
 use crate::words::{Job, WordsFault};
 use clap::{ArgMatches, Command};
 use rtk_commands::{Chart, KeptPart, Labelling};
@@ -93,7 +93,7 @@ fn cut_job<'a>(words: &ArgMatches<'a>, file: &'a str) -> Result<Option<Job<'a>>,
     let Some(text) = options.systems else {
         return Ok(Some(Job::Cut { part, file }));
     };
-    let kept = kept_said(text)?;
+    let kept = systems_named(text)?;
     let command = KeptPart { kept, part };
     Ok(Some(Job::CutSystems { command, file }))
 }

@@ -9,9 +9,9 @@ ghost use Rattle.rtk_setup.specs.declared.system_kinds.SystemKinds.{SystemKinds}
 ghost use Rattle.rtk_cli.specs.Steps.Parts.{marked_parts};
 ghost use Rattle.rtk_cli.specs.Steps.KindList.{exception_word, with_exceptions, stands_once, has_letters_once, WritesKinds};
 
-use crate::code_words::system_of_letter;
 use crate::parts::first_part;
 use rtk_message::{MsmKind, MsmType};
+use rtk_obs::system_of_letter;
 use rtk_setup::SystemKinds;
 
 // The kind whose message numbers end with this digit.

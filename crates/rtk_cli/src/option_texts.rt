@@ -4,8 +4,9 @@ ghost use Rattle.std.specs.Prelude.{◌≡◌, ◌%◌, ◌≤◌, IfOk, IfErr};
 ghost use Rattle.rtk_obs.specs.Dating.{IsReference};
 ghost use Rattle.rtk_obs.specs.declared.time.TheConstants.{LAST_MS};
 ghost use Rattle.rtk_rinex.specs.Header.{IsMarker};
-ghost use Rattle.rtk_cli.specs.Steps.AutoWords.{SaysMarkerOrNone, HasNoMarker, IsNoReference};
-ghost use Rattle.rtk_cli.specs.Steps.MomentText.{WritesMoment, HasMoment, SaysMomentOrNone, HasNoMoment};
+ghost use Rattle.rtk_cli.specs.Steps.AutoWords.{SaysMarker, HasNoMarker, IsNoReference};
+ghost use Rattle.rtk_cli.specs.Steps.MomentText.{WritesMoment, HasMoment, HasNoMoment};
+ghost use Rattle.rtk_cli.specs.Steps.OptionTexts.{SaysIfAny};
 
 use crate::moment_text::moment_of;
 use crate::words::BadWords;
@@ -28,7 +29,7 @@ pub(crate) fn moment_said(text: &str, cause: BadWords) -> Result<GpsMs, BadWords
 
 /// The moment that a text writes, or none without a text; else this cause.
 pub(crate) fn moment_if_any(text: Option<&str>, cause: BadWords) -> Result<Option<GpsMs>, BadWords>
-    ensures moment { IfOk result (SaysMomentOrNone text.entry) }
+    ensures moment { IfOk result (SaysIfAny WritesMoment text.entry) }
     ensures cause { IfErr result (λ told. (told ≡ cause) × HasNoMoment text.entry) }
 {
     match text {
@@ -55,7 +56,7 @@ pub(crate) fn made_if_any(
     text: Option<&str>,
     cause: BadWords,
 ) -> Result<Option<CreationTime>, BadWords>
-    ensures moment { IfOk result (SaysMomentOrNone text.entry) }
+    ensures moment { IfOk result (SaysIfAny WritesMoment text.entry) }
     ensures cause { IfErr result (λ told. (told ≡ cause) × HasNoMoment text.entry) }
 {
     match text {
@@ -78,7 +79,7 @@ pub(crate) fn marker_said(text: &str) -> Result<Marker, BadWords>
 
 /// The marker that a text names, or none without a text.
 pub(crate) fn marker_if_any(text: Option<&str>) -> Result<Option<Marker>, BadWords>
-    ensures marker { IfOk result (SaysMarkerOrNone text.entry) }
+    ensures marker { IfOk result (SaysIfAny SaysMarker text.entry) }
     ensures cause { IfErr result (λ told. (told ≡ BadWords.Marker) × HasNoMarker text.entry) }
 {
     match text {

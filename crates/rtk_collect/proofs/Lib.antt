@@ -25,4 +25,5 @@ mod NextWindowLemmas
 mod DatedLemmas
 mod PositionLemmas
 mod SignalLemmas
+mod MsmOrderLemmas
 mod SignalGpsLemmas

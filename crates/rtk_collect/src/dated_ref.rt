@@ -1,19 +1,21 @@
 //! A message with its epoch.
 
-ghost use Rattle.std.specs.Prelude.{◌≡◌, ◌≤◌, ℤ, Bool, List, Option, length, All, IfSome, IfNone, IsTrue};
+ghost use Rattle.std.specs.Prelude.{◌≡◌, ◌≢◌, ◌≤◌, ℤ, Bool, List, Option, length, All, IfSome, IfNone, IsTrue};
 ghost use Rattle.std.specs.Option.{is_some};
 ghost use Rattle.rtk_message.specs.AnyDecoded as any;
 ghost use Rattle.rtk_message.specs.Decoded.{IsValid, tow_of};
 ghost use Rattle.rtk_message.specs.MsmForm as msm_form;
+ghost use Rattle.rtk_message.specs.declared.system.System.TheVariants.{Gps};
 ghost use Rattle.rtk_obs.specs.Cell.{IsInRange, AreRising};
 ghost use Rattle.rtk_obs.specs.MessageCells.{cells_of};
 ghost use Rattle.rtk_obs.specs.SignalCells.{IsSignalInRange};
 ghost use Rattle.rtk_collect.specs.Arrival.{At, epoch_of, message_of, IsWideMsm};
-ghost use Rattle.rtk_collect.specs.Signals.{entries_by};
+ghost use Rattle.rtk_collect.specs.Key.{KeysRise};
+ghost use Rattle.rtk_collect.specs.Signals.{signals, entries_by};
 ghost use Rattle.rtk_collect.specs.Steps.Borrowed.{borrowed};
 
 use arrayvec::ArrayVec;
-use rtk_message::{AnyMessage, Message, Msm, Obs1012};
+use rtk_message::{AnyMessage, Message, Msm, Obs1012, System};
 use rtk_obs::{
     CellEntry, Channels, GpsMs, SignalEntry, put_cells_msm, put_cells_of, put_doppler_entries,
     put_entries_1012, put_entries_of, put_entries_with_sbas, put_signal_entries,
@@ -64,7 +66,28 @@ fn put_msm(message: &Msm, channels: &Channels, doppler: bool, found: &mut ArrayV
     }
 }
 
+// Returns whether a system is another one than GPS.
+fn is_beside_gps(system: System) -> bool
+    ensures { IsTrue result → system ≢ Gps }
+{
+    match system {
+        System::Gps => false,
+        _ => true,
+    }
+}
+
 impl<'a> Borrowed<'a> {
+    /// Returns whether the message is an MSM of another system than GPS, whose cells rise, since its satellites and
+    /// signals rise and the codes rise with the signals. Those of GPS do not, of which L1C has the last signals.
+    pub(crate) fn is_msm_beside_gps(self) -> bool
+        ensures { IsTrue result → (sbas doppler : Bool) (channels : List (Option ℤ)) → KeysRise signals (entries_by sbas doppler channels (borrowed self.entry)) }
+    {
+        match self {
+            Borrowed::Msm(message) => is_beside_gps(message.system),
+            Borrowed::Message(_) | Borrowed::Obs1012(_) => false,
+        }
+    }
+
     /// Puts the cells of the message into a list, in place of what it has. If the result is `true`, they
     /// rise.
     pub(crate) fn put_cells(self, found: &mut ArrayVec<CellEntry, 64>) -> bool

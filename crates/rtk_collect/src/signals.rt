@@ -1,9 +1,10 @@
 //! A gatherer of the signals of all systems.
 
 ghost use Rattle.rtk_collect.specs.Signals.{signals, entries_by};
-ghost use Rattle.std.specs.Prelude.{◌≡◌, ◌≤◌, [], length, IsTrue, IfOk, OnErr};
+ghost use Rattle.std.specs.Prelude.{◌≡◌, ◌≤◌, ℤ, Bool, List, Option, [], length, IsTrue, IfOk, OnErr};
 ghost use Rattle.rtk_collect.specs.Key.{KeysRise};
 ghost use Rattle.rtk_collect.specs.EpochSet.{AreOfOneSource};
+ghost use Rattle.rtk_collect.specs.Steps.Borrowed.{borrowed};
 ghost use Rattle.rtk_collect.specs.Offered.{AnswersArrival, ClosesBelow, ClosesLeast, LeastNeverFalls, WouldBeTaken};
 
 use crate::conflicts::{AnySatelliteCode, Conflicts};
@@ -15,7 +16,8 @@ use crate::window::{offer_cells, place_of_epoch};
 use rtk_obs::{Channels, SignalEntry};
 use std::alloc::AllocError;
 
-// Returns whether the keys of cells of one kind of message rise. Their kind is the same in all keys.
+// Returns whether the keys of cells of one kind of message rise. Their kind is the same in all keys. The loop goes over
+// all cells, since a way out of it would cost an instruction or two for each cell, and nearly all messages rise.
 fn keys_rise<E: Entry>(cells: &[E]) -> bool
     requires { AreOfOneSource E.entries cells.now }
     ensures { IsTrue result → KeysRise E.entries cells.now }
@@ -23,17 +25,28 @@ fn keys_rise<E: Entry>(cells: &[E]) -> bool
     if cells.is_empty() {
         return true;
     }
+    let mut rises = true;
     let mut at = cells.len() - 1;
     let mut above = cells[at].place();
     while at > 0 {
         at -= 1;
         let place = cells[at].place();
-        if place >= above {
-            return false;
-        }
+        rises = rises && place < above;
         above = place;
     }
-    true
+    rises
+}
+
+// Returns whether the keys of the cells of a message rise. Nothing is looked at of those that do so in any case.
+fn cells_rise(message: Borrowed<'_>, cells: &[SignalEntry]) -> bool
+    requires kind { AreOfOneSource signals cells.now }
+    requires own { (sbas : Bool) × (doppler : Bool) × (channels : List (Option ℤ)) × (cells.now ≡ entries_by sbas doppler channels (borrowed message)) }
+    ensures { IsTrue result → KeysRise signals cells.now }
+{
+    if message.is_msm_beside_gps() {
+        return true;
+    }
+    keys_rise(cells)
 }
 
 impl Gatherer<SignalEntry> {
@@ -73,7 +86,7 @@ impl Gatherer<SignalEntry> {
             .message
             .put_entries(channels, sbas, doppler, &mut self.cells);
         let cells = self.cells.as_slice();
-        let rises = keys_rise(cells);
+        let rises = cells_rise(dated.message, cells);
         let (sets, spare) = (&mut self.sets, &mut self.spare);
         offer_cells(
             sets,

@@ -9,7 +9,7 @@ use Rattle.rtk_rinex.specs.MixedRecord.{GpsRecordsStay}
 use Rattle.rtk_rinex.specs.MixedTable.{MixedTable, IsMixedTable, mixed_table_text, TypesTellShifts}
 use Rattle.rtk_rinex.specs.declared.check_fault.CheckFault.{CheckFault}
 use Rattle.rtk_cut.specs.declared.counts.CutCounts.{CutCounts}
-use Rattle.rtk_cut.specs.declared.kept_systems.KeptSystems.{KeptSystems}
+use Rattle.rtk_rinex.specs.declared.system_flags.SystemFlags.{SystemFlags}
 use Rattle.rtk_cut.specs.declared.part.Part.{Part}
 use Rattle.rtk_cut.specs.KeptLaws.{KeptFilesAreTables}
 use Rattle.rtk_cut.specs.KeptSystems.{kept_codes, kept_table, first_absent}
@@ -99,7 +99,7 @@ kept-first k plain narrow w l before after (t, good, is) all some text (answer, 
     (answer, bytes, (t, good, is, kept-cuts k narrow t w l answer bytes (all t good is) (some t good is) (text t good is) cuts), took)
 
 -- what is kept is a file
-pub kept-some_file : KeptFilesAreTables → GpsFilesStay → GpsRecordsStay → TypesTellShifts → (ks : KeptSystems) (plain narrow : List ℕ) → IsTextOfSystems plain → OfEach plain (λ t. kept_codes ks t.head.listed ≢ [])
+pub kept-some_file : KeptFilesAreTables → GpsFilesStay → GpsRecordsStay → TypesTellShifts → (ks : SystemFlags) (plain narrow : List ℕ) → IsTextOfSystems plain → OfEach plain (λ t. kept_codes ks t.head.listed ≢ [])
     → OfEach plain (λ t. narrow ≡ mixed_table_text (kept_table ks t)) → IsTextOfSomeFile narrow
 kept-some_file tables header records tell ks plain narrow (t, good, is) some text =
     subst IsTextOfSomeFile (sym (text t good is)) (some-file header records tell (kept_table ks t) (tables ks t good (some t good is)))

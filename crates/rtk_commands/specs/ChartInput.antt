@@ -1,6 +1,5 @@
 -- The command `chart`: what it writes of a table.
 use Rattle.std.specs.Prelude.{◌≡◌, ◌⊎◌, ℕ, Bool, true, false, List, [], Option, None, Some}
-use Rattle.std.specs.Int.{IsInRange}
 use Rattle.rtk_rinex.specs.MixedTable.{mixed_table_text}
 use Rattle.rtk_rinex.specs.Table.{table_text}
 use Rattle.rtk_label.specs.Labelled.{LabelView}
@@ -16,11 +15,6 @@ use Rattle.rtk_commands.specs.declared.charting.Chart.{Chart}
 use Rattle.rtk_commands.specs.declared.file_answer.FileAnswer.{FileAnswer}
 use Rattle.rtk_commands.specs.declared.file_answer.FileAnswer.TheVariants.{Written, NoneChosen}
 use Rattle.rtk_commands.specs.FileTable.{FileTable, OfGps, OfSystems}
-
--- constant
--- the width of a picture in characters (this project's rule)
-abbrev pub IsWidth : ℕ → Type 0
-IsWidth width = IsInRange 40 400 width
 
 -- a picture of the choice of a file: in characters if a width is given, else in SVG
 abbrev pub IsPicture : Option ℕ → Choice → List ℕ → List ℕ → Type 0

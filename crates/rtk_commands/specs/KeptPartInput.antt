@@ -4,7 +4,7 @@ use Rattle.rtk_message.specs.declared.system.System.{System}
 use Rattle.rtk_obs.specs.declared.any_code.AnyCode.{AnyCode}
 use Rattle.rtk_rinex.specs.MixedTable.{MixedTable, IsMixedTable, mixed_table_text}
 use Rattle.rtk_rinex.specs.declared.check_fault.CheckFault.{CheckFault}
-use Rattle.rtk_cut.specs.declared.kept_systems.KeptSystems.{KeptSystems}
+use Rattle.rtk_rinex.specs.declared.system_flags.SystemFlags.{SystemFlags}
 use Rattle.rtk_cut.specs.declared.part.Part.{Part}
 use Rattle.rtk_cut.specs.KeptSystems.{kept_codes, kept_table, first_absent}
 use Rattle.rtk_label.specs.Labelled.{LabelView}
@@ -21,7 +21,7 @@ abbrev pub IsTextOfSystems : List ℕ → Type 0
 IsTextOfSystems plain = (t : MixedTable) × IsMixedTable t × (plain ≡ mixed_table_text t)
 
 -- the table whose text this is has a code of each of these systems
-abbrev pub HasNoneAbsent : KeptSystems → List ℕ → Type 0
+abbrev pub HasNoneAbsent : SystemFlags → List ℕ → Type 0
 HasNoneAbsent ks plain = (t : MixedTable) → IsMixedTable t → plain ≡ mixed_table_text t → first_absent ks t.head.listed ≡ None
 
 -- the part of the file whose text this is, with a label and with its own time lines, as far as they are asked for

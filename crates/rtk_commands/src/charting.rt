@@ -2,7 +2,8 @@
 
 ghost use Rattle.std.specs.Prelude.{◌≡◌, IfOk};
 ghost use Rattle.std.specs.Option.{ForSome};
-ghost use Rattle.rtk_commands.specs.ChartInput.{IsWidth, IsPicture, IsMixedPicture, DrawsFile, DrawsMixedFile, DrawsTable};
+ghost use Rattle.rtk_chart.specs.Chart.{IsWidth};
+ghost use Rattle.rtk_commands.specs.ChartInput.{IsPicture, IsMixedPicture, DrawsFile, DrawsMixedFile, DrawsTable};
 ghost use Rattle.rtk_commands.specs.FileTable.{text_of, HasItsLetter};
 ghost use Rattle.rtk_commands.specs.WithLabel.{MakesOfFile, WritesOfTable};
 
@@ -127,7 +128,8 @@ fn picture_of_text(alloc: Global, text: &mut [u8], chart: &Chart) -> Result<Rend
 impl FileCommand for Chart {
     ghost use Rattle.std.specs.Prelude.{false};
     ghost use Rattle.std.specs.Option.{ForSome};
-    ghost use Rattle.rtk_commands.specs.ChartInput.{IsWidth, DrawsTable};
+    ghost use Rattle.rtk_chart.specs.Chart.{IsWidth};
+    ghost use Rattle.rtk_commands.specs.ChartInput.{DrawsTable};
     ghost use Rattle.rtk_commands.specs.WithLabel.{WritesOfTable};
 
     ghost IN_PIECES = { false };

@@ -3,6 +3,7 @@
 use crate::exit_status::{DONE, NOT_VALID, REFUSED};
 use rtk_cut::CutCounts;
 use rtk_message::System;
+use rtk_obs::letter_of;
 use rtk_rinex::CheckFault;
 
 /// What came of a text that was read whole.
@@ -23,19 +24,6 @@ pub enum FileAnswer {
     NoneChosen,
     /// Nothing is written: the file has no code of this system, which is to be kept.
     Absent(System),
-}
-
-// The letter of a system in a file of RINEX.
-fn letter_of(system: System) -> char {
-    match system {
-        System::Gps => 'G',
-        System::Glonass => 'R',
-        System::Galileo => 'E',
-        System::Beidou => 'C',
-        System::Qzss => 'J',
-        System::Sbas => 'S',
-        System::Navic => 'I',
-    }
 }
 
 impl FileAnswer {
@@ -73,7 +61,7 @@ impl FileAnswer {
                 NOT_VALID
             }
             FileAnswer::Absent(system) => {
-                let letter = letter_of(system);
+                let letter = char::from(letter_of(system));
                 let _printed = eprintln!(rt; "rtcm2rinex: the file has no codes of {letter}");
                 NOT_VALID
             }

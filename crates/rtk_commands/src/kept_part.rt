@@ -14,17 +14,17 @@ use crate::fault::ToolFault;
 use crate::file_answer::FileAnswer;
 use crate::file_command::FileCommand;
 use crate::with_label::{LabelledMixed, LabelledTable, mixed_with_label};
-use rtk_cut::{KeptSystems, Part, first_absent, keep_systems, kept_files_are_tables};
+use rtk_cut::{Part, first_absent, keep_systems, kept_files_are_tables};
 use rtk_frame::Sink;
 use rtk_label::{Label, TimeLines};
-use rtk_rinex::{MixedTextTable, gps_files_stay, types_tell_shifts};
+use rtk_rinex::{MixedTextTable, SystemFlags, gps_files_stay, types_tell_shifts};
 use std::alloc::Global;
 
 /// The command `cut` of some systems of a file.
 #[derive(Clone, Copy, Debug)]
 pub struct KeptPart {
     /// The systems that are kept.
-    pub kept: KeptSystems,
+    pub kept: SystemFlags,
     /// The part of the file with these systems alone.
     pub part: Part,
 }

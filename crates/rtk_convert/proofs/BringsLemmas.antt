@@ -23,7 +23,7 @@ use Rattle.rtk_convert.specs.declared.message_class.MessageClass.{MessageClass}
 use Rattle.rtk_convert.specs.declared.remarks.Remarks.{Remarks}
 use Rattle.rtk_convert.specs.declared.systems.Systems.{Systems}
 use Rattle.rtk_convert.specs.ClosedEpochs.{ClosedEpochsView}
-use Rattle.rtk_convert.specs.Report.{arrival_class, brings, brings_sbas, counted_as, holds_sbas, is_of, is_of_sbas, is_taken}
+use Rattle.rtk_convert.specs.Report.{arrival_class, brings, brings_sbas, counted_as, holds_sbas, is_of, is_taken}
 use Rattle.rtk_setup.specs.Setup.{SetupView, lists_system}
 use Rattle.rtk_convert.specs.Systems.{has_system, with_system}
 use Rattle.rtk_convert.specs.Writing.{Written}

@@ -1,6 +1,6 @@
 -- Where the codes of a row stand, whose places differ.
 use Rattle.std.proofs.Common.{◌≡◌, ◌≢◌, ℕ, zero, suc, ◌+◌, ◌<◌, ◌≤◌, [], ◌∷◌, List, length, take, set, get_or, get_or-set_other, get_or-set_same, refl, sym, ap, subst, ◌∙◌, arith, true, false, Bool, inl, inr}
-use Rattle.std.specs.Prelude.{◌||◌, AllPairs}
+use Rattle.std.specs.Prelude.{◌||◌, AllPairs, if◌then◌else◌}
 use Rattle.std.specs.List.{list_any}
 use Rattle.std.proofs.lemmas.Bool.{cases_eq, cond-true, cond-false, eq-eqb, eqb-true, ne_eqb}
 use Rattle.std.proofs.lemmas.List.Folds.{list_any_more}
@@ -70,3 +70,15 @@ places-more codes k columns l inside h place low =
             found = λ m. subst (λ (i : ℕ). is_at place (get_or codes i G1C) ≡ true) (sym at) ((h place low).found (omega arith));
           }
     ]
+
+-- ---- codes with and without Doppler shifts
+
+-- a code that is written without shifts is listed, and the file has none
+pub of-plain : (doppler : Bool) (plain count column : ℕ) → plain ≡ (if doppler then 0 else count) → column < plain → (doppler ≡ false) × (column < count)
+of-plain true plain count column is less = let none : plain ≡ 0 = is in absurd (omega (arith, none, less))
+of-plain false plain count column is less = let all : plain ≡ count = is in (refl, omega (arith, all, less))
+
+-- a listed code that is not is in a file that has shifts
+pub of-shifted : (doppler : Bool) (plain count column : ℕ) → plain ≡ (if doppler then 0 else count) → plain ≤ column → column < count → doppler ≡ true
+of-shifted true plain count column is other inside = refl
+of-shifted false plain count column is other inside = let all : plain ≡ count = is in absurd (omega (arith, all, other, inside))

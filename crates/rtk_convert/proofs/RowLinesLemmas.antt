@@ -16,9 +16,9 @@ use Rattle.rtk_rinex.specs.declared.epoch_table.Observed.{Observed}
 use Rattle.rtk_rinex.specs.declared.epoch_table.SatelliteRow.{SatelliteRow}
 use Rattle.rtk_obs.specs.Reading.{reading_of}
 use Rattle.rtk_rinex.specs.Record.{EpochTableView, observations, trim_end, is_present, has_observation, has_observation_or_doppler, is_shown, has_line, has_line_in, satellite_line, epoch_line, lines_of, record_text}
-use Rattle.rtk_rinex.specs.RecordLines.{RecordLinesView, KeepsLines, IsFreeIn}
-use Rattle.rtk_rinex.specs.MixedRecord.{MixedLinesView, HoldsMixedLines, KeepsMixedLines, mixed_satellite_line, mixed_lines_of, mixed_record_text}
-use Rattle.rtk_convert.specs.Steps.RowLines.{Keeps, HasRoom, HasGpsRows, HasMixedRows}
+use Rattle.rtk_rinex.specs.RecordLines.{RecordLinesView, KeepsLines, HasOpenLine, IsFreeIn}
+use Rattle.rtk_rinex.specs.MixedRecord.{MixedLinesView, HoldsMixedLines, HasOpenMixedLine, KeepsMixedLines, mixed_satellite_line, mixed_lines_of, mixed_record_text}
+use Rattle.rtk_convert.specs.Steps.RowLines.{Keeps, HasRoom, HasGpsRows, HasGpsLine, HasMixedRows, HasMixedLine}
 
 -- ---- room for a line more
 
@@ -53,6 +53,33 @@ mixed-kept old new k doppler rows h = record {
       (record { lines = ap (drop 36) k.lines.text ∙ h.holds.lines; count = k.lines.count ∙ h.holds.count });
   shows = k.doppler ∙ h.shows;
 }
+
+-- ---- the open line
+
+pub gps-opened : (doppler : Bool) (old new : RecordLinesView) (rows : List SatelliteRow) (row : List Observed) → HasGpsRows old doppler rows → HasOpenLine false new row → HasGpsLine doppler new row
+gps-opened doppler old new rows row held h = record { plain = held.plain; open_line = h }
+
+-- of any system
+pub mixed-open : (doppler : Bool) (l : MixedLinesView) (row : List Observed) → HasMixedLine doppler l row → HasOpenLine doppler l.lines row
+mixed-open doppler l row h = subst (λ (d : Bool). HasOpenLine d l.lines row) h.shows h.open_line
+
+pub mixed-line : (doppler : Bool) (old new : MixedLinesView) (row : List Observed) → old.doppler ≡ doppler → KeepsMixedLines old new → HasOpenLine doppler new.lines row → HasMixedLine doppler new row
+mixed-line doppler old new row is k h =
+    let shows : new.doppler ≡ doppler = k.doppler ∙ is in
+    record { shows = shows; open_line = subst (λ (d : Bool). HasOpenLine d new.lines row) (sym shows) h }
+
+-- the same where it is known whether lines show shifts
+pub mixed-open-as : (doppler d : Bool) (l : MixedLinesView) (row : List Observed) → doppler ≡ d → HasMixedLine doppler l row → HasOpenLine d l.lines row
+mixed-open-as doppler d l row is h = subst (λ (e : Bool). HasOpenLine e l.lines row) is (mixed-open doppler l row h)
+
+pub mixed-line-as : (doppler d : Bool) (old new : MixedLinesView) (row : List Observed) → doppler ≡ d → old.doppler ≡ doppler → KeepsMixedLines old new → HasOpenLine d new.lines row
+    → HasMixedLine doppler new row
+mixed-line-as doppler d old new row is shows k h = mixed-line doppler old new row shows k (subst (λ (e : Bool). HasOpenLine e new.lines row) (sym is) h)
+
+-- a line that is opened shows shifts if the rows before it do
+pub mixed-opened : (doppler : Bool) (old new : MixedLinesView) (rows : List SatelliteRow) (row : List Observed) → HasMixedRows old doppler rows → KeepsMixedLines old new → HasOpenMixedLine new row
+    → HasMixedLine doppler new row
+mixed-opened doppler old new rows row held k h = record { shows = k.doppler ∙ held.shows; open_line = h }
 
 -- ---- a code that shows nothing, also no Doppler shift
 

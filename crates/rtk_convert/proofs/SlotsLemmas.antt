@@ -3,9 +3,11 @@ use Rattle.std.proofs.Common.{◌≡◌, ◌≢◌, ◌∙◌, ◌+◌, ◌-◌,
 use Rattle.std.specs.Prelude.{◌&&◌, ◌||◌, not, is_some, nat_le, slice_index_or, if◌then◌else◌, IfOk}
 use Rattle.std.specs.List.{list_any}
 use Rattle.std.proofs.Math.Path.{fun_ext}
-use Rattle.std.proofs.lemmas.Bool.{cases_Bool, both_ways, eqb-true, eq-eqb, ne_eqb, and_left, and_parts, and_from, or_from}
+use Rattle.std.proofs.lemmas.Bool.{cases_Bool, cases_lt, both_ways, eqb-true, eq-eqb, ne_eqb, and_left, and_parts, and_from, or_from}
 use Rattle.std.proofs.lemmas.Bool.Decides.{nat_tests}
 use Rattle.std.proofs.lemmas.List.Folds.{list_any_more}
+use Rattle.std.proofs.lemmas.Nat.{pow_below}
+use Rattle.std.proofs.Math.Nat.{pow-suc}
 use Rattle.rtk_message.specs.declared.any_fault.AnyFault.{AnyFault}
 use Rattle.rtk_message.specs.declared.any_message.AnyMessage.{AnyMessage as Message}
 use Rattle.rtk_message.specs.declared.any_message.AnyMessage.TheVariants as any
@@ -105,6 +107,70 @@ no-slot n k belongs has none is = elim (cases_Bool (n == k)) [
   | inr other ↦ rw other refl
 ]
 
+-- ---- the set bits of a mask of 64 bits
+
+pow-grows : (j k : ℕ) → j ≤ k → 2 ^ j ≤ 2 ^ k
+pow-grows j k h = elim (cases_lt j k) [
+  | inl less ↦ omega (arith, pow_below j k less)
+  | inr more ↦ let same : j ≡ k = omega (arith, h, more) in subst (λ (i : ℕ). 2 ^ j ≤ 2 ^ i) same (omega arith)
+]
+
+bits-low : (place w mask : ℕ) → mask < 2 ^ w → set_bits_from place (suc w) mask ≡ set_bits_from (suc place) w mask
+unfolding set_bits_from
+bits-low place w mask h = rw (lt-false (2 ^ w) mask h) refl
+
+bits-top : (place w mask : ℕ) → 2 ^ w ≤ mask → set_bits_from place (suc w) mask ≡ place ∷ set_bits_from (suc place) w (mask - 2 ^ w)
+unfolding set_bits_from
+bits-top place w mask h = rw (le-true (2 ^ w) mask h) refl
+
+-- the bits above a mask are not set
+bits-above : (k place w mask : ℕ) → mask < 2 ^ w → set_bits_from place (k + w) mask ≡ set_bits_from (place + k) w mask
+bits-above zero place w mask h =
+    let e : 0 + w ≡ w = omega arith in
+    let f : place + 0 ≡ place = omega arith in
+    rw (e, f) refl
+bits-above (suc k) place w mask h =
+    let e : suc k + w ≡ suc (k + w) = omega arith in
+    let f : suc place + k ≡ place + suc k = omega arith in
+    rw e (bits-low place (k + w) mask (omega (arith, pow-grows w (k + w) (omega arith)))
+    ∙ (bits-above k (suc place) w mask h ∙ ap (λ (p : ℕ). set_bits_from p w mask) f))
+
+-- the first set bit has so many before it, and the others are those of the rest
+bits-first : (before rest : ℕ) → before < 64 → 2 ^ (63 - before) ≤ rest → rest < 2 ^ (64 - before) → set_bits_from 1 64 rest ≡ (before + 1) ∷ set_bits_from 1 64 (rest - 2 ^ (63 - before))
+bits-first before rest inside from below =
+    let w = 63 - before in
+    let e : before + suc w ≡ 64 = omega (arith, inside) in
+    let f : suc before + w ≡ 64 = omega (arith, inside) in
+    let p : 1 + before ≡ before + 1 = omega arith in
+    let q : 1 + suc before ≡ suc (1 + before) = omega arith in
+    let wide : 64 - before ≡ suc w = omega (arith, inside) in
+    let under : rest < 2 ^ suc w = subst (λ (v : ℕ). rest < 2 ^ v) wide below in
+    let left : set_bits_from 1 64 rest ≡ (1 + before) ∷ set_bits_from (suc (1 + before)) w (rest - 2 ^ w) =
+    sym (ap (λ (v : ℕ). set_bits_from 1 v rest) e) ∙ bits-above before 1 (suc w) rest under ∙ bits-top (1 + before) w rest from in
+    let right : set_bits_from 1 64 (rest - 2 ^ w) ≡ set_bits_from (suc (1 + before)) w (rest - 2 ^ w) =
+    sym (ap (λ (v : ℕ). set_bits_from 1 v (rest - 2 ^ w)) f) ∙ bits-above (suc before) 1 w (rest - 2 ^ w) (omega (arith, under, pow-suc 2 w))
+    ∙ ap (λ (v : ℕ). set_bits_from v w (rest - 2 ^ w)) q in
+    left ∙ ap (λ (v : ℕ). v ∷ set_bits_from (suc (1 + before)) w (rest - 2 ^ w)) p ∙ ap (λ (bits : List ℕ). (before + 1) ∷ bits) (sym right)
+
+-- it is that of a slot if the mask reaches the bit of the last one
+pub slot-before : (before rest : ℕ) → 2 ^ 37 ≤ rest → rest < 2 ^ (64 - before) → before < 27
+slot-before before rest last below = elim (cases_lt before 27) [
+  | inl less ↦ less
+  | inr more ↦ absurd (omega (arith, pow-grows (64 - before) 37 (omega (arith, more)), last, below))
+]
+
+-- the masks of the rows fall
+pub bits-fall : (row before rest : ℕ) → row ≤ 64 → rest < 2 ^ (64 - row) → before < 64 → 2 ^ (63 - before) ≤ rest → rest < 2 ^ (64 - before)
+    → (row + 1 ≤ 64) × (rest - 2 ^ (63 - before) < 2 ^ (64 - (row + 1)))
+bits-fall row before rest few fits inside from below = elim (cases_lt before row) [
+  | inl less ↦ absurd (omega (arith, pow-grows (64 - row) (63 - before) (omega (arith, less, few)), fits, from))
+  | inr more ↦
+      let wide : 64 - before ≡ suc (63 - before) = omega (arith, inside) in
+      let under : rest < 2 ^ suc (63 - before) = subst (λ (v : ℕ). rest < 2 ^ v) wide below in
+      let grows = pow-grows (63 - before) (64 - (row + 1)) (omega (arith, more, inside)) in
+      (omega (arith, more, inside), omega (arith, grows, under, pow-suc 2 (63 - before)))
+]
+
 -- ---- the satellites of an MSM
 
 or-swap : (p h r : Bool) → ((p || h) || r) ≡ (h || (p || r))
@@ -114,21 +180,10 @@ or-swap false true r = refl
 or-swap false false r = refl
 
 module _ (test : ℕ → Bool) (m : Msm) (slot : ℕ) where
-  -- the next bit is that of a satellite
-  step-set : (has new : Bool) (row place w rest : ℕ) → 2 ^ w ≤ rest → new ≡ (((place == slot) && test (field_of_row m row)) || has)
-      → (new || any_satellite test m slot (suc row) (set_bits_from (suc place) w (rest - 2 ^ w))) ≡ (has || any_satellite test m slot row (set_bits_from place (suc w) rest))
-  unfolding set_bits_from
-  step-set has new row place w rest h is =
-      let set : nat_le (2 ^ w) rest ≡ true = le-true (2 ^ w) rest h in
-      rw (is, set) (or-swap ((place == slot) && test (field_of_row m row)) has (any_satellite test m slot (suc row) (set_bits_from (suc place) w (rest - 2 ^ w))))
-
-  -- it is not
-  step-clear : (has : Bool) (row place w rest : ℕ) → rest < 2 ^ w
-      → (has || any_satellite test m slot row (set_bits_from (suc place) w rest)) ≡ (has || any_satellite test m slot row (set_bits_from place (suc w) rest))
-  unfolding set_bits_from
-  step-clear has row place w rest h =
-      let clear : nat_le (2 ^ w) rest ≡ false = lt-false (2 ^ w) rest h in
-      rw clear refl
+  -- one more satellite is looked at
+  step-set : (has new : Bool) (row place : ℕ) (bits : List ℕ) → new ≡ (((place == slot) && test (field_of_row m row)) || has)
+      → (new || any_satellite test m slot (suc row) bits) ≡ (has || any_satellite test m slot row (place ∷ bits))
+  step-set has new row place bits is = rw is (or-swap ((place == slot) && test (field_of_row m row)) has (any_satellite test m slot (suc row) bits))
 
   none-if : (b : Bool) (row place : ℕ) (more rest : List ℕ) → slot < place → any_satellite test m slot (suc row) more ≡ false → any_satellite test m slot row rest ≡ false
       → any_satellite test m slot row (if b then place ∷ more else rest) ≡ false
@@ -145,6 +200,10 @@ module _ (test : ℕ → Bool) (m : Msm) (slot : ℕ) where
       none-if (nat_le (2 ^ w) rest) row place (set_bits_from (suc place) w (rest - 2 ^ w)) (set_bits_from (suc place) w rest) lt
       (none-left (suc row) (suc place) w (rest - 2 ^ w) (omega arith)) (none-left row (suc place) w rest (omega arith))
 
+  none-after : (row rest : ℕ) → rest < 2 ^ 37 → slot ≤ 27 → any_satellite test m slot row (set_bits_from 1 64 rest) ≡ false
+  none-after row rest few is =
+      subst (λ (bits : List ℕ). any_satellite test m slot row bits ≡ false) (sym (bits-above 27 1 37 rest few)) (none-left row 28 37 rest (omega (arith, is)))
+
   or-false : (b c : Bool) → c ≡ false → (b || c) ≡ b
   or-false true c h = refl
   or-false false c h = h
@@ -156,70 +215,36 @@ module _ (test : ℕ → Bool) (m : Msm) (slot : ℕ) where
   or-turned a false false h = h
 
 -- a set has the slots of the satellites so far, and those of the satellites that are left are due
-abbrev pub HasSoFar : SatelliteTest → List (Option ℤ) → Msm → List Bool → List Bool → ℕ → ℕ → ℕ → Type 0
-HasSoFar test channels m old now before row rest =
+abbrev pub HasSoFar : SatelliteTest → List (Option ℤ) → Msm → List Bool → List Bool → ℕ → ℕ → Type 0
+HasSoFar test channels m old now row rest =
     (slot : ℕ) → IsSlot slot
-    → (has_slot now slot || any_satellite (holds_in_msm test channels slot) m slot row (set_bits_from (before + 1) (64 - before) rest))
+    → (has_slot now slot || any_satellite (holds_in_msm test channels slot) m slot row (set_bits_from 1 64 rest))
     ≡ (has_slot old slot || any_satellite (holds_in_msm test channels slot) m slot 0 (satellites_of m.header))
 
-pub so-far-none : (test : SatelliteTest) (channels : List (Option ℤ)) (m : Msm) (old : List Bool) → HasSoFar test channels m old old 0 0 m.header.satellite_mask
+pub so-far-none : (test : SatelliteTest) (channels : List (Option ℤ)) (m : Msm) (old : List Bool) → HasSoFar test channels m old old 0 m.header.satellite_mask
 so-far-none test channels m old = λ slot is. refl
 
-module _ (test : SatelliteTest) (channels : List (Option ℤ)) (m : Msm) (old now : List Bool) (before row rest : ℕ) where
+module _ (test : SatelliteTest) (channels : List (Option ℤ)) (m : Msm) (old now : List Bool) (row rest : ℕ) where
   -- one more satellite
-  pub so-far-set : (new : List Bool) → before < 27 → 2 ^ (63 - before) ≤ rest
-      → ((slot : ℕ) → IsSlot slot → has_slot new slot ≡ ((((before + 1) == slot) && holds_in_msm test channels slot (field_of_row m row)) || has_slot now slot))
-      → HasSoFar test channels m old now before row rest → HasSoFar test channels m old new (before + 1) (row + 1) (rest - 2 ^ (63 - before))
-  so-far-set new lt some puts h = λ slot is.
-      let wide : 64 - before ≡ suc (63 - before) = omega arith in
-      let next : 64 - (before + 1) ≡ 63 - before = omega arith in
-      let place : before + 1 + 1 ≡ suc (before + 1) = omega arith in
-      let rows : row + 1 ≡ suc row = omega arith in
-      ap (λ (w : ℕ). has_slot new slot || any_satellite (holds_in_msm test channels slot) m slot (row + 1) (set_bits_from (before + 1 + 1) w (rest - 2 ^ (63 - before)))) next
-      ∙ ap (λ (p : ℕ). has_slot new slot || any_satellite (holds_in_msm test channels slot) m slot (row + 1) (set_bits_from p (63 - before) (rest - 2 ^ (63 - before)))) place
-      ∙ ap (λ (r : ℕ). has_slot new slot || any_satellite (holds_in_msm test channels slot) m slot r (set_bits_from (suc (before + 1)) (63 - before) (rest - 2 ^ (63 - before)))) rows
-      ∙ step-set (holds_in_msm test channels slot) m slot (has_slot now slot) (has_slot new slot) row (before + 1) (63 - before) rest some (puts slot is)
-      ∙ ap (λ (w : ℕ). has_slot now slot || any_satellite (holds_in_msm test channels slot) m slot row (set_bits_from (before + 1) w rest)) (sym wide)
-      ∙ h slot is
-
-  -- the same, by what the code has
-  pub so-far-next : (new : List Bool) (field bit more left : ℕ) → field ≡ field_of_row m row → bit ≡ 2 ^ (63 - before) → more ≡ row + 1 → left ≡ rest - bit → before < 27 → bit ≤ rest
+  pub so-far-next : (new : List Bool) (before field : ℕ) → field ≡ field_of_row m row → before < 64 → 2 ^ (63 - before) ≤ rest → rest < 2 ^ (64 - before)
       → ((slot : ℕ) → IsSlot slot → has_slot new slot ≡ ((((before + 1) == slot) && holds_in_msm test channels slot field) || has_slot now slot))
-      → HasSoFar test channels m old now before row rest → HasSoFar test channels m old new (before + 1) more left
-  so-far-next new field bit more left told is one less lt some puts h =
-      let least : 2 ^ (63 - before) ≤ rest = subst (λ (n : ℕ). n ≤ rest) is some in
-      let fields = λ (slot : ℕ) (slot_is : IsSlot slot).
-      puts slot slot_is ∙ ap (λ (f : ℕ). (((before + 1) == slot) && holds_in_msm test channels slot f) || has_slot now slot) told in
-      let rest_is : rest - 2 ^ (63 - before) ≡ left = ap (λ (n : ℕ). rest - n) (sym is) ∙ sym less in
-      subst (λ (r : ℕ). HasSoFar test channels m old new (before + 1) r left) (sym one)
-      (subst (λ (n : ℕ). HasSoFar test channels m old new (before + 1) (row + 1) n) rest_is (so-far-set new lt least fields h))
-
-  -- a slot without a satellite
-  pub so-far-clear : before < 27 → rest < 2 ^ (63 - before) → HasSoFar test channels m old now before row rest → HasSoFar test channels m old now (before + 1) row rest
-  so-far-clear lt none h = λ slot is.
-      let wide : 64 - before ≡ suc (63 - before) = omega arith in
-      let next : 64 - (before + 1) ≡ 63 - before = omega arith in
-      let place : before + 1 + 1 ≡ suc (before + 1) = omega arith in
-      ap (λ (w : ℕ). has_slot now slot || any_satellite (holds_in_msm test channels slot) m slot row (set_bits_from (before + 1 + 1) w rest)) next
-      ∙ ap (λ (p : ℕ). has_slot now slot || any_satellite (holds_in_msm test channels slot) m slot row (set_bits_from p (63 - before) rest)) place
-      ∙ step-clear (holds_in_msm test channels slot) m slot (has_slot now slot) row (before + 1) (63 - before) rest none
-      ∙ ap (λ (w : ℕ). has_slot now slot || any_satellite (holds_in_msm test channels slot) m slot row (set_bits_from (before + 1) w rest)) (sym wide)
+      → HasSoFar test channels m old now row rest → HasSoFar test channels m old new (row + 1) (rest - 2 ^ (63 - before))
+  so-far-next new before field told inside from below puts h = λ slot is.
+      let rows : row + 1 ≡ suc row = omega arith in
+      let left = rest - 2 ^ (63 - before) in
+      let put = puts slot is ∙ ap (λ (f : ℕ). (((before + 1) == slot) && holds_in_msm test channels slot f) || has_slot now slot) told in
+      ap (λ (r : ℕ). has_slot new slot || any_satellite (holds_in_msm test channels slot) m slot r (set_bits_from 1 64 left)) rows
+      ∙ step-set (holds_in_msm test channels slot) m slot (has_slot now slot) (has_slot new slot) row (before + 1) (set_bits_from 1 64 left) put
+      ∙ ap (λ (bits : List ℕ). has_slot now slot || any_satellite (holds_in_msm test channels slot) m slot row bits) (sym (bits-first before rest inside from below))
       ∙ h slot is
-
-  pub so-far-stays : (bit more left : ℕ) → bit ≡ 2 ^ (63 - before) → more ≡ row → left ≡ rest → before < 27 → rest < bit
-      → HasSoFar test channels m old now before row rest → HasSoFar test channels m old now (before + 1) more left
-  so-far-stays bit more left is one less lt none h =
-      let least : rest < 2 ^ (63 - before) = subst (λ (n : ℕ). rest < n) is none in
-      subst (λ (r : ℕ). HasSoFar test channels m old now (before + 1) r left) (sym one)
-      (subst (λ (n : ℕ). HasSoFar test channels m old now (before + 1) row n) (sym less) (so-far-clear lt least h))
 
   -- all slots
-  pub so-far-all : 27 ≤ before → HasSoFar test channels m old now before row rest
+  pub so-far-all : rest < 2 ^ 37 → HasSoFar test channels m old now row rest
       → (slot : ℕ) → IsSlot slot → has_slot now slot ≡ (any_satellite (holds_in_msm test channels slot) m slot 0 (satellites_of m.header) || has_slot old slot)
-  so-far-all all h = λ slot is.
-      let none = none-left (holds_in_msm test channels slot) m slot row (before + 1) (64 - before) rest (let last = is.1 in omega arith) in
+  so-far-all few h = λ slot is.
+      let none = none-after (holds_in_msm test channels slot) m slot row rest few is.1 in
       or-turned (holds_in_msm test channels slot) m slot (has_slot now slot) (has_slot old slot) (any_satellite (holds_in_msm test channels slot) m slot 0 (satellites_of m.header))
-      (sym (or-false (holds_in_msm test channels slot) m slot (has_slot now slot) (any_satellite (holds_in_msm test channels slot) m slot row (set_bits_from (before + 1) (64 - before) rest)) none) ∙ h slot is)
+      (sym (or-false (holds_in_msm test channels slot) m slot (has_slot now slot) (any_satellite (holds_in_msm test channels slot) m slot row (set_bits_from 1 64 rest)) none) ∙ h slot is)
 
 -- ---- the satellites of a 1012
 

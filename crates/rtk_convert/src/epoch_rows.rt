@@ -9,30 +9,29 @@
 //! cell of the MSM has. Each of them takes a step of the last phases, also if its code is not listed,
 //! since a later phase is compared with it.
 
-ghost use Rattle.std.specs.Prelude.{◌≡◌, ◌≢◌, ℕ, ◌+◌, ◌^◌, ◌<◌, ◌≤◌, List, [], ◌∷◌, ◌++◌, map, length, Some, AllPairs, slice_range, slice_index_or, None, IfSome, IfNone, OnOk, All, Decides};
+ghost use Rattle.std.specs.Prelude.{◌≡◌, ℕ, ◌+◌, ◌^◌, ◌<◌, ◌≤◌, List, [], ◌∷◌, ◌++◌, map, length, Some, slice_range, slice_index_or, None, IfSome, IfNone, OnOk, All, Decides};
 ghost use Rattle.std.specs.Prelude.{IsTrue};
 ghost use Rattle.rtk_obs.specs.declared.any_code.AnyCode.{AnyCode};
 ghost use Rattle.rtk_obs.specs.declared.signal_cells.SignalEntry.{SignalEntry};
 ghost use Rattle.rtk_obs.specs.AnyCode.{place_of};
-ghost use Rattle.rtk_obs.specs.SatelliteIndex.{IsSatelliteIndex, letter_of, satellites_before, satellites_of_system};
+ghost use Rattle.rtk_obs.specs.SatelliteIndex.{IsSatelliteIndex};
 ghost use Rattle.rtk_obs.specs.SignalCells.{IsSignalInRange};
 ghost use Rattle.rtk_obs.specs.Tracks.{IsLater};
 ghost use Rattle.rtk_collect.specs.EpochSet.{EpochSetView};
 ghost use Rattle.rtk_rinex.specs.MixedHead.{IsMixedList};
-ghost use Rattle.rtk_rinex.specs.MixedHeader.{codes_of};
 ghost use Rattle.rtk_rinex.specs.declared.epoch_table.Observed.{Observed};
 ghost use Rattle.rtk_convert.specs.Epochs.{set_of};
 ghost use Rattle.rtk_convert.specs.LastPhases.{HasLastPhases, track_at};
-ghost use Rattle.rtk_convert.specs.Rows.{rolled_or_none, shift_or_none, observed_by, or_nothing, table_of};
+ghost use Rattle.rtk_convert.specs.Rows.{rolled_or_none, shift_or_none, observed_by, observed_with, or_nothing, table_of};
 ghost use Rattle.rtk_convert.specs.Steps.RowLines.{Keeps};
-ghost use Rattle.rtk_convert.specs.Steps.ShownCells.{AllBelow, MayStep, IsPlaceOf, IsLeastAt, HasCellsFrom, TellsSatellite, IsSetOfCodes, AreCellsTo, AreCodesBefore, AreCodesFrom, AreCodesTo, AreRowCodes, ShowsRow, ShowsSome, StepsOver, TakesCells, ArePlaces, HasFreeOf, IsFreeOf, with_place};
+ghost use Rattle.rtk_convert.specs.Steps.ShownCells.{AllBelow, MayStep, IsPlaceOf, IsLeastAt, HasCellsFrom, TellsSatellite, IsSetOfCodes, AreCellsTo, AreColumns, AreRowCodes, ShowsRow, ShowsSome, StepsOver, TakesCells, HasFreeOf, IsFreeOf, with_place};
 
 use crate::file_entry::FileEntry;
-use crate::row_lines::RowLines;
+use crate::row_form::{RowForm, form_from, renew_form};
+use crate::row_lines::{RowLines, put_doppler_code, put_plain_code};
 use arrayvec::ArrayVec;
 use rtk_collect::GatheredSet;
-use rtk_message::System;
-use rtk_obs::{AnyCode, Cell, Digits, GpsMs, SatelliteIndex, rolled};
+use rtk_obs::{AnyCode, Cell, Digits, rolled};
 use rtk_rinex::Observed;
 use std::alloc::AllocError;
 
@@ -72,146 +71,6 @@ fn observed(cell: &Cell, shift: i32, digits: Digits) -> Observed
     }
 }
 
-// The greatest number of codes of a system.
-const CODES: usize = 16;
-
-// Returns where each code stands among the codes of a row, by its place among those of its system, or 16.
-// A row has at most 16 codes, whose places are 0 to 15, so 16 is where none stands.
-#[inline(always)]
-fn columns_of(codes: &[AnyCode]) -> [u8; CODES]
-    requires few { length codes.now ≤ 16 }
-    requires distinct { AllPairs (λ a b. place_of a ≢ place_of b) codes.now }
-    ensures { ArePlaces codes.now result }
-{
-    let mut columns = [16; CODES];
-    for k in 0..codes.len() {
-        columns[codes[k].place()] = k as u8;
-    }
-    columns
-}
-
-// What the rows of the satellites of a system have in common.
-#[derive(Clone, Copy)]
-struct RowForm<'a> {
-    epoch: GpsMs,
-    // The listed codes of the system.
-    codes: &'a [AnyCode],
-    // Where each code stands among them, or 16.
-    columns: [u8; CODES],
-    // The last satellite of the system.
-    last: u8,
-}
-
-// Returns the last satellite of a system.
-fn last_satellite(system: System) -> u8
-    ensures { result ≡ satellites_before system + satellites_of_system system }
-{
-    match system {
-        System::Gps => 32,
-        System::Glonass => 59,
-        System::Galileo => 95,
-        System::Beidou => 158,
-        System::Qzss => 168,
-        System::Sbas => 207,
-        System::Navic => 221,
-    }
-}
-
-// Returns how many of the first codes are not of a system, and are before its codes.
-fn codes_before(listed: &[AnyCode], system: System) -> usize
-    requires { IsMixedList listed.now }
-    ensures { AreCodesBefore listed.now system result }
-{
-    for at in 0..listed.len() {
-        if listed[at].system() == system {
-            return at;
-        }
-    }
-    listed.len()
-}
-
-// Returns where the codes of a system end that begin at a place.
-fn codes_end(listed: &[AnyCode], system: System, begin: usize) -> usize
-    requires { begin ≤ length listed.now }
-    ensures { AreCodesFrom listed.now system begin result }
-{
-    for end in begin..listed.len() {
-        if listed[end].system() == system {
-            continue;
-        }
-        return end;
-    }
-    listed.len()
-}
-
-// Returns the codes of a system, which stand one after another. All codes are of the system if the first and the
-// last one are, as in each file of one system.
-#[inline(always)]
-fn codes_of(listed: &[AnyCode], system: System) -> &[AnyCode]
-    requires { IsMixedList listed.now }
-    ensures { result.now ≡ codes_of (letter_of system) listed.now }
-{
-    let first = listed[0].system();
-    let last = listed[listed.len() - 1].system();
-    if first == system && last == system {
-        return listed;
-    }
-    let begin = codes_before(listed, system);
-    let end = codes_end(listed, system, begin);
-    &listed[begin..end]
-}
-
-// Returns what the rows from this satellite on have in common, up to the last one of its system. It is inlined,
-// since an epoch begins with the first satellite, of which much is known beforehand.
-#[inline(always)]
-fn form_from(epoch: GpsMs, listed: &[AnyCode], satellite: u8) -> RowForm<'_>
-    requires listed { IsMixedList listed.now }
-    requires satellite { IsSatelliteIndex satellite }
-    ensures epoch { result.epoch ≡ epoch }
-    ensures codes { AreCodesTo listed.now satellite result.last result.codes.now }
-    ensures columns { ArePlaces result.codes.now result.columns }
-    ensures last { (satellite ≤ result.last) × (result.last ≤ 221) }
-    ensures least { 32 ≤ result.last }
-{
-    let Some(index) = SatelliteIndex::new(satellite) else {
-        unreachable!()
-    };
-    let system = index.system();
-    let codes = codes_of(listed, system);
-    RowForm {
-        epoch,
-        codes,
-        columns: columns_of(codes),
-        last: last_satellite(system),
-    }
-}
-
-// Makes the form anew for the row of a satellite that is behind the last one of the form's system. There is a
-// row for each satellite of each epoch, so no copy is made of a form that stays, and where all rows are of GPS
-// nothing is asked.
-#[inline(always)]
-fn renew_form<'a, E: FileEntry>(form: &mut RowForm<'a>, listed: &'a [AnyCode], satellite: u8)
-    requires listed { IsMixedList listed.now }
-    requires satellite { IsSatelliteIndex satellite }
-    requires within { satellite ≤ E.Lines.greatest }
-    requires codes { satellite ≤ form.old.last → AreCodesTo listed.now satellite form.old.last form.old.codes.now }
-    requires columns { ArePlaces form.old.codes.now form.old.columns }
-    requires last { form.old.last ≤ 221 }
-    requires least { 32 ≤ form.old.last }
-    ensures epoch { form.new.epoch ≡ form.old.epoch }
-    ensures codes { AreCodesTo listed.now satellite form.new.last form.new.codes.now }
-    ensures columns { ArePlaces form.new.codes.now form.new.columns }
-    ensures last { (satellite ≤ form.new.last) × (form.new.last ≤ 221) }
-    ensures least { 32 ≤ form.new.last }
-{
-    if E::Lines::has_gps_alone() {
-        return;
-    }
-    if satellite > form.last {
-        *form = form_from(form.epoch, listed, satellite);
-    }
-}
-
 // A place in each list of the cells of an epoch.
 #[derive(Clone, Copy)]
 struct CellPlaces {
@@ -219,19 +78,43 @@ struct CellPlaces {
     legacy: usize,
 }
 
-// Writes what the code with a place shows in the open line, if it is listed.
+// Returns what the file shows of a cell with these digits.
 #[inline(always)]
-fn put_listed<L: RowLines>(form: &RowForm<'_>, place: usize, shown: &Observed, lines: &mut L)
-    requires place { place < 16 }
-    requires columns { ArePlaces form.now.codes.now form.now.columns }
-    requires free { HasFreeOf L.HasLine lines.old place form.now.codes.now }
-    ensures open { (row : List Observed) → L.HasLine lines.old row → IsFreeOf place form.now.codes.now row
-        → L.HasLine lines.new (with_place place shown.now form.now.codes.now row) }
-    ensures lines { Keeps L.HasRows lines.old lines.new }
+fn shown_of<E: FileEntry>(entry: &E, digits: Digits) -> Observed
+    ensures { result ≡ observed_with (E.signal_of entry.now) digits }
 {
+    E::cells_are_signals();
+    observed(entry.cell(), entry.doppler(), digits)
+}
+
+// Writes what a cell with a place and with these digits shows in the open line, if its code is listed. In a file without
+// Doppler shifts, as nearly all files are, no cell is asked whether they are shown, and none makes its shift.
+#[inline(always)]
+fn put_listed<E: FileEntry>(
+    form: &RowForm<'_>,
+    entry: &E,
+    place: usize,
+    digits: Digits,
+    lines: &mut E::Lines,
+)
+    requires place { place < 16 }
+    requires columns { AreColumns form.now.doppler form.now.plain form.now.codes.now form.now.columns }
+    requires free { HasFreeOf (E.Lines.HasLine form.now.doppler) lines.old place form.now.codes.now }
+    ensures open { (row : List Observed) → E.Lines.HasLine form.now.doppler lines.old row → IsFreeOf place form.now.codes.now row
+        → E.Lines.HasLine form.now.doppler lines.new (with_place place (observed_with (E.signal_of entry.now) digits) form.now.codes.now row) }
+    ensures lines { Keeps E.Lines.HasRows lines.old lines.new }
+{
+    let plain = form.plain;
+    let listed = form.codes.len();
     let column = usize::from(form.columns[place]);
-    if column < form.codes.len() {
-        lines.put_code(column, shown);
+    if column < plain {
+        let shown = shown_of(entry, digits);
+        put_plain_code(lines, column, &shown);
+        return;
+    }
+    if column < listed {
+        let shifted = shown_of(entry, digits);
+        put_doppler_code(lines, column, &shifted);
     }
 }
 
@@ -248,15 +131,13 @@ fn show_entry<E: FileEntry>(
     requires place { place ≡ place_of (E.signal_of entry.now).code }
     requires below { place < 16 }
     requires later { IsLater (track_at (E.places phases.old) (E.signal_of entry.now).satellite (E.signal_of entry.now).code) form.now.epoch }
-    requires columns { ArePlaces form.now.codes.now form.now.columns }
-    requires free { HasFreeOf E.Lines.HasLine lines.old (place_of (E.signal_of entry.now).code) form.now.codes.now }
-    ensures { StepsOver E.Lines.HasRows E.Lines.HasLine form.now.epoch (E.signal_of entry.now) form.now.codes.now
+    requires columns { AreColumns form.now.doppler form.now.plain form.now.codes.now form.now.columns }
+    requires free { HasFreeOf (E.Lines.HasLine form.now.doppler) lines.old (place_of (E.signal_of entry.now).code) form.now.codes.now }
+    ensures { StepsOver E.Lines.HasRows (E.Lines.HasLine form.now.doppler) form.now.epoch (E.signal_of entry.now) form.now.codes.now
         (E.places phases.old) (E.places phases.new) lines.old lines.new }
 {
-    E::cells_are_signals();
     let digits = entry.step(phases, form.epoch);
-    let shown = observed(entry.cell(), entry.doppler(), digits);
-    put_listed(form, place, &shown, lines);
+    put_listed(form, entry, place, digits, lines);
 }
 
 // Returns the set that has only the code with a place. The bit of a code in a set of codes is at its place.
@@ -312,9 +193,9 @@ fn show_cells<E: FileEntry>(
     requires ranges { All E.InRange entries.now }
     requires cells { HasCellsFrom satellite (map E.signal_of entries.now) begin }
     requires later { MayStep (E.places phases.old) (map E.signal_of earlier.now) satellite form.now.epoch }
-    requires columns { ArePlaces form.now.codes.now form.now.columns }
-    requires shows { ShowsSome E.Lines.HasLine form.now.epoch (map E.signal_of earlier.now) satellite form.now.codes.now (E.places phases.old) lines.old }
-    ensures takes { TakesCells E.Lines.HasRows E.Lines.HasLine form.now.epoch (map E.signal_of earlier.now) (map E.signal_of entries.now)
+    requires columns { AreColumns form.now.doppler form.now.plain form.now.codes.now form.now.columns }
+    requires shows { ShowsSome (E.Lines.HasLine form.now.doppler) form.now.epoch (map E.signal_of earlier.now) satellite form.now.codes.now (E.places phases.old) lines.old }
+    ensures takes { TakesCells E.Lines.HasRows (E.Lines.HasLine form.now.doppler) form.now.epoch (map E.signal_of earlier.now) (map E.signal_of entries.now)
         begin result satellite form.now.codes.now (E.places phases.old) lines.old (E.places phases.new) lines.new }
     ensures next { IsPlaceOf (satellite + 1) (map E.signal_of entries.now) result }
 {
@@ -370,9 +251,9 @@ fn fill_line<E: FileEntry>(
     requires msm { HasCellsFrom satellite (map E.signal_of msm.now) at.msm }
     requires legacy { HasCellsFrom satellite (map E.signal_of legacy.now) at.legacy }
     requires later { MayStep (E.places phases.old) [] satellite form.now.epoch }
-    requires columns { ArePlaces form.now.codes.now form.now.columns }
-    requires open { E.Lines.HasLine lines.old (map (λ code. or_nothing None) form.now.codes.now) }
-    ensures shows { ShowsRow E.Lines.HasLine (E.places phases.old) form.now.epoch
+    requires columns { AreColumns form.now.doppler form.now.plain form.now.codes.now form.now.columns }
+    requires open { E.Lines.HasLine form.now.doppler lines.old (map (λ code. or_nothing None) form.now.codes.now) }
+    ensures shows { ShowsRow (E.Lines.HasLine form.now.doppler) (E.places phases.old) form.now.epoch
         (slice_range (map E.signal_of msm.now) at.msm result.msm ++ slice_range (map E.signal_of legacy.now) at.legacy result.legacy)
         satellite form.now.codes.now (E.places phases.new) lines.new }
     ensures lines { Keeps E.Lines.HasRows lines.old lines.new }
@@ -427,7 +308,7 @@ pub(crate) fn push_rows<E: FileEntry>(
     let epoch = set.epoch();
     let msm = set.msm_cells();
     let legacy = set.legacy_left(room);
-    let mut form = form_from(epoch, listed, 1);
+    let mut form = form_from(epoch, doppler, listed, 1);
     let mut at = CellPlaces { msm: 0, legacy: 0 };
     'satellites: while let Some(satellite) = next_satellite(msm, legacy, at) {
         renew_form::<E>(&mut form, listed, satellite);

@@ -66,6 +66,7 @@ mod link_state;
 mod message_class;
 mod remarks;
 mod report;
+mod row_form;
 mod row_lines;
 mod runs;
 mod signal_phases;

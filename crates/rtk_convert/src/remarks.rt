@@ -1,13 +1,13 @@
 //! What the messages of a conversion tell for the last lines of its report.
 
-ghost use Rattle.std.specs.Prelude.{◌≡◌, ℤ, Option, IfOk};
+ghost use Rattle.std.specs.Prelude.{◌≡◌, ◌≢◌, ◌<◌, ◌≤◌, ◌-◌, ◌^◌, ℤ, Option, IfOk};
 ghost use Rattle.rtk_message.specs.declared.any_message.AnyMessage.TheVariants as AnyMessage;
 ghost use Rattle.rtk_message.specs.declared.system.System.TheVariants.{Glonass};
 ghost use Rattle.rtk_obs.specs.Carriers.{IsSlot, channel_at};
 ghost use Rattle.rtk_obs.specs.GlonassCells.{agrees_in_1012};
 ghost use Rattle.rtk_obs.specs.SatelliteIndex.{is_taken};
 ghost use Rattle.rtk_obs.specs.SignalCells.{agrees_with, field_of_row};
-ghost use Rattle.rtk_convert.specs.Slots.{is_without_channel, is_of_other_channel, holds_in_msm, holds_in_1012};
+ghost use Rattle.rtk_convert.specs.Slots.{is_without_channel, is_of_other_channel, holds_in_1012};
 ghost use Rattle.rtk_convert.specs.Steps.Remarks.{HasNoRemarks, PutsSlot, PutsSatellite, PutsSatellites, PutsSatellite1012, PutsSatellites1012, PutsSlots};
 
 use crate::slots::{SLOTS, Slots};
@@ -29,23 +29,15 @@ pub(crate) struct Remarks {
 // The field of a satellite of GLONASS (DF419) that tells no channel.
 const NO_CHANNEL: u8 = 15;
 
+// The bit of the last slot, 27, in the mask of satellites (DF394), whose most significant bit is that of slot 1.
+const LAST_SLOT: u64 = 0x20_0000_0000;
+
 // Returns whether the field of a satellite tells this channel, or none. The field is 7 greater than the number
 // of its channel.
 fn agrees_with(channel: Channel, field: u8) -> bool
     ensures { result ≡ agrees_with channel field }
 {
     field == NO_CHANNEL || i16::from(field) == i16::from(channel.number()) + 7
-}
-
-// Returns whether a slot has a channel, and the field of its satellite in an MSM tells another one.
-fn is_of_other_channel(channels: &Channels, slot: u8, field: u8) -> bool
-    requires { IsSlot slot }
-    ensures { result ≡ holds_in_msm is_of_other_channel channels.now slot field }
-{
-    match channels.channel(slot) {
-        Some(channel) => !agrees_with(channel, field),
-        None => false,
-    }
 }
 
 // Returns whether a slot has no channel.
@@ -80,31 +72,43 @@ fn put_slot(remarks: &mut Remarks, slot: u8, is_other: bool, is_without: bool)
     }
 }
 
-// Puts the satellite of a slot of an MSM, with its field, into the sets that it belongs to.
+// Puts the satellite of a slot of an MSM, with its field, into the set that it belongs to: mostly none. The channel of
+// the slot is looked at once.
 fn put_satellite(remarks: &mut Remarks, channels: &Channels, slot: u8, field: u8)
     requires { IsSlot slot }
     ensures { PutsSatellite channels.now slot field remarks.old remarks.new }
 {
-    let is_other = is_of_other_channel(channels, slot, field);
-    let is_without = is_without_channel(channels, slot);
-    put_slot(remarks, slot, is_other, is_without);
+    match channels.channel(slot) {
+        Some(channel) => remarks
+            .other_channels
+            .put_if(slot, !agrees_with(channel, field)),
+        None => remarks.no_channels.put(slot),
+    }
 }
 
-// Puts the satellites of an MSM into the sets that they belong to. The first satellite has the most
-// significant bit of the mask.
+// Returns how many bits of a mask stand before the first one that is set, which is the most significant one.
+fn bits_before(mask: u64) -> usize
+    requires { mask ≢ 0 }
+    ensures from { 2 ^ (63 - result) ≤ mask }
+    ensures below { mask < 2 ^ (64 - result) }
+    ensures inside { result < 64 }
+{
+    mask.leading_zeros() as usize
+}
+
+// Puts the satellites of an MSM into the sets that they belong to.
 fn put_satellites(remarks: &mut Remarks, channels: &Channels, message: &Msm)
     ensures { PutsSatellites channels.now message.now remarks.old remarks.new }
 {
     let mut rest = message.header.satellite_mask;
     let mut row = 0;
-    for before in 0..SLOTS {
+    'satellites: while rest >= LAST_SLOT {
+        let before = bits_before(rest);
+        let field = field_of_row(message, row);
+        put_satellite(remarks, channels, before as u8 + 1, field);
         let bit = 1u64 << (63 - before);
-        if bit <= rest {
-            let field = field_of_row(message, row);
-            put_satellite(remarks, channels, before as u8 + 1, field);
-            rest -= bit;
-            row += 1;
-        }
+        rest -= bit;
+        row += 1;
     }
 }
 

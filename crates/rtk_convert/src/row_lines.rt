@@ -18,8 +18,8 @@ pub(crate) trait RowLines: Drop + Sized {
     /// The text has the lines of these rows, with Doppler shifts or without them.
     ghost HasRows: { Self → Bool → List SatelliteRow → Type 0 };
 
-    /// A line is open whose codes show this.
-    ghost HasLine: { Self → List Observed → Type 0 };
+    /// A line is open whose codes show this, with Doppler shifts or without them.
+    ghost HasLine: { Bool → Self → List Observed → Type 0 };
 
     /// The lines can show Doppler shifts, or they can show none.
     ghost CanShow: { Bool → Type 0 };
@@ -43,14 +43,16 @@ pub(crate) trait RowLines: Drop + Sized {
     fn open_line(&mut self, codes: usize) -> Result<(), AllocError>
         requires few { codes ≤ 16 }
         requires room { HasRoom HasRows greatest self.old }
-        ensures open { OnOk result (HasLine self.new (replicate codes no_observation)) }
+        ensures open { OnOk result ((doppler : Bool) (rows : List SatelliteRow) → HasRows self.old doppler rows
+            → HasLine doppler self.new (replicate codes no_observation)) }
         ensures rows { Keeps HasRows self.old self.new };
 
-    /// Writes what a code shows at its place in the open line, in which it shows nothing yet.
-    fn put_code(&mut self, place: usize, observed: &Observed)
-        requires { HasFree HasLine self.old place }
-        ensures open { (row : List Observed) → HasLine self.old row → IsFreeIn true row place
-            → HasLine self.new (slice_set row place observed.now) }
+    /// Writes what a code shows at its place in the open line, in which it shows nothing yet, in a record with Doppler
+    /// shifts or without them. It is inlined where this is known, so that no cell is asked.
+    fn put_code(&mut self, doppler: bool, place: usize, observed: &Observed)
+        requires { HasFree (HasLine doppler) self.old place }
+        ensures open { (row : List Observed) → HasLine doppler self.old row → IsFreeIn true row place
+            → HasLine doppler self.new (slice_set row place observed.now) }
         ensures rows { Keeps HasRows self.old self.new };
 
     /// Ends the open line as that of this satellite. A line without a written observation is left out.
@@ -58,8 +60,8 @@ pub(crate) trait RowLines: Drop + Sized {
         requires satellite { IsSatelliteIndex satellite }
         requires within { satellite ≤ greatest }
         requires room { HasRoom HasRows greatest self.old }
-        requires open { (row : List Observed) × HasLine self.old row }
-        ensures { (doppler : Bool) (rows : List SatelliteRow) (observed : List Observed) → HasRows self.old doppler rows → HasLine self.old observed
+        requires open { (doppler : Bool) × (row : List Observed) × HasLine doppler self.old row }
+        ensures { (doppler : Bool) (rows : List SatelliteRow) (observed : List Observed) → HasRows self.old doppler rows → HasLine doppler self.old observed
             → HasRows self.new doppler (rows ++ record { satellite = satellite; observed = record { items = observed } } ∷ []) };
 
     /// Writes the epoch line before the lines if there are any. The text is the record then.
@@ -82,13 +84,12 @@ pub(crate) trait RowLines: Drop + Sized {
 }
 
 impl RowLines for RecordLines {
-    ghost use Rattle.rtk_rinex.specs.RecordLines.{HasOpenLine};
     ghost use Rattle.std.specs.Prelude.{◌≡◌, false};
-    ghost use Rattle.rtk_convert.specs.Steps.RowLines.{HasGpsRows};
+    ghost use Rattle.rtk_convert.specs.Steps.RowLines.{HasGpsLine, HasGpsRows};
 
     ghost HasRows = { HasGpsRows };
 
-    ghost HasLine = { HasOpenLine false };
+    ghost HasLine = { HasGpsLine };
 
     ghost CanShow = { λ doppler. doppler ≡ false };
 
@@ -110,8 +111,9 @@ impl RowLines for RecordLines {
         RecordLines::open_line(self, codes)
     }
 
+    // No record of GPS has Doppler shifts.
     #[inline(always)]
-    fn put_code(&mut self, place: usize, observed: &Observed) {
+    fn put_code(&mut self, _doppler: bool, place: usize, observed: &Observed) {
         RecordLines::put_code(self, place, observed);
     }
 
@@ -138,12 +140,11 @@ impl RowLines for RecordLines {
 }
 
 impl RowLines for MixedRecordLines {
-    ghost use Rattle.rtk_rinex.specs.MixedRecord.{HasOpenMixedLine};
-    ghost use Rattle.rtk_convert.specs.Steps.RowLines.{HasMixedRows};
+    ghost use Rattle.rtk_convert.specs.Steps.RowLines.{HasMixedLine, HasMixedRows};
 
     ghost HasRows = { HasMixedRows };
 
-    ghost HasLine = { HasOpenMixedLine };
+    ghost HasLine = { HasMixedLine };
 
     ghost CanShow = { λ doppler. Unit {0} };
 
@@ -164,8 +165,12 @@ impl RowLines for MixedRecordLines {
     }
 
     #[inline(always)]
-    fn put_code(&mut self, place: usize, observed: &Observed) {
-        MixedRecordLines::put_code(self, place, observed);
+    fn put_code(&mut self, doppler: bool, place: usize, observed: &Observed) {
+        if doppler {
+            MixedRecordLines::put_doppler_code(self, place, observed);
+            return;
+        }
+        MixedRecordLines::put_plain_code(self, place, observed);
     }
 
     fn close_line(&mut self, satellite: u8) {
@@ -188,4 +193,26 @@ impl RowLines for MixedRecordLines {
     }
 
     fn blank_rows_are_left_out() {}
+}
+
+/// Writes what a code shows in a record without Doppler shifts.
+#[inline(always)]
+pub(crate) fn put_plain_code<L: RowLines>(lines: &mut L, place: usize, observed: &Observed)
+    requires { HasFree (L.HasLine false) lines.old place }
+    ensures open { (row : List Observed) → L.HasLine false lines.old row → IsFreeIn true row place
+        → L.HasLine false lines.new (slice_set row place observed.now) }
+    ensures rows { Keeps L.HasRows lines.old lines.new }
+{
+    lines.put_code(false, place, observed);
+}
+
+/// Writes what a code shows in a record with Doppler shifts.
+#[inline(always)]
+pub(crate) fn put_doppler_code<L: RowLines>(lines: &mut L, place: usize, observed: &Observed)
+    requires { HasFree (L.HasLine true) lines.old place }
+    ensures open { (row : List Observed) → L.HasLine true lines.old row → IsFreeIn true row place
+        → L.HasLine true lines.new (slice_set row place observed.now) }
+    ensures rows { Keeps L.HasRows lines.old lines.new }
+{
+    lines.put_code(true, place, observed);
 }

@@ -39,8 +39,8 @@ impl Slots {
         }
     }
 
-    // Puts a slot into the set.
-    fn put(&mut self, slot: u8)
+    /// Puts a slot into the set.
+    pub(crate) fn put(&mut self, slot: u8)
         requires { IsSlot slot }
         ensures set { has_slot self.new slot ≡ true }
         ensures others { (s : ℕ) → IsSlot s → s ≢ slot → has_slot self.new s ≡ has_slot self.old s }

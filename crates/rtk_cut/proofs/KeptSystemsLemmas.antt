@@ -22,8 +22,9 @@ use Rattle.rtk_rinex.specs.MixedHeader.{codes_of}
 use Rattle.rtk_rinex.specs.MixedTable.{MixedTable, IsMixedTable, IsMixedRow, IsMixedEpoch}
 use Rattle.rtk_obs.specs.Reading.{IsMoment}
 use Rattle.rtk_rinex.specs.Record.{EpochTableView}
-use Rattle.rtk_cut.specs.declared.kept_systems.KeptSystems.{KeptSystems}
-use Rattle.rtk_cut.specs.KeptSystems.{keeps, kept_codes, kept_glonass, kept_head, keeps_row, kept_epoch, keeps_some, kept_epochs, kept_table}
+use Rattle.rtk_rinex.specs.declared.system_flags.SystemFlags.{SystemFlags}
+use Rattle.rtk_rinex.specs.SystemFlags.{flag_of}
+use Rattle.rtk_cut.specs.KeptSystems.{kept_codes, kept_glonass, kept_head, keeps_row, kept_epoch, keeps_some, kept_epochs, kept_table}
 use Rattle.rtk_cut.specs.KeptLaws.{HasRowAt}
 use Rattle.rtk_cut.proofs.AnyLemmas.{any-here, any-there, any-split, any-where, any-weaker, any-map, any-unmap, any-filter}
 use Rattle.rtk_cut.proofs.LawLemmas.{first-starts, first-good}
@@ -137,41 +138,41 @@ pub one-system : (s t : System) → letter_of s ≡ letter_of t → s ≡ t
 one-system s t e = sym (letter-back s) ∙ ap system_for e ∙ letter-back t
 
 -- a code with the letter of a system is kept as the system is
-keeps-letter : (ks : KeptSystems) (s : System) (b : Bool) (c : AnyCode) → keeps ks s ≡ b → (letter c == letter_of s) ≡ true → keeps ks (system_of c) ≡ b
-keeps-letter ks s b c kept is = ap (keeps ks) (one-system (system_of c) s (eqb-true (letter c) (letter_of s) is)) ∙ kept
+keeps-letter : (ks : SystemFlags) (s : System) (b : Bool) (c : AnyCode) → flag_of ks s ≡ b → (letter c == letter_of s) ≡ true → flag_of ks (system_of c) ≡ b
+keeps-letter ks s b c kept is = ap (flag_of ks) (one-system (system_of c) s (eqb-true (letter c) (letter_of s) is)) ∙ kept
 
-codes-same : (ks : KeptSystems) (s : System) (listed : List AnyCode) → keeps ks s ≡ true → codes_of (letter_of s) (kept_codes ks listed) ≡ codes_of (letter_of s) listed
-codes-same ks s listed kept = filter-twice (λ c. keeps ks (system_of c)) (λ c. letter c == letter_of s) (λ c is. keeps-letter ks s true c kept is) listed
+codes-same : (ks : SystemFlags) (s : System) (listed : List AnyCode) → flag_of ks s ≡ true → codes_of (letter_of s) (kept_codes ks listed) ≡ codes_of (letter_of s) listed
+codes-same ks s listed kept = filter-twice (λ c. flag_of ks (system_of c)) (λ c. letter c == letter_of s) (λ c is. keeps-letter ks s true c kept is) listed
 
 -- ---- the head
 
-pub kept-list : (ks : KeptSystems) (listed : List AnyCode) → IsMixedList listed → (kept_codes ks listed ≡ [] → ⊥) → IsMixedList (kept_codes ks listed)
+pub kept-list : (ks : SystemFlags) (listed : List AnyCode) → IsMixedList listed → (kept_codes ks listed ≡ [] → ⊥) → IsMixedList (kept_codes ks listed)
 kept-list ks listed good some =
-    let short = filter-short (λ c. keeps ks (system_of c)) listed in
+    let short = filter-short (λ c. flag_of ks (system_of c)) listed in
     let most = good.count.1 in
     record {
       count = (nonempty (kept_codes ks listed) some, omega (arith, short, most));
-      order = AllPairs-filter AreInOrder (λ c. keeps ks (system_of c)) listed good.order;
+      order = AllPairs-filter AreInOrder (λ c. flag_of ks (system_of c)) listed good.order;
     }
 
-tells-if : (ks : KeptSystems) (listed : List AnyCode) (g : Option GlonassView) (b : Bool) → keeps ks Glonass ≡ b → TellsGlonass listed g → TellsGlonass (kept_codes ks listed) (if b then g else None)
+tells-if : (ks : SystemFlags) (listed : List AnyCode) (g : Option GlonassView) (b : Bool) → flag_of ks Glonass ≡ b → TellsGlonass listed g → TellsGlonass (kept_codes ks listed) (if b then g else None)
 tells-if ks listed None true kept told =
-    any-of_kept (λ c. keeps ks (system_of c)) (λ c. letter c == 82) (λ c is. keeps-letter ks Glonass true c kept is) listed ∙ told
+    any-of_kept (λ c. flag_of ks (system_of c)) (λ c. letter c == 82) (λ c is. keeps-letter ks Glonass true c kept is) listed ∙ told
 tells-if ks listed (Some g) true kept told =
-    (any-of_kept (λ c. keeps ks (system_of c)) (λ c. letter c == 82) (λ c is. keeps-letter ks Glonass true c kept is) listed ∙ told.0, told.1)
+    (any-of_kept (λ c. flag_of ks (system_of c)) (λ c. letter c == 82) (λ c is. keeps-letter ks Glonass true c kept is) listed ∙ told.0, told.1)
 tells-if ks listed g false kept told =
-    any-of_gone (λ c. keeps ks (system_of c)) (λ c. letter c == 82) (λ c is. keeps-letter ks Glonass false c kept is) listed
+    any-of_gone (λ c. flag_of ks (system_of c)) (λ c. letter c == 82) (λ c is. keeps-letter ks Glonass false c kept is) listed
 
-pub tells-kept : (ks : KeptSystems) (listed : List AnyCode) (g : Option GlonassView) → TellsGlonass listed g → TellsGlonass (kept_codes ks listed) (kept_glonass ks g)
+pub tells-kept : (ks : SystemFlags) (listed : List AnyCode) (g : Option GlonassView) → TellsGlonass listed g → TellsGlonass (kept_codes ks listed) (kept_glonass ks g)
 tells-kept ks listed g told = tells-if ks listed g ks.glonass refl told
 
 -- parts that are kept make a head
-pub kept-no_fault : (ks : KeptSystems) (listed : List AnyCode) (g : Option GlonassView) (f : MixedHeadFault) → IsMixedList listed → TellsGlonass listed g → (kept_codes ks listed ≡ [] → ⊥)
+pub kept-no_fault : (ks : SystemFlags) (listed : List AnyCode) (g : Option GlonassView) (f : MixedHeadFault) → IsMixedList listed → TellsGlonass listed g → (kept_codes ks listed ≡ [] → ⊥)
     → IsMixedHeadFault (kept_codes ks listed) (kept_glonass ks g) f → ⊥
 kept-no_fault ks listed g Codes good told some bad = bad (kept-list ks listed good some)
 kept-no_fault ks listed g NotTold good told some bad = bad.1 (tells-kept ks listed g told)
 
-kept-head : (ks : KeptSystems) (h : MixedHeadView) → IsMixedHead h → (kept_codes ks h.listed ≡ [] → ⊥) → IsMixedHead (kept_head ks h)
+kept-head : (ks : SystemFlags) (h : MixedHeadView) → IsMixedHead h → (kept_codes ks h.listed ≡ [] → ⊥) → IsMixedHead (kept_head ks h)
 kept-head ks h good some = record {
   marker = good.marker;
   listed = kept-list ks h.listed good.listed some;
@@ -182,7 +183,7 @@ kept-head ks h good some = record {
 
 -- ---- the rows
 
-width-same : (ks : KeptSystems) (h : MixedHeadView) (s : System) → keeps ks s ≡ true → codes_in (form_of_head (kept_head ks h)) s ≡ codes_in (form_of_head h) s
+width-same : (ks : SystemFlags) (h : MixedHeadView) (s : System) → flag_of ks s ≡ true → codes_in (form_of_head (kept_head ks h)) s ≡ codes_in (form_of_head h) s
 width-same ks h Gps kept = ap length (codes-same ks Gps h.listed kept)
 width-same ks h Glonass kept = ap length (codes-same ks Glonass h.listed kept)
 width-same ks h Galileo kept = ap length (codes-same ks Galileo h.listed kept)
@@ -191,7 +192,7 @@ width-same ks h Qzss kept = ap length (codes-same ks Qzss h.listed kept)
 width-same ks h Sbas kept = ap length (codes-same ks Sbas h.listed kept)
 width-same ks h Navic kept = ap length (codes-same ks Navic h.listed kept)
 
-phases-same : (ks : KeptSystems) (h : MixedHeadView) (s : System) (bit : ℕ) → keeps ks s ≡ true → phases_in (form_of_head (kept_head ks h)) s bit ≡ phases_in (form_of_head h) s bit
+phases-same : (ks : SystemFlags) (h : MixedHeadView) (s : System) (bit : ℕ) → flag_of ks s ≡ true → phases_in (form_of_head (kept_head ks h)) s bit ≡ phases_in (form_of_head h) s bit
 phases-same ks h Gps bit kept = refl
 phases-same ks h Glonass bit kept = ap (λ b. has_channel (if b then h.glonass else None) bit) kept
 phases-same ks h Galileo bit kept = refl
@@ -200,7 +201,7 @@ phases-same ks h Qzss bit kept = refl
 phases-same ks h Sbas bit kept = refl
 phases-same ks h Navic bit kept = refl
 
-row-stays : (ks : KeptSystems) (h : MixedHeadView) (r : SatelliteRow) → keeps_row ks r ≡ true → IsMixedRow (form_of_head h) r → IsMixedRow (form_of_head (kept_head ks h)) r
+row-stays : (ks : SystemFlags) (h : MixedHeadView) (r : SatelliteRow) → keeps_row ks r ≡ true → IsMixedRow (form_of_head h) r → IsMixedRow (form_of_head (kept_head ks h)) r
 row-stays ks h r kept row = record {
   satellite = row.satellite;
   width = row.width ∙ sym (width-same ks h (system_at r.satellite) kept);
@@ -209,7 +210,7 @@ row-stays ks h r kept row = record {
   line = row.line;
 }
 
-epoch-stays : (ks : KeptSystems) (h : MixedHeadView) (e : EpochTableView) → keeps_some ks e ≡ true → IsMixedEpoch (form_of_head h) e → IsMixedEpoch (form_of_head (kept_head ks h)) (kept_epoch ks e)
+epoch-stays : (ks : SystemFlags) (h : MixedHeadView) (e : EpochTableView) → keeps_some ks e ≡ true → IsMixedEpoch (form_of_head h) e → IsMixedEpoch (form_of_head (kept_head ks h)) (kept_epoch ks e)
 epoch-stays ks h e some good =
     let p : SatelliteRow → Bool = λ r. keeps_row ks r in
     let passed = filter_passes p e.rows in
@@ -226,7 +227,7 @@ epoch-stays ks h e some good =
 no_epoch : EpochTableView
 no_epoch = record { time = 0; rows = [] }
 
-pub kept-good : (ks : KeptSystems) (t : MixedTable) → IsMixedTable t → (kept_codes ks t.head.listed ≡ [] → ⊥) → IsMixedTable (kept_table ks t)
+pub kept-good : (ks : SystemFlags) (t : MixedTable) → IsMixedTable t → (kept_codes ks t.head.listed ≡ [] → ⊥) → IsMixedTable (kept_table ks t)
 kept-good ks t good some =
     let p : EpochTableView → Bool = λ e. keeps_some ks e in
     let f : EpochTableView → EpochTableView = λ e. kept_epoch ks e in
@@ -251,13 +252,13 @@ kept-good ks t good some =
 abbrev pub HasRow : ℕ → SatelliteRow → EpochTableView → Type 0
 HasRow time row e = (e.time ≡ time) × Any (λ r. r ≡ row) e.rows
 
-kept-row : (ks : KeptSystems) (time : ℕ) (row : SatelliteRow) (e : EpochTableView) → HasRow time row (kept_epoch ks e) → keeps_row ks row ≡ true
+kept-row : (ks : SystemFlags) (time : ℕ) (row : SatelliteRow) (e : EpochTableView) → HasRow time row (kept_epoch ks e) → keeps_row ks row ≡ true
 kept-row ks time row e has =
     let p : SatelliteRow → Bool = λ r. keeps_row ks r in
     let found = any-where (λ r. p r ≡ true) (λ r. r ≡ row) (filter p e.rows) (filter_passes p e.rows) has.1 in
     ap p (sym found.2) ∙ found.1
 
-pub rows-were : (ks : KeptSystems) (es : List EpochTableView) (time : ℕ) (row : SatelliteRow) → HasRowAt time row (kept_epochs ks es) → (keeps_row ks row ≡ true) × HasRowAt time row es
+pub rows-were : (ks : SystemFlags) (es : List EpochTableView) (time : ℕ) (row : SatelliteRow) → HasRowAt time row (kept_epochs ks es) → (keeps_row ks row ≡ true) × HasRowAt time row es
 rows-were ks es time row has =
     let p : SatelliteRow → Bool = λ r. keeps_row ks r in
     let one = any-unmap (HasRow time row) (λ e. kept_epoch ks e) (filter (λ e. keeps_some ks e) es) has in
@@ -266,12 +267,12 @@ rows-were ks es time row has =
       any-weaker (λ e. HasRow time row (kept_epoch ks e)) (HasRow time row) es (λ e is. (is.0, any-unfilter (λ r. r ≡ row) p e.rows is.1)) own,
     )
 
-keeps-some : (ks : KeptSystems) (time : ℕ) (row : SatelliteRow) (e : EpochTableView) → keeps_row ks row ≡ true → HasRow time row (kept_epoch ks e) → keeps_some ks e ≡ true
+keeps-some : (ks : SystemFlags) (time : ℕ) (row : SatelliteRow) (e : EpochTableView) → keeps_row ks row ≡ true → HasRow time row (kept_epoch ks e) → keeps_some ks e ≡ true
 keeps-some ks time row e kept has =
     let p : SatelliteRow → Bool = λ r. keeps_row ks r in
     list_any-from_Any p e.rows (any-weaker (λ r. r ≡ row) (λ r. p r ≡ true) e.rows (λ r is. ap p is ∙ kept) (any-unfilter (λ r. r ≡ row) p e.rows has.1))
 
-pub rows-stay : (ks : KeptSystems) (es : List EpochTableView) (time : ℕ) (row : SatelliteRow) → (keeps_row ks row ≡ true) × HasRowAt time row es → HasRowAt time row (kept_epochs ks es)
+pub rows-stay : (ks : SystemFlags) (es : List EpochTableView) (time : ℕ) (row : SatelliteRow) → (keeps_row ks row ≡ true) × HasRowAt time row es → HasRowAt time row (kept_epochs ks es)
 rows-stay ks es time row (kept, has) =
     let p : SatelliteRow → Bool = λ r. keeps_row ks r in
     let one = any-weaker (HasRow time row) (λ e. HasRow time row (kept_epoch ks e)) es (λ e is. (is.0, any-filter (λ r. r ≡ row) p e.rows (λ r same. ap p same ∙ kept) is.1)) has in

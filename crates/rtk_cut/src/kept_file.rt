@@ -10,20 +10,21 @@ ghost use Rattle.rtk_cut.specs.KeptSystems.{kept_codes, kept_epoch, keeps_some, 
 ghost use Rattle.rtk_cut.specs.Steps.MixedFile.{IsRecordIn};
 
 use crate::kept_head::kept_head;
-use crate::kept_systems::KeptSystems;
 use arrayvec::ArrayVec;
 use rtk_obs::GpsMs;
-use rtk_rinex::{MixedRecordLines, MixedRecords, MixedRows, MixedTextTable, mixed_header};
+use rtk_rinex::{
+    MixedRecordLines, MixedRecords, MixedRows, MixedTextTable, SystemFlags, mixed_header,
+};
 use std::alloc::{AllocError, Global};
 
 // Has a record a satellite of these systems?
-fn keeps_some(kept: KeptSystems, read: &MixedRows<'_>) -> bool
+fn keeps_some(kept: SystemFlags, read: &MixedRows<'_>) -> bool
     ensures { (e : EpochTableView) → IsRecordIn read.now e → result ≡ keeps_some kept e }
 {
     let mut rows = read.again();
     let mut observed = ArrayVec::new();
     while let Some(satellite) = rows.next_row(&mut observed) {
-        if kept.keeps(satellite.system()) {
+        if kept.has(satellite.system()) {
             return true;
         }
     }
@@ -31,7 +32,7 @@ fn keeps_some(kept: KeptSystems, read: &MixedRows<'_>) -> bool
 }
 
 // The moment of the first record with a satellite of these systems, or else this one.
-fn first_kept(kept: KeptSystems, records: MixedRecords<'_>, otherwise: GpsMs) -> GpsMs
+fn first_kept(kept: SystemFlags, records: MixedRecords<'_>, otherwise: GpsMs) -> GpsMs
     ensures { (epochs : List EpochTableView) → AreMixedLeft records.entry epochs → result ≡ first_of_part None otherwise (kept_epochs kept epochs) }
 {
     let mut rest = records;
@@ -47,7 +48,7 @@ fn first_kept(kept: KeptSystems, records: MixedRecords<'_>, otherwise: GpsMs) ->
 fn put_kept_record(
     text: &mut Vec<u8>,
     lines: &mut MixedRecordLines,
-    kept: KeptSystems,
+    kept: SystemFlags,
     read: &MixedRows<'_>,
 ) -> Result<(), AllocError>
     ensures { OnOk result ((e : EpochTableView) → IsRecordIn read.now e
@@ -57,7 +58,7 @@ fn put_kept_record(
     let mut observed = ArrayVec::new();
     lines.restart_with(read.has_doppler());
     while let Some(satellite) = rows.next_row(&mut observed) {
-        if kept.keeps(satellite.system()) {
+        if kept.has(satellite.system()) {
             lines.push_row(satellite, observed.as_slice())?;
         }
     }
@@ -70,7 +71,7 @@ fn put_kept_record(
 fn put_kept_records(
     alloc: Global,
     text: &mut Vec<u8>,
-    kept: KeptSystems,
+    kept: SystemFlags,
     records: MixedRecords<'_>,
 ) -> Result<(), AllocError>
     ensures { OnOk result ((epochs : List EpochTableView) → AreMixedLeft records.entry epochs
@@ -90,7 +91,7 @@ fn put_kept_records(
 pub fn keep_systems(
     alloc: Global,
     table: &MixedTextTable<'_>,
-    kept: KeptSystems,
+    kept: SystemFlags,
 ) -> Result<Option<Vec<u8>>, AllocError>
     // Fails only if memory is refused: tests/system/calls, row `keep_systems`.
     ensures text { IfOk result (λ narrow. (t : MixedTable) → IsMixedTable t → table.now.text ≡ mixed_table_text t

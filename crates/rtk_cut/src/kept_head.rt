@@ -5,21 +5,20 @@ ghost use Rattle.rtk_rinex.specs.MixedHead.{TellsGlonass};
 ghost use Rattle.rtk_rinex.specs.MixedTable.{MixedTable, IsMixedTable, mixed_table_text};
 ghost use Rattle.rtk_cut.specs.KeptSystems.{kept_codes, kept_glonass, kept_head, has_code_of, is_absent, first_absent};
 
-use crate::kept_systems::KeptSystems;
 use arrayvec::ArrayVec;
 use rtk_message::System;
 use rtk_obs::AnyCode;
-use rtk_rinex::{CreationTime, Glonass, Marker, MixedHead, MixedTextTable};
+use rtk_rinex::{CreationTime, Glonass, Marker, MixedHead, MixedTextTable, SystemFlags};
 
 // The codes of these systems, in their order.
-fn kept_codes(kept: KeptSystems, listed: &[AnyCode]) -> ArrayVec<AnyCode, 69>
+fn kept_codes(kept: SystemFlags, listed: &[AnyCode]) -> ArrayVec<AnyCode, 69>
     requires { length listed.now ≤ 69 }
     ensures value { result.items ≡ kept_codes kept listed.now }
     ensures few { length result.items ≤ length listed.now }
 {
     let mut codes = ArrayVec::new();
     for code in listed {
-        if kept.keeps(code.system()) && codes.try_push(*code).is_err() {
+        if kept.has(code.system()) && codes.try_push(*code).is_err() {
             unreachable!();
         }
     }
@@ -27,7 +26,7 @@ fn kept_codes(kept: KeptSystems, listed: &[AnyCode]) -> ArrayVec<AnyCode, 69>
 }
 
 // What a head tells of GLONASS, if GLONASS is kept.
-fn kept_glonass(kept: KeptSystems, head: &MixedHead) -> Option<Glonass>
+fn kept_glonass(kept: SystemFlags, head: &MixedHead) -> Option<Glonass>
     ensures value { result ≡ kept_glonass kept head.now.glonass }
     ensures due { TellsGlonass head.now.listed head.now.glonass }
 {
@@ -36,7 +35,7 @@ fn kept_glonass(kept: KeptSystems, head: &MixedHead) -> Option<Glonass>
 }
 
 /// A head with the codes of these systems alone; `None` if there is no such code.
-pub(crate) fn kept_head(kept: KeptSystems, head: &MixedHead) -> Option<MixedHead>
+pub(crate) fn kept_head(kept: SystemFlags, head: &MixedHead) -> Option<MixedHead>
     ensures head { MatchOption result (kept_codes kept head.now.listed ≡ []) (λ h. h ≡ kept_head kept head.now) }
     ensures some { IfSome result (λ h. kept_codes kept head.now.listed ≢ []) }
 {
@@ -67,14 +66,14 @@ fn has_code_of(listed: &[AnyCode], system: System) -> bool
 }
 
 // Is a system kept of which there is no code?
-fn is_absent(kept: KeptSystems, listed: &[AnyCode], system: System) -> bool
+fn is_absent(kept: SystemFlags, listed: &[AnyCode], system: System) -> bool
     ensures { result ≡ is_absent kept listed.now system }
 {
-    kept.keeps(system) && !has_code_of(listed, system)
+    kept.has(system) && !has_code_of(listed, system)
 }
 
 // The first system that is kept and of which there is no code.
-fn first_absent_of(kept: KeptSystems, listed: &[AnyCode]) -> Option<System>
+fn first_absent_of(kept: SystemFlags, listed: &[AnyCode]) -> Option<System>
     ensures { result ≡ first_absent kept listed.now }
 {
     if is_absent(kept, listed, System::Gps) {
@@ -102,7 +101,7 @@ fn first_absent_of(kept: KeptSystems, listed: &[AnyCode]) -> Option<System>
 }
 
 /// The first system, in the order of a file, that is to be kept and of which the file has no code.
-pub fn first_absent(table: &MixedTextTable<'_>, kept: KeptSystems) -> Option<System>
+pub fn first_absent(table: &MixedTextTable<'_>, kept: SystemFlags) -> Option<System>
     ensures { (t : MixedTable) → IsMixedTable t → table.now.text ≡ mixed_table_text t → result ≡ first_absent kept t.head.listed }
 {
     first_absent_of(kept, table.heading().head.codes())

@@ -70,7 +70,6 @@ mod gps_file;
 mod kept_file;
 mod kept_head;
 mod kept_laws;
-mod kept_systems;
 mod laws;
 mod mixed_file;
 mod part;
@@ -85,10 +84,9 @@ pub use fault::CutFault;
 pub use kept_file::keep_systems;
 pub use kept_head::first_absent;
 pub use kept_laws::{kept_files_are_tables, kept_rows_stay};
-pub use kept_systems::KeptSystems;
 pub use laws::{
     epochs_are_of_files, others_stay, own_step_gives_file, parts_are_tables, parts_are_written,
     records_are_asked_for, records_are_own, slips_are_found, slips_are_kept, spans_join,
 };
-pub use part::Part;
+pub use part::{GREATEST_STEP_S, Part};
 pub use part_file::{cut, cut_mixed};

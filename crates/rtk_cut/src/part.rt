@@ -5,6 +5,9 @@ ghost use Rattle.rtk_cut.specs.Cut.{IsStepOrNone, choice_of, is_near_step, is_at
 
 use rtk_obs::GpsMs;
 
+/// The greatest step of a part, in s: a day.
+pub const GREATEST_STEP_S: u32 = 86_400;
+
 /// Which part of a file is written: of the records on a step those in a span.
 #[derive(Clone, Copy, Debug)]
 pub struct Part {

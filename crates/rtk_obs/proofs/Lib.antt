@@ -8,6 +8,7 @@ mod EqualityLemmas
 mod RoundingLemmas
 mod LockLemmas
 mod SignalLemmas
+mod CodedSignalLemmas
 mod RolloverLemmas
 mod TracksLemmas
 mod ScalingLemmas

@@ -95,7 +95,7 @@ name-of-gps G5I = refl
 name-of-gps G5Q = refl
 name-of-gps G5X = refl
 
-frequency-of-gps : (c : Code) → frequency_at (carrier_of (code_of_gps c)) None ≡ Some (frequency_of (band_of c))
+pub frequency-of-gps : (c : Code) → frequency_at (carrier_of (code_of_gps c)) None ≡ Some (frequency_of (band_of c))
 frequency-of-gps G1C = refl
 frequency-of-gps G1P = refl
 frequency-of-gps G1W = refl
@@ -122,7 +122,7 @@ first : (b : Bool) (c : Code) (others : Option AnyCode) (rest : Option Code) →
 first true c others rest e = refl
 first false c others rest e = e
 
-gps-code : (n : ℕ) → gps_code n ≡ option_map code_of_gps (code_of_signal n)
+pub gps-code : (n : ℕ) → gps_code n ≡ option_map code_of_gps (code_of_signal n)
 gps-code n =
     first (nat_eq n 2) G1C _ _ (
     first (nat_eq n 3) G1P _ _ (

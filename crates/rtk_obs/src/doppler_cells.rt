@@ -4,6 +4,7 @@ ghost use Rattle.std.specs.Prelude.{◌≡◌};
 ghost use Rattle.rtk_message.specs.MsmForm.{IsValid};
 ghost use Rattle.rtk_obs.specs.Doppler.{doppler_entries};
 
+use crate::any_code::AnyCode;
 use crate::carrier::Channels;
 use crate::doppler::{doppler, fine_rate_at, rough_rate_at};
 use crate::msm_cells::set_values;
@@ -11,9 +12,8 @@ use crate::msm_values::rough_range;
 use crate::satellite_index::satellite_in;
 use crate::signal_cells::{SignalEntry, channel_in, field_of_row};
 use crate::signal_rows::{SignalRow, SignalsOfMsm, put_entries};
-use crate::signals::code_of_signal;
 use arrayvec::ArrayVec;
-use rtk_message::{Msm, MsmHeader};
+use rtk_message::{Msm, MsmHeader, System};
 
 /// A message with the channels by which its phases and its Doppler shifts are made.
 #[derive(Clone, Copy)]
@@ -29,6 +29,8 @@ impl<'a> SignalsOfMsm for WithDoppler<'a> {
 
     ghost IsValid = { λ s. IsValid s.message.now };
 
+    ghost system = { λ s. s.message.now.system };
+
     ghost header = { λ s. s.message.now.header };
 
     ghost cell_mask = { λ s. s.message.now.cell_mask };
@@ -36,6 +38,10 @@ impl<'a> SignalsOfMsm for WithDoppler<'a> {
     ghost entry_of = { λ s. doppler_entry s.channels.now s.message.now };
 
     ghost IsRow = { λ s. IsDopplerRow s.channels.now s.message.now };
+
+    fn own_system(&self) -> System {
+        self.message.system
+    }
 
     fn mask_header(&self) -> MsmHeader {
         self.message.header
@@ -66,8 +72,14 @@ impl<'a> SignalsOfMsm for WithDoppler<'a> {
     }
 
     #[inline(always)]
-    fn set_entry(&self, entry: &mut SignalEntry, cell: usize, row: &SignalRow, signal: u8) -> bool {
-        let Some(code) = code_of_signal(self.message.system, signal) else {
+    fn set_entry(
+        &self,
+        entry: &mut SignalEntry,
+        cell: usize,
+        row: &SignalRow,
+        signal: Option<AnyCode>,
+    ) -> bool {
+        let Some(code) = signal else {
             return false;
         };
         let frequency = code.carrier().frequency(row.channel);

@@ -99,7 +99,9 @@ pub use msm1074_cells::{cells_1074, put_cells_1074};
 pub use position::Position;
 pub use rollover::rolled;
 pub use rounding::round_div;
-pub use satellite_index::{SatelliteIndex, satellite_in, satellite_name, satellite_named};
+pub use satellite_index::{
+    SatelliteIndex, letter_of, satellite_in, satellite_name, satellite_named, system_of_letter,
+};
 pub use sbas_cells::{put_entries_with_sbas, put_signals_1004};
 pub use signal_cells::{
     SignalEntry, put_entries_of, put_signal_entries, put_signals, signal_entries,

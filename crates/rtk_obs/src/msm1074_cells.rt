@@ -1,17 +1,21 @@
 //! The cells of a 1074.
 
-ghost use Rattle.std.specs.Prelude.{◌≡◌, ℕ, ◌≤◌, ◌<◌, length, slice_index, IsTrue};
+ghost use Rattle.std.specs.Prelude.{◌≡◌, ℕ, ◌^◌, ◌≤◌, ◌<◌, Some, length, slice_index, unsigned_abs, IfSome, IsTrue};
 ghost use Rattle.std.specs.List.{All};
 ghost use Rattle.rtk_message.specs.Msm1074.{IsValid, cell_count};
+ghost use Rattle.rtk_obs.specs.declared.code.Band.{Band};
+ghost use Rattle.rtk_obs.specs.Code.{frequency_of};
 ghost use Rattle.rtk_obs.specs.Cell.{IsInRange, AreDistinct, AreRising};
 ghost use Rattle.rtk_obs.specs.LockTime.{least_lock_of_msm};
 ghost use Rattle.rtk_obs.specs.MsmCells.{rough_at, cell_of_1074, cells_of_1074};
+ghost use Rattle.rtk_obs.specs.Steps.MsmRows.{cells_in};
 
 use crate::cell::{Cell, CellEntry, CellSource};
 use crate::code::Code;
 use crate::lock_time::least_lock_msm;
+use crate::msm_cells::msm_phase_on;
 use crate::msm_rows::{CellsOfMsm, has_rising_codes, put_cells};
-use crate::msm_values::{MSM_STRENGTH_STEP, msm_phase, msm_range, rough_range};
+use crate::msm_values::{MSM_STRENGTH_STEP, msm_range, rough_range};
 use crate::scaling::strength_from_steps;
 use arrayvec::ArrayVec;
 use rtk_message::{Msm1074, MsmHeader};
@@ -57,21 +61,33 @@ impl CellsOfMsm for Msm1074 {
 
     #[inline(always)]
     fn set_cell(&self, cell: &mut Cell, place: usize, rough: Option<i64>, code: Code) {
-        cell.range_mm = msm_range(rough, i32::from(self.fine_range.as_slice()[place]));
-        cell.phase_millicycles = msm_phase(
-            code.band().frequency(),
-            rough,
-            self.fine_phase.as_slice()[place],
-        );
-        cell.strength_millidbhz = strength_from_steps(
-            MSM_STRENGTH_STEP,
-            self.cnr.as_slice()[place],
-        );
-        cell.lock_time_ms = lock_time(self, place);
-        cell.half = self.half_cycle.as_slice()[place];
-        cell.source = CellSource::Msm;
-        cell.offset = None;
+        set_values_1074(self, cell, place, rough, Some(code.band().frequency()));
     }
+}
+
+/// Sets a cell to the one at this place in a message, of a satellite with this rough range, on a band whose frequency
+/// in Hz this is. Each field is written where it stays.
+#[inline(always)]
+pub(crate) fn set_values_1074(
+    message: &Msm1074,
+    cell: &mut Cell,
+    place: usize,
+    rough: Option<i64>,
+    frequency: Option<u32>,
+)
+    requires valid { IsValid message.now }
+    requires place { place < cells_in message.now.cell_mask }
+    requires rough { IfSome rough (λ r. unsigned_abs r ≤ 2 ^ 38) }
+    ensures { (row : ℕ) (band : Band) → rough ≡ rough_at message.now.rough_ms message.now.rough_fraction row → frequency ≡ Some (frequency_of band)
+        → cell.new ≡ cell_of_1074 message.now place row band }
+{
+    cell.range_mm = msm_range(rough, i32::from(message.fine_range.as_slice()[place]));
+    cell.phase_millicycles = msm_phase_on(frequency, rough, message.fine_phase.as_slice()[place]);
+    cell.strength_millidbhz = strength_from_steps(MSM_STRENGTH_STEP, message.cnr.as_slice()[place]);
+    cell.lock_time_ms = lock_time(message, place);
+    cell.half = message.half_cycle.as_slice()[place];
+    cell.source = CellSource::Msm;
+    cell.offset = None;
 }
 
 /// Puts the cells of a 1074 into a list in place of what it has, as `cells_1074` gives them. If the

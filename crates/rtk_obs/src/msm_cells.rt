@@ -3,6 +3,7 @@
 ghost use Rattle.std.specs.Prelude.{◌≡◌, ℕ, ◌%◌, ◌^◌, ◌<◌, ◌≤◌, true, false, length, IsTrue, IfSome, unsigned_abs};
 ghost use Rattle.std.specs.List.{All};
 ghost use Rattle.rtk_message.specs.MsmForm.{IsValid};
+ghost use Rattle.rtk_message.specs.declared.msm_kind.MsmKind.TheVariants.{Msm4};
 ghost use Rattle.rtk_obs.specs.Cell.{IsInRange, AreDistinct, AreRising};
 ghost use Rattle.rtk_obs.specs.MsmCells.{rough_at, has_extended_resolution, phase_on, cell_on, msm_entries, cell_of_msm, cells_of_msm};
 ghost use Rattle.rtk_obs.specs.Steps.MsmRows.{cells_in};
@@ -65,11 +66,12 @@ impl CellsOfMsm for Msm {
     }
 }
 
-// Returns the phase in millicycles of a frequency in Hz, if it is known, from a fine one without
-// extended resolution.
-fn msm_phase_on(frequency: Option<u32>, rough: Option<i64>, fine: i32) -> Option<i64>
+/// Returns the phase in millicycles of a frequency in Hz, if it is known, from a fine one without
+/// extended resolution.
+pub(crate) fn msm_phase_on(frequency: Option<u32>, rough: Option<i64>, fine: i32) -> Option<i64>
     requires { IfSome rough (λ r. unsigned_abs r ≤ 2 ^ 38) }
-    ensures { (kind : MsmKind) → has_extended_resolution kind ≡ false → result ≡ phase_on kind frequency rough fine }
+    ensures value { result ≡ phase_on Msm4 frequency rough fine }
+    ensures kinds { (kind : MsmKind) → has_extended_resolution kind ≡ false → result ≡ phase_on kind frequency rough fine }
 {
     msm_phase(frequency?, rough, fine)
 }

@@ -131,7 +131,7 @@ pub fn satellite_in(system: System, bit: u8) -> Option<SatelliteIndex>
 }
 
 /// Returns the letter of a system in names of RINEX.
-pub(crate) fn letter_of(system: System) -> u8
+pub fn letter_of(system: System) -> u8
     ensures { result ≡ letter_of system }
 {
     match system {
@@ -165,8 +165,8 @@ pub fn satellite_name(satellite: SatelliteIndex) -> [u8; 3]
     [letter_of(system), tens, ones]
 }
 
-// Returns the system of a letter.
-fn system_of_letter(letter: u8) -> Option<System>
+/// Returns the system of a letter in names of RINEX, or `None` if it is that of none.
+pub fn system_of_letter(letter: u8) -> Option<System>
     ensures { MatchOption result ((s : System) → letter ≢ letter_of s) (λ s. letter ≡ letter_of s) }
 {
     match letter {

@@ -16,11 +16,10 @@ use crate::carrier::{Channel, Channels};
 use crate::cell::{Cell, CellEntry};
 use crate::message_cells::put_cells_of;
 use crate::msm_cells::set_values;
-use crate::msm_rows::{CellsOfMsm, signal_code};
 use crate::msm_values::rough_range;
+use crate::msm1074_cells::set_values_1074;
 use crate::satellite_index::{SatelliteIndex, satellite_in};
 use crate::signal_rows::{SignalRow, SignalsOfMsm, put_entries};
-use crate::signals::code_of_signal;
 use arrayvec::ArrayVec;
 use rtk_message::{Message, Msm, Msm1074, MsmHeader, System};
 
@@ -107,6 +106,8 @@ impl<'a> SignalsOfMsm for OnChannels<'a> {
 
     ghost IsValid = { λ s. IsValid s.message.now };
 
+    ghost system = { λ s. s.message.now.system };
+
     ghost header = { λ s. s.message.now.header };
 
     ghost cell_mask = { λ s. s.message.now.cell_mask };
@@ -114,6 +115,10 @@ impl<'a> SignalsOfMsm for OnChannels<'a> {
     ghost entry_of = { λ s. signal_entry s.channels.now s.message.now };
 
     ghost IsRow = { λ s. IsRowOfMsm s.channels.now s.message.now };
+
+    fn own_system(&self) -> System {
+        self.message.system
+    }
 
     fn mask_header(&self) -> MsmHeader {
         self.message.header
@@ -144,8 +149,14 @@ impl<'a> SignalsOfMsm for OnChannels<'a> {
     }
 
     #[inline(always)]
-    fn set_entry(&self, entry: &mut SignalEntry, cell: usize, row: &SignalRow, signal: u8) -> bool {
-        let Some(code) = code_of_signal(self.message.system, signal) else {
+    fn set_entry(
+        &self,
+        entry: &mut SignalEntry,
+        cell: usize,
+        row: &SignalRow,
+        signal: Option<AnyCode>,
+    ) -> bool {
+        let Some(code) = signal else {
             return false;
         };
         entry.satellite = row.satellite;
@@ -158,9 +169,12 @@ impl<'a> SignalsOfMsm for OnChannels<'a> {
 }
 
 impl SignalsOfMsm for Msm1074 {
+    ghost use Rattle.rtk_message.specs.declared.system.System.TheVariants.{Gps};
     ghost use Rattle.rtk_obs.specs.Steps.SignalRows.{IsRowOf1074, entry_of_1074};
 
     ghost IsValid = { IsValid1074 };
+
+    ghost system = { λ m. Gps };
 
     ghost header = { λ m. m.header };
 
@@ -169,6 +183,10 @@ impl SignalsOfMsm for Msm1074 {
     ghost entry_of = { entry_of_1074 };
 
     ghost IsRow = { IsRowOf1074 };
+
+    fn own_system(&self) -> System {
+        System::Gps
+    }
 
     fn mask_header(&self) -> MsmHeader {
         self.header
@@ -201,14 +219,21 @@ impl SignalsOfMsm for Msm1074 {
     }
 
     #[inline(always)]
-    fn set_entry(&self, entry: &mut SignalEntry, cell: usize, row: &SignalRow, signal: u8) -> bool {
-        let Some(code) = signal_code(signal) else {
+    fn set_entry(
+        &self,
+        entry: &mut SignalEntry,
+        cell: usize,
+        row: &SignalRow,
+        signal: Option<AnyCode>,
+    ) -> bool {
+        let Some(code) = signal else {
             return false;
         };
         entry.satellite = row.satellite;
-        entry.code = AnyCode::of_gps(code);
+        entry.code = code;
         entry.doppler_millihertz = 0;
-        self.set_cell(&mut entry.cell, cell, row.rough, code);
+        let frequency = code.carrier().frequency(None);
+        set_values_1074(self, &mut entry.cell, cell, row.rough, frequency);
         true
     }
 }

@@ -1,23 +1,26 @@
 //! Which satellite and which signal each cell of an MSM of any system has, row by row of its cell mask.
 
-ghost use Rattle.std.specs.Prelude.{◌≡◌, ℕ, ◌+◌, ◌^◌, ◌≤◌, ◌<◌, [], ◌++◌, List, length, take, IfSome, IfNone, count_ones, slice_index, unsigned_abs};
-ghost use Rattle.std.specs.List.{All};
+ghost use Rattle.std.specs.Prelude.{◌≡◌, ℕ, ◌+◌, ◌^◌, ◌≤◌, ◌<◌, [], ◌++◌, List, length, map, take, IfSome, IfNone, count_ones, slice_index, unsigned_abs};
 ghost use Rattle.rtk_message.specs.declared.msm1074.MsmHeader.{MsmHeader};
+ghost use Rattle.rtk_message.specs.declared.system.System.{System};
 ghost use Rattle.rtk_message.specs.Msm1074.{satellite_count};
 ghost use Rattle.rtk_obs.specs.declared.signal_cells.SignalEntry.{SignalEntry};
 ghost use Rattle.rtk_obs.specs.declared.signal_rows.SignalRow.{SignalRow};
 ghost use Rattle.rtk_obs.specs.Mask.{join_from};
 ghost use Rattle.rtk_obs.specs.MsmCells.{Slot, satellites_of, signals_of, row_slots, slots_of};
+ghost use Rattle.rtk_obs.specs.Signals.{code_in};
 ghost use Rattle.rtk_obs.specs.Steps.MsmRows.{IsCellMask, cells_in};
 ghost use Rattle.rtk_obs.specs.Steps.SignalRows.{SetsEntry};
 
+use crate::any_code::AnyCode;
 use crate::carrier::Channel;
 use crate::mask::{places_of_bits, top_bit};
 use crate::msm_rows::{Progress, signal_identifiers};
 use crate::satellite_index::SatelliteIndex;
 use crate::signal_cells::SignalEntry;
+use crate::signals::code_of_signal;
 use arrayvec::ArrayVec;
-use rtk_message::MsmHeader;
+use rtk_message::{MsmHeader, System};
 
 /// What the cells of a satellite have in common.
 #[derive(Clone, Copy)]
@@ -37,6 +40,9 @@ pub(crate) trait SignalsOfMsm {
     /// that the masks give.
     ghost IsValid: { Self → Type 0 };
 
+    /// The system whose satellites the message tells.
+    ghost system: { Self → System };
+
     /// The fields before the cell mask.
     ghost header: { Self → MsmHeader };
 
@@ -48,6 +54,10 @@ pub(crate) trait SignalsOfMsm {
 
     /// This is what the cells of the satellite of a row have in common.
     ghost IsRow: { Self → ℕ → SignalRow → Type 0 };
+
+    /// Returns the system whose satellites the message tells.
+    fn own_system(&self) -> System
+        ensures { result ≡ system self.now };
 
     /// Returns the fields before the cell mask.
     fn mask_header(&self) -> MsmHeader
@@ -75,13 +85,32 @@ pub(crate) trait SignalsOfMsm {
 
     /// Sets an entry to that of a cell, and returns whether the cell gives one. Each field is written where
     /// it stays.
-    fn set_entry(&self, entry: &mut SignalEntry, cell: usize, row: &SignalRow, signal: u8) -> bool
+    fn set_entry(
+        &self,
+        entry: &mut SignalEntry,
+        cell: usize,
+        row: &SignalRow,
+        signal: Option<AnyCode>,
+    ) -> bool
         requires valid { IsValid self.now }
         requires cell { cell < cells_in (cell_mask self.now) }
         requires rough { IfSome row.now.rough (λ r. unsigned_abs r ≤ 2 ^ 38) }
-        requires signal { signal ≤ 32 }
-        ensures { (place : ℕ) → IsRow self.now place row.now
-            → SetsEntry result entry.new (entry_of self.now cell (record { row = place; signal = signal })) };
+        ensures { (place identifier : ℕ) → IsRow self.now place row.now → code_in (system self.now) identifier ≡ signal
+            → SetsEntry result entry.new (entry_of self.now cell (record { row = place; signal = identifier })) };
+}
+
+// Returns the codes of signals by their identifiers (DF395), or `None` for each that gives no cells. They are found
+// once for each message and not for each cell. The list is as small as can be, since it is cleared for each message.
+#[inline(always)]
+fn coded_signals(system: System, identifiers: &[u8]) -> ArrayVec<Option<AnyCode>, 32>
+    requires { length identifiers.now ≤ 32 }
+    ensures { result.items ≡ map (code_in system) identifiers.now }
+{
+    let mut found = ArrayVec::new();
+    for identifier in identifiers {
+        found.push(code_of_signal(system, *identifier));
+    }
+    found
 }
 
 // Lengthens a list, if it must be, to this number of places, which can then be written.
@@ -102,15 +131,14 @@ fn put_entry<M: SignalsOfMsm>(
     message: &M,
     cell: usize,
     row: &SignalRow,
-    signal: u8,
+    signal: Option<AnyCode>,
 ) -> usize
     requires valid { M.IsValid message.now }
     requires cell { cell < cells_in (M.cell_mask message.now) }
     requires rough { IfSome row.now.rough (λ r. unsigned_abs r ≤ 2 ^ 38) }
-    requires signal { signal ≤ 32 }
     requires room { count < length found.old.items }
-    ensures entries { (place : ℕ) → M.IsRow message.now place row.now
-        → take result found.new.items ≡ take count found.old.items ++ M.entry_of message.now cell (record { row = place; signal = signal }) }
+    ensures entries { (place identifier : ℕ) → M.IsRow message.now place row.now → code_in (M.system message.now) identifier ≡ signal
+        → take result found.new.items ≡ take count found.old.items ++ M.entry_of message.now cell (record { row = place; signal = identifier }) }
     ensures room { length found.new.items ≡ length found.old.items }
     ensures one { result ≤ count + 1 }
 {
@@ -128,20 +156,20 @@ fn put_row<M: SignalsOfMsm>(
     start: Progress,
     message: &M,
     row: &SignalRow,
-    signals: &[u8],
+    signals: &[Option<AnyCode>],
     bits: u32,
 ) -> Progress
     requires valid { M.IsValid message.now }
     requires mask { IsCellMask (M.header message.now) (M.cell_mask message.now) }
     requires rough { IfSome row.now.rough (λ r. unsigned_abs r ≤ 2 ^ 38) }
-    requires bounds { All (λ p. (1 ≤ p) × (p ≤ 32)) signals.now }
-    requires fits { bits < 2 ^ length signals.now }
+    requires signals { signals.now ≡ map (code_in (M.system message.now)) (signals_of (M.header message.now)) }
+    requires fits { bits < 2 ^ length (signals_of (M.header message.now)) }
     requires cells { start.cell + count_ones bits ≤ cells_in (M.cell_mask message.now) }
     requires room { cells_in (M.cell_mask message.now) ≤ length found.old.items }
     requires few { start.count ≤ start.cell }
     ensures entries { (place : ℕ) → M.IsRow message.now place row.now
         → take result.count found.new.items ≡ take start.count found.old.items
-        ++ join_from (M.entry_of message.now) start.cell (row_slots signals.now place bits) }
+        ++ join_from (M.entry_of message.now) start.cell (row_slots (signals_of (M.header message.now)) place bits) }
     ensures cells { result.cell ≡ start.cell + count_ones bits }
     ensures room { length found.new.items ≡ length found.old.items }
     ensures few { result.count ≤ result.cell }
@@ -168,7 +196,7 @@ fn put_satellite<M: SignalsOfMsm>(
     message: &M,
     place: usize,
     bit: u8,
-    signals: &[u8],
+    signals: &[Option<AnyCode>],
     bits: u32,
 ) -> Progress
     requires valid { M.IsValid message.now }
@@ -176,13 +204,13 @@ fn put_satellite<M: SignalsOfMsm>(
     requires place { place < satellite_count (M.header message.now) }
     requires bit { bit ≡ slice_index (satellites_of (M.header message.now)) place }
     requires low { 1 ≤ bit }
-    requires bounds { All (λ p. (1 ≤ p) × (p ≤ 32)) signals.now }
-    requires fits { bits < 2 ^ length signals.now }
+    requires signals { signals.now ≡ map (code_in (M.system message.now)) (signals_of (M.header message.now)) }
+    requires fits { bits < 2 ^ length (signals_of (M.header message.now)) }
     requires cells { start.cell + count_ones bits ≤ cells_in (M.cell_mask message.now) }
     requires room { cells_in (M.cell_mask message.now) ≤ length found.old.items }
     requires few { start.count ≤ start.cell }
     ensures entries { take result.count found.new.items ≡ take start.count found.old.items
-        ++ join_from (M.entry_of message.now) start.cell (row_slots signals.now place bits) }
+        ++ join_from (M.entry_of message.now) start.cell (row_slots (signals_of (M.header message.now)) place bits) }
     ensures cells { result.cell ≡ start.cell + count_ones bits }
     ensures room { length found.new.items ≡ length found.old.items }
     ensures few { result.count ≤ result.cell }
@@ -205,7 +233,10 @@ pub(crate) fn put_entries<M: SignalsOfMsm>(found: &mut ArrayVec<SignalEntry, 64>
     let header = message.mask_header();
     let bit_list = places_of_bits(header.satellite_mask, 64);
     let numbers = bit_list.as_slice();
-    let signal_list = signal_identifiers(header);
+    let identifier_list = signal_identifiers(header);
+    let identifiers = identifier_list.as_slice();
+    let system = message.own_system();
+    let signal_list = coded_signals(system, identifiers);
     let signals = signal_list.as_slice();
     let masks = message.mask_rows();
     make_places(found, message.cell_count());

@@ -137,9 +137,7 @@ fn navic_code(signal: u8) -> Option<AnyCode>
     }
 }
 
-/// Returns the code of a signal identifier (DF395), or `None` if the signal gives no cell. It is inlined, since it is
-/// asked for each cell.
-#[inline(always)]
+/// Returns the code of a signal identifier (DF395), or `None` if the signal gives no cell.
 pub fn code_of_signal(system: System, signal: u8) -> Option<AnyCode>
     ensures { result ≡ code_in system signal }
 {

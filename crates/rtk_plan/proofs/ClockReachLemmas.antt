@@ -6,9 +6,10 @@ use Rattle.rtk_survey.specs.declared.survey.CaptureSurvey.{CaptureSurvey}
 use Rattle.rtk_systems.specs.SlotChannels.{AreSecondsChosen}
 use Rattle.rtk_captures.specs.Dating.{ArePlaced, IsNearOf, IsSpanOf, captures_of}
 use Rattle.rtk_captures.specs.declared.span_line.DatedSpan.{DatedSpan}
-use Rattle.rtk_plan.specs.ClockReach.{midway, clock_dating, clocks_taken, has_far_clock}
+use Rattle.rtk_plan.specs.ClockDating.{midway, clock_dating}
+use Rattle.rtk_plan.specs.ClockReach.{clocks_taken, has_far_clock}
 use Rattle.rtk_plan.specs.Plan.{HaveFarClocks}
-use Rattle.rtk_plan.specs.declared.clock_reach.ClockDating.{ClockDating}
+use Rattle.rtk_plan.specs.declared.clock_dating.ClockDating.{ClockDating}
 use Rattle.rtk_plan.specs.declared.clock_reach.TakenClocks.{TakenClocks}
 
 pub far-clocks : (ss : List CaptureSurvey) (given : Option ℕ) (station : ℕ) (s : SetupView) (first n : ℕ) (placed : List (Option Placed)) (span : DatedSpan) (way : ClockDating) (taken : TakenClocks) (near : ℕ) (ps : List (Option Placed)) (has : Bool)

@@ -1,9 +1,9 @@
 -- The first and the last moment of what is converted, one capture after another.
-use Rattle.std.proofs.Common.{◌≡◌, ◌≤◌, ◌<◌, ◌+◌, ℕ, zero, suc, min, List, [], ◌∷◌, length, get_or, drop, Option, refl, arith}
+use Rattle.std.proofs.Common.{◌≡◌, ◌≤◌, ◌<◌, ℕ, zero, suc, min, List, [], ◌∷◌, length, get_or, drop, Option, refl, arith}
 use Rattle.rtk_survey.specs.declared.placing.Placed.{Placed}
 use Rattle.rtk_survey.specs.declared.survey.CaptureSurvey.{CaptureSurvey}
 use Rattle.rtk_plan.specs.Near1012.{ends_with_capture, ends_after}
-use Rattle.rtk_plan.specs.declared.clock_reach.ClockDating.{ClockDating}
+use Rattle.rtk_plan.specs.declared.clock_dating.ClockDating.{ClockDating}
 use Rattle.rtk_plan.specs.declared.near_1012.Ends.{Ends}
 
 none-ends : (way : ClockDating) (e : Ends) (ss : List CaptureSurvey) → ends_after way e ss [] ≡ e

@@ -15,7 +15,7 @@ use Rattle.rtk_captures.specs.Linking.{links_found}
 use Rattle.rtk_plan.specs.LinkPlaces.{places_among_links, AreLinksOf}
 use Rattle.rtk_plan.specs.Plan.{IsChosenStation, kinds_found, codes_chosen, AreSystemsTaken, AreCodesChosen, marker_chosen, converts_1012, near_chosen, near_in_reach, near_with_1012, codes_taken_from, AreLeapSecondsOf, IsNear1012, IsSetupFor}
 use Rattle.rtk_captures.specs.Dating.{captures_of, some_out_of_reach, IsBaseOf, IsReachOf, ArePlaced, IsNearOf, IsSpanOf, AreStrays}
-use Rattle.rtk_plan.specs.ClockReach.{midway, clock_dating}
+use Rattle.rtk_plan.specs.ClockDating.{midway, clock_dating}
 use Rattle.rtk_plan.specs.Near1012.{ends_after, middle_up, middle_down, middle_second, dates_ends, can_date, near_of_ends, near_between}
 use Rattle.rtk_captures.specs.Reach.{least_told, placed_if_any, reach_after, second_of}
 use Rattle.rtk_systems.specs.SlotChannels.{IsGlonassFound, AreSecondsChosen}
@@ -26,7 +26,7 @@ use Rattle.rtk_captures.specs.declared.reach.Base.{Base}
 use Rattle.rtk_captures.specs.declared.reach.Base.TheVariants.{Told}
 use Rattle.rtk_captures.specs.declared.span_line.DatedSpan.{DatedSpan}
 use Rattle.rtk_captures.specs.declared.station_capture.StationCapture.{StationCapture}
-use Rattle.rtk_systems.specs.declared.system_flags.SystemFlags.{SystemFlags}
+use Rattle.rtk_rinex.specs.declared.system_flags.SystemFlags.{SystemFlags}
 use Rattle.rtk_plan.specs.declared.near_1012.Ends.{Ends}
 use Rattle.rtk_systems.specs.declared.values.TakenMessages.{TakenMessages}
 use Rattle.rtk_plan.specs.declared.wanted.Wanted.{Wanted}

@@ -1,5 +1,5 @@
 -- Why captures have no plan.
-use Rattle.std.proofs.Common.{◌≡◌, ◌∙◌, ℕ, Bool, List, inr, [], None, Result, Ok, Err, IsErrAnd, IfErr, Option, sym, ap, subst}
+use Rattle.std.proofs.Common.{◌≡◌, ℕ, Bool, List, inr, [], None, Result, Ok, Err, IsErrAnd, IfErr, Option, sym, subst}
 use Rattle.std.proofs.lemmas.Result.{err_from_is_err_and}
 use Rattle.rtk_obs.specs.declared.any_code.AnyCode.{AnyCode}
 use Rattle.rtk_setup.specs.declared.system_kinds.SystemKinds.{SystemKinds}
@@ -14,7 +14,7 @@ use Rattle.rtk_captures.specs.declared.refusal.PlanFault.{PlanFault}
 use Rattle.rtk_captures.specs.declared.refusal.PlanFault.TheVariants.{Refused, OutOfMemory}
 use Rattle.rtk_captures.specs.declared.refusal.Refusal.{Refusal}
 use Rattle.rtk_captures.specs.declared.refusal.Refusal.TheVariants.{NoFrame, NoObservation, NoStation, SeveralStations, NoCode, NoRates}
-use Rattle.rtk_systems.specs.declared.system_flags.SystemFlags.{SystemFlags}
+use Rattle.rtk_rinex.specs.declared.system_flags.SystemFlags.{SystemFlags}
 use Rattle.rtk_systems.specs.declared.values.TakenMessages.{TakenMessages}
 use Rattle.rtk_plan.specs.declared.wanted.Wanted.{Wanted}
 

@@ -13,8 +13,8 @@ use Rattle.rtk_plan.specs.KnownLines.{leaves_long, skipped_line, skipped_lines, 
 use Rattle.rtk_survey.specs.Surveys.{places_of}
 use Rattle.rtk_captures.specs.Linking.{kept_in_order, captures_of_link, is_nonempty, joined_links, links_found, one_place, links_as_given}
 use Rattle.rtk_plan.specs.LinkPlaces.{places_among_links, AreLinksOf}
-use Rattle.rtk_plan.specs.ClockReach.{midway, clock_dating}
-use Rattle.rtk_plan.specs.declared.clock_reach.ClockDating.{ClockDating}
+use Rattle.rtk_plan.specs.ClockDating.{midway, clock_dating}
+use Rattle.rtk_plan.specs.declared.clock_dating.ClockDating.{ClockDating}
 use Rattle.rtk_survey.specs.declared.survey.CaptureSurvey.{CaptureSurvey}
 use Rattle.rtk_captures.specs.Dating.{captures_of}
 use Rattle.rtk_captures.specs.StationCaptures.{capture_of}

@@ -15,7 +15,7 @@ use Rattle.rtk_plan.specs.Plan.{IsChosenStation, kinds_found, AreSystemsTaken, A
 use Rattle.rtk_captures.specs.Dating.{captures_of, IsNearOf}
 use Rattle.rtk_captures.specs.Positions.{some_are_far}
 use Rattle.rtk_systems.specs.Values.{codes_in_captures}
-use Rattle.rtk_systems.specs.declared.system_flags.SystemFlags.{SystemFlags}
+use Rattle.rtk_rinex.specs.declared.system_flags.SystemFlags.{SystemFlags}
 use Rattle.rtk_captures.specs.declared.refusal.Refusal.{Refusal}
 use Rattle.rtk_captures.specs.declared.refusal.Refusal.TheVariants.{NoFrame, NoObservation, NoStation, SeveralStations, Empty, OutsideDates, TooLong, NoCode, NoRates, TooManyLinks, PositionsDiffer}
 use Rattle.rtk_systems.specs.declared.values.TakenMessages.{TakenMessages}

@@ -4,14 +4,13 @@ use Rattle.std.specs.Borrow.{Bor}
 use Rattle.std.specs.List.{list_any, sum_by}
 use Rattle.std.specs.Option.{is_none}
 use Rattle.rtk_message.specs.declared.accepted.Accepted.{Accepted}
-use Rattle.rtk_message.specs.declared.system.System.TheVariants.{Sbas}
+use Rattle.rtk_message.specs.declared.system.System.TheVariants.{Gps, Sbas}
 use Rattle.rtk_obs.specs.declared.any_code.AnyCode.{AnyCode}
-use Rattle.rtk_setup.specs.Setup.{SetupView, taken_by, takes_1004, lists_system}
+use Rattle.rtk_setup.specs.Setup.{SetupView, taken_by, lists_system}
 use Rattle.rtk_survey.specs.CaptureDates.{counting}
 use Rattle.rtk_survey.specs.Counting.{shown_count}
 use Rattle.rtk_survey.specs.Placing.{placed}
 use Rattle.rtk_survey.specs.declared.capture_dates.CaptureDates.{CaptureDates}
-use Rattle.rtk_survey.specs.declared.date_message.UtcDate.{UtcDate}
 use Rattle.rtk_survey.specs.declared.equipment.Equipment.{Equipment}
 use Rattle.rtk_survey.specs.declared.span.Span.{Span}
 use Rattle.rtk_survey.specs.declared.survey.CaptureSurvey.{CaptureSurvey}
@@ -218,16 +217,16 @@ epochs_lines_of names cs link = flat_map (epochs_line_at names cs) link
 abbrev pub epochs_lines : List (Bor (List ℕ)) → List StationCapture → List (List ℕ) → List ℕ
 epochs_lines names cs links = flat_map (epochs_lines_of names cs) links
 
--- the observations of a station that are not taken, if these messages are; the flags say whether 1004 are, satellites of
--- SBAS in them, and Doppler shifts, and whether 1012 are left out since they can't be dated
+-- the observations of a station that are not taken, if these messages are; the flags say whether GPS, satellites of
+-- SBAS in 1004, and Doppler shifts are, and whether 1012 are left out since they can't be dated
 unfoldable pub not_taken_by : Accepted → Bool → Bool → Bool → Bool → List CaptureSurvey → ℕ → List ℕ
-not_taken_by taken has_1004 has_sbas has_doppler is_long ss station =
-    obs_1004_line has_1004 ss station ++ msm_lines taken ss station ++ doppler_lines_unless has_doppler taken ss station ++ sbas_line has_sbas ss station
+not_taken_by taken has_gps has_sbas has_doppler is_long ss station =
+    obs_1004_line has_gps has_sbas ss station ++ msm_lines taken ss station ++ doppler_lines_unless has_doppler taken ss station ++ sbas_line has_sbas ss station
     ++ all_unread is_long taken ss
 
 -- those that a conversion does not take; 1012 may be left out since they can't be dated
 abbrev pub not_taken : List CaptureSurvey → Bool → SetupView → List ℕ
-not_taken ss is_long s = not_taken_by (taken_by s) (takes_1004 s) (lists_system s.head.listed Sbas) s.head.doppler is_long ss s.station
+not_taken ss is_long s = not_taken_by (taken_by s) (lists_system s.head.listed Gps) (lists_system s.head.listed Sbas) s.head.doppler is_long ss s.station
 
 unfoldable pub lines_behind_late : List (Bor (List ℕ)) → List CaptureSurvey → Plan → List ℕ
 lines_behind_late names ss plan =

@@ -1,4 +1,5 @@
 pub mod Causes
+pub mod ClockDating
 pub mod ClockNotes
 pub mod ClockReach
 pub mod FewPhases

@@ -9,8 +9,9 @@ use Rattle.rtk_captures.specs.Dating.{ArePlaced, IsNearOf, IsSpanOf, captures_of
 use Rattle.rtk_captures.specs.Linking.{links_found, links_as_given}
 use Rattle.rtk_captures.specs.Reach.{reach_with}
 use Rattle.rtk_captures.specs.declared.span_line.DatedSpan.{DatedSpan}
-use Rattle.rtk_plan.specs.ClockReach.{midway, clock_dating, clock_placed, placed_or_none}
-use Rattle.rtk_plan.specs.declared.clock_reach.ClockDating.{ClockDating}
+use Rattle.rtk_plan.specs.ClockDating.{midway, clock_dating}
+use Rattle.rtk_plan.specs.ClockReach.{clock_placed, placed_or_none}
+use Rattle.rtk_plan.specs.declared.clock_dating.ClockDating.{ClockDating}
 
 -- the first and the last message of a capture without an epoch
 abbrev pub place_of_clocks : ClockDating → CaptureSurvey → Option Placed

@@ -1,13 +1,13 @@
 -- The moment near which a conversion dates that takes 1012 (this project's rule). A 1012 tells no day, so it is dated within
--- half a day of that moment, and all that is converted has to lie there.
+-- half a day of that moment, and all epochs and all messages of GLONASS have to lie there.
 -- Source: RTCM 10403.3, DF034
 use Rattle.std.specs.Prelude.{ℕ, ◌+◌, ◌*◌, ◌/◌, Bool, ◌&&◌, ◌||◌, nat_le, nat_lt, min, max, List, [], ◌∷◌, Option, None, Some, if◌then◌else◌}
 use Rattle.rtk_obs.specs.declared.time.TheConstants.{LAST_MS}
-use Rattle.rtk_survey.specs.declared.clock_spans.FollowedClock.TheVariants.{GlonassDay}
+use Rattle.rtk_survey.specs.declared.clock_spans.FollowedClock.TheVariants.{GlonassWeek, GlonassDay}
 use Rattle.rtk_survey.specs.declared.placing.Placed.{Placed}
 use Rattle.rtk_survey.specs.declared.survey.CaptureSurvey.{CaptureSurvey}
 use Rattle.rtk_plan.specs.ClockReach.{clock_placed}
-use Rattle.rtk_plan.specs.declared.clock_reach.ClockDating.{ClockDating}
+use Rattle.rtk_plan.specs.declared.clock_dating.ClockDating.{ClockDating}
 use Rattle.rtk_plan.specs.declared.near_1012.Ends.{Ends}
 
 -- ---- the first and the last moment of what is converted
@@ -19,9 +19,9 @@ abbrev pub ends_with_placed : Ends → Option Placed → Ends
 ends_with_placed e None = e
 ends_with_placed e (Some p) = ends_with_moment (ends_with_moment e p.from) p.until
 
--- those of the 1012 of a capture too
+-- those of the 1012 and the MSM of GLONASS of a capture too
 abbrev pub ends_with_capture : ClockDating → Ends → CaptureSurvey → Option Placed → Ends
-ends_with_capture way e s p = ends_with_placed e (clock_placed way GlonassDay s p)
+ends_with_capture way e s p = ends_with_placed (ends_with_placed e (clock_placed way GlonassWeek s p)) (clock_placed way GlonassDay s p)
 
 -- those of captures of a station, which are placed so
 abbrev pub ends_after : ClockDating → Ends → List CaptureSurvey → List (Option Placed) → Ends

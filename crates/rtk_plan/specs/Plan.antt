@@ -11,18 +11,20 @@ use Rattle.rtk_setup.specs.declared.system_kinds.SystemKinds.{SystemKinds}
 use Rattle.rtk_survey.specs.declared.survey.CaptureSurvey.{CaptureSurvey}
 use Rattle.rtk_captures.specs.ChosenStation.{IsObservedStation, IsOnlyObserved}
 use Rattle.rtk_systems.specs.declared.clock_seconds.ClockSeconds.{ClockSeconds}
-use Rattle.rtk_systems.specs.declared.system_flags.SystemFlags.{SystemFlags}
+use Rattle.rtk_rinex.specs.declared.system_flags.SystemFlags.{SystemFlags}
 use Rattle.rtk_captures.specs.declared.span_line.DatedSpan.{DatedSpan}
 use Rattle.rtk_systems.specs.ClockOffsets.{systems_with_clocks}
 use Rattle.rtk_systems.specs.FoundSeconds.{asks_glonass, AreSecondsOfSetup}
-use Rattle.rtk_plan.specs.ClockReach.{midway, clock_dating, clocks_taken, has_far_clock}
+use Rattle.rtk_plan.specs.ClockDating.{midway, clock_dating}
+use Rattle.rtk_plan.specs.ClockReach.{clocks_taken, has_far_clock}
 use Rattle.rtk_plan.specs.Near1012.{ends_after, near_between}
 use Rattle.rtk_systems.specs.SlotChannels.{AreSecondsChosen, IsGlonassFound}
-use Rattle.rtk_systems.specs.SystemFlags.{in_both, flags_listed}
+use Rattle.rtk_systems.specs.SystemFlags.{flags_listed}
+use Rattle.rtk_rinex.specs.SystemFlags.{in_both}
 use Rattle.rtk_systems.specs.SystemMsms.{kinds_listed}
 use Rattle.rtk_systems.specs.Values.{kinds_in_links, codes_in_captures, is_1012_given}
 use Rattle.rtk_systems.specs.declared.values.TakenMessages.{TakenMessages}
-use Rattle.rtk_plan.specs.declared.clock_reach.ClockDating.{ClockDating}
+use Rattle.rtk_plan.specs.declared.clock_dating.ClockDating.{ClockDating}
 use Rattle.rtk_plan.specs.declared.wanted.Wanted.{Wanted}
 use Rattle.rtk_captures.specs.Dating.{ArePlaced, IsNearOf, IsSpanOf, captures_of, some_out_of_reach}
 use Rattle.rtk_captures.specs.declared.station_capture.StationCapture.{StationCapture}
@@ -129,7 +131,7 @@ HasNear1012 ss given station seconds has =
 -- ---- clocks that give no epoch
 
 -- whether a conversion of captures, which are dated near a moment that is given or by what they tell, dates a clock of a system
--- that it converts otherwise than it is near the epochs, or by what a capture without an epoch names
+-- that it converts otherwise than it is near the epochs, or in a capture without an epoch by what this names, or in the middle
 abbrev pub HaveFarClocks : List CaptureSurvey → Option ℕ → ℕ → SetupView → Bool → Type 0
 HaveFarClocks ss given station s has =
     (first : ℕ) × IsNearOf given (captures_of ss station) first

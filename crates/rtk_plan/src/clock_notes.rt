@@ -32,11 +32,21 @@ fn has_week_clock(taken: TakenClocks, clocks: &StationClocks) -> bool
     (taken.glonass && clocks.glonass.is_some()) || (taken.beidou && clocks.beidou.is_some())
 }
 
-// Are there 1012 with values, which are converted, or left out since they can't be dated?
+// Have 1012 no MSM of GLONASS that tells their day?
+fn lacks_day(known: &Option<ClockSpan>) -> bool
+    ensures { result ≡ spec.lacks_day known.now }
+{
+    match known {
+        Some(known) => !known.has_day,
+        None => false,
+    }
+}
+
+// Are there such 1012 with values, which are converted, or left out since they can't be dated?
 fn has_day_clock(taken: TakenClocks, leaves_1012: bool, clocks: &StationClocks) -> bool
     ensures { result ≡ spec.has_day_clock taken leaves_1012 clocks.now }
 {
-    (taken.glonass_day || leaves_1012) && clocks.glonass_day.is_some()
+    (taken.glonass_day || leaves_1012) && lacks_day(&clocks.glonass_day)
 }
 
 // Does such a clock tell an earlier time after a later one?
@@ -76,14 +86,14 @@ fn epochs_fall(epochs: &Option<Span>) -> bool
     }
 }
 
-// Are there clocks that no word dates? Words tell the week, and so not the day of 1012.
-fn has_noted_clock(
+// Are there clocks that no words date? Words tell the week, and so not the day of 1012.
+fn has_undated_clock(
     source: DateSource,
     taken: TakenClocks,
     leaves_1012: bool,
     clocks: &StationClocks,
 ) -> bool
-    ensures { result ≡ spec.has_noted_clock source taken leaves_1012 clocks.now }
+    ensures { result ≡ spec.has_undated_clock source taken leaves_1012 clocks.now }
 {
     has_day_clock(taken, leaves_1012, clocks)
         || (!is_by_words(source) && has_week_clock(taken, clocks))
@@ -102,7 +112,7 @@ fn put_undated_clock(
     ensures { OnOk result (lines.new.items ≡ lines.old.items
         ++ spec.undated_clock_line source taken leaves_1012 capture.now clocks.now name.now) }
 {
-    if tells_no_date(capture) && has_noted_clock(source, taken, leaves_1012, clocks) {
+    if tells_no_date(capture) && has_undated_clock(source, taken, leaves_1012, clocks) {
         put_undated_line(lines, name)
     } else {
         Ok(())
@@ -127,7 +137,8 @@ fn put_falling_clock(
     }
 }
 
-// Appends the moment near which the first 1012 of a capture is dated.
+// Appends the moment that a message names, near which the first 1012 of a capture is dated, or in the week of a moment that is
+// given.
 fn put_day(lines: &mut Vec<u8>, told: &Told, name: &str) -> Result<(), AllocError>
     ensures { OnOk result (lines.new.items ≡ lines.old.items ++ spec.day_line told.now name.now) }
 {
@@ -145,9 +156,9 @@ fn put_day_if_any(lines: &mut Vec<u8>, told: &Option<Told>, name: &str) -> Resul
     }
 }
 
-// Appends that moment, if a capture has 1012 and another message than a 1013 or a 1029 of the station names it: an ephemeris
+// Appends this line, if a capture has such 1012 and another message than a 1013 or a 1029 of the station names it: an ephemeris
 // names the time that it is of, which may be hours off.
-fn put_day_of(
+fn put_day_by_others(
     lines: &mut Vec<u8>,
     taken: TakenClocks,
     leaves_1012: bool,
@@ -156,9 +167,9 @@ fn put_day_of(
     name: &str,
 ) -> Result<(), AllocError>
     ensures { OnOk result (lines.new.items ≡ lines.old.items
-        ++ spec.day_line_of taken leaves_1012 capture.now clocks.now name.now) }
+        ++ spec.day_line_by_others taken leaves_1012 capture.now clocks.now name.now) }
 {
-    if has_day_clock(taken, leaves_1012, clocks) && !capture.is_own_moment {
+    if has_day_clock(taken, leaves_1012, clocks) && !capture.is_moment_of_station {
         put_day_if_any(lines, &capture.moment, name)
     } else {
         Ok(())
@@ -179,7 +190,7 @@ fn put_clock_notes(
 {
     put_undated_clock(lines, source, taken, leaves_1012, capture, clocks, name)?;
     put_falling_clock(lines, taken, capture, clocks, name)?;
-    put_day_of(lines, taken, leaves_1012, capture, clocks, name)?;
+    put_day_by_others(lines, taken, leaves_1012, capture, clocks, name)?;
     Ok(())
 }
 

@@ -7,8 +7,8 @@ ghost use Rattle.rtk_systems.specs.SystemFlags as spec;
 use crate::wanted::Wanted;
 use rtk_message::System;
 use rtk_obs::AnyCode;
+use rtk_rinex::SystemFlags;
 use rtk_survey::DatingSystems;
-use rtk_systems::SystemFlags;
 
 fn lists_code(listed: &[AnyCode], system: System) -> bool
     ensures { result ≡ lists_system listed.now system }

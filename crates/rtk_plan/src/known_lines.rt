@@ -220,14 +220,14 @@ fn put_not_taken(
     surveys: &[CaptureSurvey],
     station: u16,
     taken: Accepted,
-    has_1004: bool,
+    has_gps: bool,
     has_sbas: bool,
     has_doppler: bool,
     is_long: bool,
 ) -> Result<(), AllocError>
-    ensures { OnOk result (lines.new.items ≡ lines.old.items ++ spec.not_taken_by taken has_1004 has_sbas has_doppler is_long surveys.now station) }
+    ensures { OnOk result (lines.new.items ≡ lines.old.items ++ spec.not_taken_by taken has_gps has_sbas has_doppler is_long surveys.now station) }
 {
-    put_obs_1004(lines, surveys, station, has_1004)?;
+    put_obs_1004(lines, surveys, station, has_gps, has_sbas)?;
     put_msms(lines, surveys, station, taken)?;
     put_doppler(lines, surveys, station, taken, has_doppler)?;
     put_sbas(lines, surveys, station, has_sbas)?;
@@ -245,7 +245,7 @@ fn put_not_taken_in(
     ensures { OnOk result (lines.new.items ≡ lines.old.items ++ spec.not_taken surveys.now is_long setup.now) }
 {
     let taken = setup.accepted();
-    let has_1004 = setup.takes_1004();
+    let has_gps = setup.takes_gps();
     let has_sbas = setup.takes_sbas();
     let has_doppler = setup.has_doppler();
     put_not_taken(
@@ -253,7 +253,7 @@ fn put_not_taken_in(
         surveys,
         setup.station(),
         taken,
-        has_1004,
+        has_gps,
         has_sbas,
         has_doppler,
         is_long,

@@ -10,9 +10,8 @@
 //! use rtk_obs::GpsMs;
 //! use rtk_captures::Captures;
 //! use rtk_plan::{Wanted, plan_of};
-//! use rtk_rinex::CreationTime;
+//! use rtk_rinex::{CreationTime, SystemFlags};
 //! use rtk_survey::{CaptureSurvey, DatingSystems, Target, survey_capture};
-//! use rtk_systems::SystemFlags;
 //! use std::alloc::{AllocError, Global};
 //!
 //! // Frames with a 1004 of station 2003: of 2024-05-17 12:00:00, and of two seconds later.
@@ -74,6 +73,7 @@
 #![tactic(auto)]
 
 mod capture_lines;
+mod clock_dating;
 mod clock_notes;
 mod clock_reach;
 mod count_lines;

@@ -5,7 +5,8 @@ ghost use Rattle.rtk_captures.specs.Dating.{ArePlaced, IsNearOf, IsSpanOf, captu
 ghost use Rattle.rtk_plan.specs.LinkPlaces as spec;
 ghost use Rattle.rtk_survey.specs.Surveys.{places_of};
 
-use crate::clock_reach::{ClockDating, clock_placed, placed_at};
+use crate::clock_dating::ClockDating;
+use crate::clock_reach::{clock_placed, placed_at};
 use crate::setup_seconds::seconds_chosen;
 use rtk_captures::{Dating, StationCaptures, links_as_given, links_found, reach_with};
 use rtk_setup::Reference;

@@ -6,7 +6,8 @@ ghost use Rattle.rtk_plan.specs.Near1012 as spec;
 ghost use Rattle.rtk_captures.specs.Dating.{ArePlaced, IsInReach, IsSpanOf, captures_of};
 ghost use Rattle.rtk_plan.specs.Plan.{IsNear1012, near_in_reach, near_with_1012};
 
-use crate::clock_reach::{ClockDating, clock_placed};
+use crate::clock_dating::ClockDating;
+use crate::clock_reach::clock_placed;
 use crate::setup_seconds::seconds_chosen;
 use rtk_captures::{DatedSpan, Dating, StationCapture, StationCaptures, are_out_of_reach};
 use rtk_obs::{GpsMs, LAST_MS};
@@ -47,7 +48,7 @@ fn ends_with_placed(ends: Ends, placed: Option<Placed>) -> Ends
     }
 }
 
-// Those of the 1012 of a capture too.
+// Those of the 1012 and the MSM of GLONASS of a capture too.
 fn ends_with_capture(
     way: &ClockDating,
     ends: Ends,
@@ -56,8 +57,9 @@ fn ends_with_capture(
 ) -> Ends
     ensures { result ≡ spec.ends_with_capture way.now ends survey.now placed }
 {
-    let times = clock_placed(way, FollowedClock::GlonassDay, survey, &placed);
-    ends_with_placed(ends, times)
+    let week = clock_placed(way, FollowedClock::GlonassWeek, survey, &placed);
+    let day = clock_placed(way, FollowedClock::GlonassDay, survey, &placed);
+    ends_with_placed(ends_with_placed(ends, week), day)
 }
 
 // Those of captures that are placed so.

@@ -24,10 +24,10 @@ use rtk_captures::{
     only_station, refused,
 };
 use rtk_obs::Channels;
-use rtk_rinex::CreationTime;
+use rtk_rinex::{CreationTime, SystemFlags};
 use rtk_setup::{Setup, Station};
 use rtk_survey::CaptureSurvey;
-use rtk_systems::{ClockSeconds, SystemFlags, list_held};
+use rtk_systems::{ClockSeconds, list_held};
 use std::alloc::{AllocError, Global};
 
 /// What a conversion of captures is told.

@@ -3,7 +3,6 @@
 ghost use Rattle.std.specs.Prelude.{◌≡◌, ◌<◌, ◌≤◌, None, [], false, OnOk, IfOk, IfErr, IfSome};
 ghost use Rattle.std.specs.Option.{ForSome};
 ghost use Rattle.rtk_obs.specs.CivilText.{last_digits};
-ghost use Rattle.rtk_obs.specs.SatelliteIndex.{letter_of};
 ghost use Rattle.rtk_rinex.specs.MixedHead.{IsGlonassView, IsMixedList, TellsGlonass, has_glonass};
 ghost use Rattle.rtk_setup.specs.Rates.{without_rates};
 ghost use Rattle.rtk_captures.specs.CaptureCauses.{IfRefused};
@@ -21,13 +20,14 @@ use crate::setup_seconds::{has_glonass, seconds_chosen, seconds_compared};
 use crate::wanted::Wanted;
 use rtk_captures::{PlanFault, Refusal, refused};
 use rtk_message::{MsmKind, System};
-use rtk_obs::{AnyCode, Channels, GpsMs};
-use rtk_rinex::{CreationTime, Glonass, Marker, MixedHead};
+use rtk_obs::{AnyCode, Channels, GpsMs, letter_of};
+use rtk_rinex::{CreationTime, Glonass, Marker, MixedHead, SystemFlags};
 use rtk_setup::{LeapSeconds, Reference, Setup, Station, SystemKinds, Window, without_rates};
 use rtk_survey::CaptureSurvey;
 use rtk_systems::{
-    SystemFlags, TakenMessages, channels_found, channels_joined, codes_in_captures, is_1012_given,
-    kinds_in_links, kinds_listed, list_held, own_channels, systems_with_clocks,
+    ClockSeconds, TakenMessages, channels_found, channels_joined, codes_in_captures, flags_listed,
+    is_1012_given, kinds_in_links, kinds_listed, list_without_code, own_channels,
+    systems_with_clocks,
 };
 use std::alloc::{AllocError, Global};
 
@@ -54,20 +54,23 @@ pub(crate) fn systems_asked(wanted: &Wanted, setup: &Setup) -> SystemFlags
     ensures { result ≡ systems_asked wanted.now.codes wanted.now.systems setup.now.head.listed }
 {
     match &wanted.codes {
-        Some(_) => SystemFlags::listed(setup),
+        Some(_) => flags_listed(setup),
         None => wanted.systems,
     }
 }
 
 // ---- the codes
 
-// The codes that are named, else those of these systems that are found.
+// The codes that are named, else those of these systems that are found. If none is found, the clocks of the systems that are
+// asked for may tell why.
 fn codes_of_systems(
     alloc: Global,
     surveys: &[CaptureSurvey],
     station: u16,
+    asked: SystemFlags,
     systems: SystemFlags,
     taken: TakenMessages,
+    seconds: &ClockSeconds,
     wanted: &Option<Vec<AnyCode>>,
 ) -> Result<Vec<AnyCode>, PlanFault>
     requires { ForSome wanted.now (λ codes. IsMixedList codes.items) }
@@ -81,7 +84,8 @@ fn codes_of_systems(
     }
     let codes = codes_in_captures(alloc, surveys, station, systems, taken)?;
     if codes.is_empty() {
-        return refused(Refusal::NoCode, list_held(alloc, surveys)?);
+        let held = list_without_code(alloc, asked, surveys, station, seconds)?;
+        return refused(Refusal::NoCode, held);
     }
     Ok(codes)
 }
@@ -102,7 +106,17 @@ fn codes_to_convert(
         × FindsNoCode surveys.now taken wanted.now station seconds.now near)) }
 {
     let systems = systems_taken(alloc, surveys, station, wanted.systems, seconds, near)?;
-    let codes = codes_of_systems(alloc, surveys, station, systems, taken, &wanted.codes)?;
+    let compared = seconds_compared(seconds, near);
+    let codes = codes_of_systems(
+        alloc,
+        surveys,
+        station,
+        wanted.systems,
+        systems,
+        taken,
+        &compared,
+        &wanted.codes,
+    )?;
     Ok(codes)
 }
 
@@ -336,21 +350,6 @@ fn setup_with(
 
 // ---- Doppler shifts
 
-// The letter of a system in names of RINEX.
-fn letter_of(system: System) -> char
-    ensures { result ≡ letter_of system }
-{
-    match system {
-        System::Gps => 'G',
-        System::Glonass => 'R',
-        System::Galileo => 'E',
-        System::Beidou => 'C',
-        System::Qzss => 'J',
-        System::Sbas => 'S',
-        System::Navic => 'I',
-    }
-}
-
 // Has the MSM of each listed system range rates, if Doppler shifts are asked for?
 fn demand_rates(
     alloc: Global,
@@ -363,7 +362,8 @@ fn demand_rates(
 {
     match without_rates(is_asked, kinds, listed) {
         Some(system) => {
-            let letter = letter_of(system);
+            let byte = letter_of(system);
+            let letter = char::from(byte);
             refused(Refusal::NoRates { letter }, Vec::new(alloc))
         }
         None => Ok(()),

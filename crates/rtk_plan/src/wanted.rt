@@ -5,9 +5,8 @@ ghost use Rattle.rtk_rinex.specs.MixedHead.{IsMixedList};
 
 use rtk_message::MsmKind;
 use rtk_obs::{AnyCode, Channels};
-use rtk_rinex::Marker;
+use rtk_rinex::{Marker, SystemFlags};
 use rtk_setup::{LeapSeconds, Reference, Station, Window};
-use rtk_systems::SystemFlags;
 
 /// What the words say of the values of a conversion. `None` is to be found in the captures.
 #[derive(Drop)]

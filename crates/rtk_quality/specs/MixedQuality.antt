@@ -18,7 +18,8 @@ use Rattle.rtk_quality.specs.Quality.{station_sums, satellites_in}
 use Rattle.rtk_quality.specs.QualityText.{marker_text, span_text, satellites_text, station_text, listed_text, listed_counts, gaps_text, body_text, close_text}
 use Rattle.rtk_quality.specs.Records.{unit_of, record_counts_of}
 use Rattle.rtk_quality.specs.Shifts.{shifts_part}
-use Rattle.rtk_quality.specs.SystemParts.{codes_of_system, epochs_of_system}
+use Rattle.rtk_tracking.specs.SystemCodes.{codes_of_system}
+use Rattle.rtk_quality.specs.SystemParts.{epochs_of_system}
 use Rattle.rtk_quality.specs.declared.form.Form.{Form}
 use Rattle.rtk_quality.specs.declared.form.Form.TheVariants.{Table, Lines, Json}
 use Rattle.rtk_quality.specs.declared.form.Decimals.TheVariants.{Whole}

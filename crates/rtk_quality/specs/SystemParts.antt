@@ -1,10 +1,8 @@
--- A file of any systems, system by system: the codes and the epochs of each (this project's rule).
+-- A file of any systems, system by system: the epochs of each (this project's rule).
 use Rattle.std.specs.Prelude.{◌==◌, Bool, List, map}
 use Rattle.std.specs.List.{filter}
 use Rattle.rtk_message.specs.declared.system.System.{System}
-use Rattle.rtk_obs.specs.declared.any_code.AnyCode.{AnyCode}
 use Rattle.rtk_obs.specs.SatelliteIndex.{system_at, letter_of}
-use Rattle.rtk_rinex.specs.MixedHeader.{codes_of}
 use Rattle.rtk_rinex.specs.Record.{EpochTableView}
 use Rattle.rtk_rinex.specs.declared.epoch_table.SatelliteRow.{SatelliteRow}
 
@@ -20,7 +18,3 @@ epoch_of_system s e = record { time = e.time; rows = filter (is_row_of s) e.rows
 -- the epochs of a system: all epochs of the file, each with its satellites alone
 abbrev pub epochs_of_system : System → List EpochTableView → List EpochTableView
 epochs_of_system s epochs = map (epoch_of_system s) epochs
-
--- the codes of a system
-abbrev pub codes_of_system : System → List AnyCode → List AnyCode
-codes_of_system s listed = codes_of (letter_of s) listed

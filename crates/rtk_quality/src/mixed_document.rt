@@ -19,11 +19,11 @@ use crate::pass_sums::PassSums;
 use crate::record_counts::{RecordCounts, unit_ms};
 use crate::shifts::put_shifts_if;
 use crate::station::put_gaps;
-use crate::system_counts::{codes_of_system, count_system, letter_of};
+use crate::system_counts::count_system;
 use rtk_message::System;
-use rtk_obs::{AnyCode, Civil, GpsMs, civil};
+use rtk_obs::{AnyCode, Civil, GpsMs, civil, letter_of};
 use rtk_rinex::{MixedHead, MixedTextTable};
-use rtk_tracking::mixed_interval;
+use rtk_tracking::{codes_of_system, mixed_interval};
 use std::alloc::{AllocError, Global};
 
 // Appends the beginning of the part of a system.

@@ -1,21 +1,20 @@
 //! The counts of one system of a file.
 
-ghost use Rattle.std.specs.Prelude.{◌≡◌, ◌==◌, ◌≤◌, List, length, IfOk, OnOk};
+ghost use Rattle.std.specs.Prelude.{◌≡◌, ◌==◌, ◌≤◌, length, IfOk, OnOk};
 ghost use Rattle.std.specs.List.{filter};
 ghost use Rattle.rtk_obs.specs.SatelliteIndex.{system_at, letter_of};
-ghost use Rattle.rtk_rinex.specs.MixedHead.{IsMixedList};
 ghost use Rattle.rtk_rinex.specs.MixedRecords.{IsRecordOf};
 ghost use Rattle.rtk_rinex.specs.MixedTable.{MixedTable, IsMixedTable, mixed_table_text};
 ghost use Rattle.rtk_rinex.specs.Record.{EpochTableView};
 ghost use Rattle.rtk_tracking.specs.Epochs.{newest_first};
 ghost use Rattle.rtk_quality.specs.Records.{unit_of};
 ghost use Rattle.rtk_quality.specs.Standing.{AreRowsUpTo, HasCounted};
-ghost use Rattle.rtk_quality.specs.SystemParts.{is_row_of, epochs_of_system, codes_of_system};
+ghost use Rattle.rtk_quality.specs.SystemParts.{is_row_of, epochs_of_system};
 
 use crate::file_counts::FileCounts;
 use crate::record_counts::unit_ms;
 use rtk_message::System;
-use rtk_obs::{AnyCode, SatelliteIndex, any_code_laws};
+use rtk_obs::{AnyCode, SatelliteIndex, letter_of};
 use rtk_rinex::{MixedRows, MixedTextTable, SatelliteRow};
 use std::alloc::{AllocError, Global};
 use std::mem;
@@ -23,47 +22,11 @@ use std::mem;
 /// How many satellites all systems have.
 const ALL_SATELLITES: usize = 221;
 
-/// The letter of a system in names of RINEX.
-pub(crate) fn letter_of(system: System) -> u8
-    ensures { result ≡ letter_of system }
-{
-    match system {
-        System::Gps => b'G',
-        System::Glonass => b'R',
-        System::Galileo => b'E',
-        System::Beidou => b'C',
-        System::Qzss => b'J',
-        System::Sbas => b'S',
-        System::Navic => b'I',
-    }
-}
-
 // Is a satellite of this system?
 fn is_of_system(satellite: SatelliteIndex, system: System) -> bool
     ensures { result ≡ (letter_of (system_at satellite) == letter_of system) }
 {
     letter_of(satellite.system()) == letter_of(system)
-}
-
-/// The codes of a system, in their order.
-pub(crate) fn codes_of_system(
-    alloc: Global,
-    system: System,
-    listed: &[AnyCode],
-) -> Result<Vec<AnyCode>, AllocError>
-    requires { IsMixedList listed.now }
-    ensures value { IfOk result (λ codes. codes.items ≡ codes_of_system system listed.now) }
-    ensures few { IfOk result (λ codes. length codes.items ≤ 16) }
-{
-    // A law: a place belongs to one code of a system, and is below 16.
-    any_code_laws();
-    let mut codes = Vec::new(alloc);
-    for code in listed {
-        if letter_of(code.system()) == letter_of(system) {
-            codes.push(*code)?;
-        }
-    }
-    Ok(codes)
 }
 
 // Reads the rows of a system in a record.

@@ -18,6 +18,7 @@ mod OneLemmas
 mod HeaderShownLemmas
 mod HeaderRowsLemmas
 mod HeaderGoodLemmas
+mod PlainLemmas
 mod PartLemmas
 mod HeaderTypesLemmas
 mod HeaderPartsLemmas
@@ -31,6 +32,7 @@ mod OneFaultLemmas
 mod OneTableLemmas
 mod PairsLemmas
 mod ThreesLemmas
+mod NamesLemmas
 mod WrittenLemmas
 mod EqualityLemmas
 mod RecordsLemmas

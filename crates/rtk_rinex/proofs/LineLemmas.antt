@@ -1,22 +1,20 @@
 -- Each line of a record ends in its only LF.
-use Rattle.std.proofs.Common.{◌≡◌, ◌≢◌, ℕ, zero, suc, ◌+◌, ◌-◌, ◌/◌, ◌%◌, ◌^◌, ◌<◌, ◌≤◌, Bool, true, false, ◌==◌, if◌then◌else◌, Option, Some, None, ℤ, unsigned_abs, List, [], ◌∷◌, ◌++◌, length, take, drop, get_or, replicate, decimal, codes, refl, sym, ◌∙◌, ap, arith, append_assoc, flat_map}
-use Rattle.std.specs.Prelude.{MatchOption}
-use Rattle.std.specs.Fmt.{sign_text}
+use Rattle.std.proofs.Common.{◌≡◌, ◌≢◌, ℕ, zero, suc, ◌+◌, ◌-◌, ◌/◌, ◌^◌, ◌<◌, ◌≤◌, Bool, true, false, Option, Some, None, List, [], ◌∷◌, ◌++◌, length, take, drop, get_or, replicate, decimal, codes, refl, sym, ◌∙◌, ap, arith, append_assoc, flat_map}
+use Rattle.std.specs.Prelude.{MatchOption, All}
 use Rattle.memchr.specs.Find.{IsFirstByte, is_byte}
-use Rattle.std.proofs.lemmas.Fmt.{decimal_by_steps}
 use Rattle.std.proofs.lemmas.Bool.Decides.{nat_tests}
 use Rattle.std.proofs.lemmas.Grind.{take_at_read}
 use Rattle.std.proofs.lemmas.List.{take_all, length-take, get_or-take}
 use Rattle.std.proofs.lemmas.List.Elements.{All-nil, All-cons, All-head, All-tail, All-append, All-replicate}
 use Rattle.rtk_obs.specs.declared.time.Civil.{Civil}
-use Rattle.rtk_rinex.specs.declared.epoch_table.Observed.{Observed}
 use Rattle.rtk_rinex.specs.declared.epoch_table.SatelliteRow.{SatelliteRow}
 use Rattle.rtk_obs.specs.CivilText.{last_digits}
-use Rattle.rtk_rinex.specs.Columns.{right, decimals, fixed, is_negative, seconds_of}
+use Rattle.rtk_rinex.specs.Columns.{right, decimals, seconds_of}
 use Rattle.rtk_obs.specs.Reading.{IsMoment, reading_of}
-use Rattle.rtk_rinex.specs.Record.{is_written, observation, observations, lli_digit, strength_digit, strength_value, before_trimmed, trim_end, satellite_line, epoch_date_text, epoch_columns, epoch_line}
+use Rattle.rtk_rinex.specs.Record.{observations, trim_end, satellite_line, epoch_date_text, epoch_columns, epoch_line}
 use Rattle.rtk_rinex.specs.Lines.{HasNoEnd, IsLine}
-use Rattle.rtk_rinex.proofs.ValuesLemmas.{written-magnitude}
+use Rattle.rtk_rinex.specs.Steps.ReadRecords.{HasNoMark}
+use Rattle.rtk_rinex.proofs.PlainLemmas.{IsPlain, no-end, plain-line, plain-both, plain-decimal, plain-last_digits, plain-decimals, plain-codes, plain-trimmed}
 use Rattle.rtk_rinex.proofs.ReadingLemmas.{FitsColumns-reading_of}
 
 abbrev pub IsNoEnd : ℕ → Type 0
@@ -31,84 +29,33 @@ both xs ys h g = All-append IsNoEnd xs ys h g
 pub blanks : (k : ℕ) → HasNoEnd (replicate k 32)
 blanks k = All-replicate IsNoEnd k 32 (λ e. omega (arith, e))
 
-digit : (d : ℕ) → HasNoEnd ((48 + d) ∷ [])
-digit d = one (48 + d) (λ e. omega (arith, e))
-
 pub of_decimal : (n : ℕ) → n < 2 ^ 64 → HasNoEnd (decimal n)
-of_decimal n h = decimal_by_steps (λ n ds. HasNoEnd ds) (λ n small. digit n) (λ n ds low e. both ds ((48 + n % 10) ∷ []) e (digit (n % 10))) n h
+of_decimal n h = no-end (decimal n) (plain-decimal n h)
 
 pub of_last_digits : (k n : ℕ) → HasNoEnd (last_digits k n)
-of_last_digits zero n = All-nil IsNoEnd
-of_last_digits (suc k) n = both (last_digits k (n / 10)) ((48 + n % 10) ∷ []) (of_last_digits k (n / 10)) (digit (n % 10))
-
-of_sign : (b : Bool) → HasNoEnd (sign_text b)
-of_sign true = one 45 (λ e. omega (arith, e))
-of_sign false = All-nil IsNoEnd
+of_last_digits k n = no-end (last_digits k n) (plain-last_digits k n)
 
 pub of_right : (w : ℕ) (text : List ℕ) → HasNoEnd text → HasNoEnd (right w text)
 of_right w text h = both (replicate (w - length text) 32) text (blanks (w - length text)) h
 
 pub of_decimals : (k : ℕ) (b : Bool) (n : ℕ) → n / 10 ^ k < 2 ^ 64 → HasNoEnd (decimals k b n)
-of_decimals k b n h =
-    both (sign_text b ++ decimal (n / 10 ^ k)) (46 ∷ last_digits k n) (both (sign_text b) (decimal (n / 10 ^ k)) (of_sign b) (of_decimal (n / 10 ^ k) h))
-    (All-cons IsNoEnd 46 (last_digits k n) (λ e. omega (arith, e)) (of_last_digits k n))
+of_decimals k b n h = no-end (decimals k b n) (plain-decimals k b n h)
 
-observation_if : (v : ℤ) (a b : ℕ) → a ≢ 10 → b ≢ 10 → (c : Bool) → is_written v ≡ c → HasNoEnd (if c then fixed 3 14 v ++ a ∷ b ∷ [] else replicate 16 32)
-observation_if v a b h g true e =
-    let small = written-magnitude v e in
-    both (fixed 3 14 v) (a ∷ b ∷ []) (of_right 14 (decimals 3 (is_negative v) (unsigned_abs v)) (of_decimals 3 (is_negative v) (unsigned_abs v) (omega arith)))
-    (All-cons IsNoEnd a (b ∷ []) h (one b g))
-observation_if v a b h g false e = blanks 16
-
-pub of_observation : (v : Option ℤ) (a b : ℕ) → a ≢ 10 → b ≢ 10 → HasNoEnd (observation v a b)
-of_observation None a b h g = blanks 16
-of_observation (Some v) a b h g = observation_if v a b h g (is_written v) refl
-
-pub strength_is : (s : Option ℕ) → strength_digit s ≢ 10
-strength_is None e = omega (arith, e)
-strength_is (Some s) e = omega (arith, e)
-
-pub lli_is : (slip half : Bool) → lli_digit slip half ≢ 10
-lli_is true true e = omega (arith, e)
-lli_is true false e = omega (arith, e)
-lli_is false true e = omega (arith, e)
-lli_is false false e = omega (arith, e)
-
-pub of_observations : (o : Observed) → HasNoEnd (observations o)
-of_observations o =
-    let digit = strength_digit o.strength_millidbhz in
-    let lli = lli_digit o.slip o.half in
-    let blank : 32 ≢ 10 = λ e. omega (arith, e) in
-    let a : List ℕ = observation o.range_mm 32 digit in
-    let b : List ℕ = observation o.phase_millicycles lli digit in
-    let c : List ℕ = observation (strength_value o.strength_millidbhz) 32 32 in
-    both (a ++ b) c
-    (both a b (of_observation o.range_mm 32 digit blank (strength_is o.strength_millidbhz)) (of_observation o.phase_millicycles lli digit (lli_is o.slip o.half) (strength_is o.strength_millidbhz)))
-    (of_observation (strength_value o.strength_millidbhz) 32 32 blank blank)
-
-pub of_all : (os : List Observed) → HasNoEnd (flat_map observations os)
-of_all [] = All-nil IsNoEnd
-of_all (o ∷ os) = both (observations o) (flat_map observations os) (of_observations o) (of_all os)
-
-trimmed_if : (x : ℕ) → x ≢ 10 → (c : Bool) → HasNoEnd (if c then [] else x ∷ [])
-trimmed_if x h true = All-nil IsNoEnd
-trimmed_if x h false = one x h
-
-front_of : (x : ℕ) (xs : List ℕ) → x ≢ 10 → HasNoEnd xs → HasNoEnd (before_trimmed x xs)
-front_of x [] h g = trimmed_if x h (x == 32)
-front_of x (y ∷ ys) h g = All-cons IsNoEnd x (y ∷ ys) h g
-
-pub of_trimmed : (xs : List ℕ) → HasNoEnd xs → HasNoEnd (trim_end xs)
-unfolding trim_end
-of_trimmed [] h = h
-of_trimmed (x ∷ xs) h = front_of x (trim_end xs) (All-head IsNoEnd x xs h) (of_trimmed xs (All-tail IsNoEnd x xs h))
+-- the line of a satellite without its LF
+plain-front : (r : SatelliteRow) → All IsPlain (trim_end ((71 ∷ last_digits 2 r.satellite) ++ flat_map observations r.observed.items))
+plain-front r =
+    let front : List ℕ = 71 ∷ last_digits 2 r.satellite in
+    plain-trimmed (front ++ flat_map observations r.observed.items)
+    (plain-both front (flat_map observations r.observed.items) (All-cons IsPlain 71 (last_digits 2 r.satellite) (omega arith, λ e. omega (arith, e)) (plain-last_digits 2 r.satellite))
+    (plain-codes false r.observed.items))
 
 pub satellite_line-line : (r : SatelliteRow) → IsLine (satellite_line r)
 satellite_line-line r =
-    let front : List ℕ = 71 ∷ last_digits 2 r.satellite in
-    let text : List ℕ = front ++ flat_map observations r.observed.items in
-    let g : HasNoEnd front = All-cons IsNoEnd 71 (last_digits 2 r.satellite) (λ e. omega (arith, e)) (of_last_digits 2 r.satellite) in
-    (trim_end text, of_trimmed text (both front (flat_map observations r.observed.items) g (of_all r.observed.items)), refl)
+    let front : List ℕ = trim_end ((71 ∷ last_digits 2 r.satellite) ++ flat_map observations r.observed.items) in
+    (front, no-end front (plain-front r), refl)
+
+pub satellite_line-row : (r : SatelliteRow) → HasNoMark (satellite_line r)
+satellite_line-row r = plain-line (trim_end ((71 ∷ last_digits 2 r.satellite) ++ flat_map observations r.observed.items)) (plain-front r)
 
 of_date : (c : Civil) → HasNoEnd (epoch_date_text c)
 of_date c =
@@ -129,7 +76,7 @@ epoch_line-line t n h small =
     let s : List ℕ = right 11 (decimals 7 false (seconds_of c)) in
     let z : List ℕ = codes "  0" in
     let k : List ℕ = right 3 (decimal n) in
-    let zero : HasNoEnd z = All-cons IsNoEnd 32 (32 ∷ 48 ∷ []) (λ e. omega (arith, e)) (All-cons IsNoEnd 32 (48 ∷ []) (λ e. omega (arith, e)) (digit 0)) in
+    let zero : HasNoEnd z = All-cons IsNoEnd 32 (32 ∷ 48 ∷ []) (λ e. omega (arith, e)) (All-cons IsNoEnd 32 (48 ∷ []) (λ e. omega (arith, e)) (one 48 (λ e. omega (arith, e)))) in
     let seconds : HasNoEnd s = of_right 11 (decimals 7 false (seconds_of c)) (of_decimals 7 false (seconds_of c) (omega (arith, fits.second, fits.millisecond))) in (
       epoch_columns c n,
       both ((epoch_date_text c ++ s) ++ z) k (both (epoch_date_text c ++ s) z (both (epoch_date_text c) s (of_date c) seconds) zero) (of_right 3 (decimal n) (of_decimal n (omega arith))),

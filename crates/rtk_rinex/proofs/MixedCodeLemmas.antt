@@ -1,18 +1,16 @@
 -- What a code shows in a file of any systems, with Doppler shifts (true) or without them, and codes one after another.
-use Rattle.std.proofs.Common.{◌≡◌, ◌≢◌, ℕ, suc, ◌+◌, ◌-◌, ◌*◌, ◌≤◌, Bool, true, false, ◌||◌, ◌&&◌, List, [], ◌∷◌, ◌++◌, length, take, drop, replicate, ℤ, Option, None, inl, inr, refl, sym, ◌∙◌, ap, arith, length-append, length-drop, append_assoc, flat_map}
+use Rattle.std.proofs.Common.{◌≡◌, ℕ, suc, ◌+◌, ◌-◌, ◌*◌, ◌≤◌, Bool, true, false, ◌||◌, ◌&&◌, List, [], ◌∷◌, ◌++◌, length, take, drop, replicate, ℤ, Option, None, inl, inr, refl, sym, ◌∙◌, ap, arith, length-append, length-drop, append_assoc, flat_map}
 use Rattle.std.specs.Prelude.{All}
 use Rattle.std.specs.List.{list_any}
 use Rattle.std.proofs.lemmas.Bool.Decides.{leb_tells}
 use Rattle.std.proofs.lemmas.List.{append-nil, length-take, take_all, take-append-drop, replicate-append-replicate}
-use Rattle.std.proofs.lemmas.List.Elements.{All-nil, All-head, All-tail}
+use Rattle.std.proofs.lemmas.List.Elements.{All-head, All-tail}
 use Rattle.rtk_rinex.specs.declared.epoch_table.Observed.{Observed}
 use Rattle.rtk_rinex.specs.Columns.{left}
-use Rattle.rtk_rinex.specs.Lines.{HasNoEnd}
 use Rattle.rtk_rinex.specs.Record.{is_present, observation, observations, observations_with_doppler, code_text, code_width, has_observation, is_shown, lli_digit, strength_digit, strength_value}
 use Rattle.rtk_rinex.specs.Table.{IsObserved, IsObservedWithDoppler, IsObservedIn}
 use Rattle.rtk_rinex.proofs.CellLemmas.{one_value, or-none, and-left, and-right, solid-value, solid-cell, no_more, left-nil, drop_more}
 use Rattle.rtk_rinex.proofs.DigitsLemmas.{take-exact, drop-exact}
-use Rattle.rtk_rinex.proofs.LineLemmas.{IsNoEnd, both, of_observation, of_observations, strength_is, lli_is}
 use Rattle.rtk_rinex.proofs.ValuesLemmas.{are_blanks, are_blanks-append, code_shown, observed_of-observations, length-observation}
 use Rattle.rtk_rinex.proofs.WrittenLemmas.{length-code, blank-code, no-width, more-width}
 
@@ -95,22 +93,6 @@ pub solid-code : (doppler : Bool) (o : Observed) → IsObservedIn doppler o → 
 solid-code false o h e = solid-cell o h e
 solid-code true o h e = solid-if-shown o (has_observation o) refl e h
 
-no-end-shifted : (o : Observed) → HasNoEnd (observations_with_doppler o)
-no-end-shifted o =
-    let digit = strength_digit o.strength_millidbhz in
-    let lli = lli_digit o.slip o.half in
-    let blank : 32 ≢ 10 = λ e. omega (arith, e) in
-    let a : List ℕ = observation o.range_mm 32 digit in
-    let b : List ℕ = observation o.phase_millicycles lli digit in
-    let d : List ℕ = observation o.doppler_millihertz 32 32 in
-    let c : List ℕ = observation (strength_value o.strength_millidbhz) 32 32 in
-    let front = both a b (of_observation o.range_mm 32 digit blank (strength_is o.strength_millidbhz)) (of_observation o.phase_millicycles lli digit (lli_is o.slip o.half) (strength_is o.strength_millidbhz)) in
-    both ((a ++ b) ++ d) c (both (a ++ b) d front (of_observation o.doppler_millihertz 32 32 blank blank)) (of_observation (strength_value o.strength_millidbhz) 32 32 blank blank)
-
-no-end-code : (doppler : Bool) (o : Observed) → HasNoEnd (code_text doppler o)
-no-end-code false o = of_observations o
-no-end-code true o = no-end-shifted o
-
 -- ---- columns with the blanks at their end
 
 pub left-full : (w : ℕ) (columns : List ℕ) → length columns ≡ w → left w columns ≡ columns
@@ -150,10 +132,6 @@ module _ (doppler : Bool) where
   pub left-code : (n : ℕ) (xs : List ℕ)
       → left (code_width doppler * suc n) xs ≡ left (code_width doppler) (take (code_width doppler) xs) ++ left (code_width doppler * n) (drop (code_width doppler) xs)
   left-code n xs = ap (λ (k : ℕ). left k xs) (more-width doppler n) ∙ left-two (code_width doppler) (code_width doppler * n) xs
-
-  pub no-end-codes : (os : List Observed) → HasNoEnd (flat_map (code_text doppler) os)
-  no-end-codes [] = All-nil IsNoEnd
-  no-end-codes (o ∷ os) = both (code_text doppler o) (flat_map (code_text doppler) os) (no-end-code doppler o) (no-end-codes os)
 
   -- the columns of one code, and those after it
   pub first-code : (o p : Observed) (x y : List ℕ) → code_text doppler o ++ x ≡ code_text doppler p ++ y → (code_text doppler o ≡ code_text doppler p) × (x ≡ y)

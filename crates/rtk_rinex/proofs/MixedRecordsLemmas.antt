@@ -1,5 +1,5 @@
 -- The records of a text of any systems, read one by one, and the rows of each.
-use Rattle.std.proofs.Common.{◌≡◌, ◌≢◌, ℕ, ◌-◌, ◌*◌, ◌<◌, Bool, false, Option, Some, None, List, [], ◌∷◌, ◌++◌, length, take, drop, flat_map, refl, sym, ◌∙◌, ap, arith, length-append}
+use Rattle.std.proofs.Common.{◌≡◌, ◌≢◌, ℕ, ◌-◌, ◌*◌, ◌<◌, Bool, false, Option, Some, None, List, [], ◌∷◌, ◌++◌, length, take, drop, flat_map, inl, inr, refl, sym, ◌∙◌, ap, arith, length-append}
 use Rattle.std.specs.Prelude.{All, ℤ}
 use Rattle.std.specs.Int.{IsInRange}
 use mathlib.Core.Logic.{∥∥₁_map}
@@ -22,7 +22,8 @@ use Rattle.rtk_rinex.specs.MixedTable.{MixedTable, IsMixedTable, IsMixedRow, IsM
 use Rattle.rtk_rinex.specs.MixedCheckLine.{IsMixedForm}
 use Rattle.rtk_rinex.specs.MixedCheckTable.{HoldsMixedTable}
 use Rattle.rtk_rinex.specs.MixedRecords.{MixedRecordsView, AreMixedLeft, IsMixedRecordsView, MixedRowsView, AreRowsLeft, IsRecordOf, IsNextRecordOf, IsNextRowOf}
-use Rattle.rtk_rinex.specs.Steps.MixedReadRecords.{AreMixedCells, BeginsWithMixedRecord}
+use Rattle.rtk_rinex.specs.Steps.MixedReadRecords.{AreMixedCells, BeginsWithMixedRecord, BeginsMixedRecords}
+use Rattle.rtk_rinex.specs.Steps.ReadRecords.{IsEndOrRecord}
 use Rattle.rtk_rinex.proofs.DigitsLemmas.{take-exact, drop-exact}
 use Rattle.rtk_rinex.proofs.EpochLemmas.{length-line, line-columns}
 use Rattle.rtk_rinex.proofs.FieldLemmas.{none_of}
@@ -42,10 +43,21 @@ left_view f text = record { form = f; text = text }
 abbrev pub HasMixedLeft : FormView → List ℕ → Type 0
 HasMixedLeft f text = (epochs : List EpochTableView) × AreMixedLeft (left_view f text) epochs
 
+-- what is left are records, so it begins with a mark if it is not empty
+records-begin : (f : FormView) (epochs : List EpochTableView) → All (IsMixedEpoch f) epochs → IsEndOrRecord (flat_map (mixed_record_text f.doppler) epochs)
+records-begin f [] good = inl refl
+records-begin f (e ∷ epochs) good =
+    let rest : List ℕ = flat_map (mixed_record_text f.doppler) epochs in
+    let text : List ℕ = epoch_line (reading_of e.time) (length e.rows) ++ (flat_map (mixed_satellite_line f.doppler) e.rows ++ rest) in
+    inr (drop 1 text, epoch-front f e rest (All-head (IsMixedEpoch f) e epochs good))
+
 -- a text that is not empty begins with a record
-pub record-due : (f : FormView) (text : List ℕ) → length text ≢ 0 → HasMixedLeft f text → BeginsWithMixedRecord f text
+pub record-due : (f : FormView) (text : List ℕ) → length text ≢ 0 → HasMixedLeft f text → BeginsMixedRecords f text
 record-due f text some ([], left) = absurd (some (ap length left.text))
-record-due f text some (e ∷ epochs, left) = (e, flat_map (mixed_record_text f.doppler) epochs, All-head (IsMixedEpoch f) e epochs left.are_epochs, left.text)
+record-due f text some (e ∷ epochs, left) = (
+  (e, flat_map (mixed_record_text f.doppler) epochs, All-head (IsMixedEpoch f) e epochs left.are_epochs, left.text),
+  records-begin f epochs (All-tail (IsMixedEpoch f) e epochs left.are_epochs),
+)
 
 -- no records are left of an empty text
 pub none-left : (f : FormView) (text : List ℕ) (epochs : List EpochTableView) → AreMixedLeft (left_view f text) epochs → length text ≡ 0 → epochs ≡ []
@@ -55,15 +67,17 @@ none-left f text (e ∷ epochs) left none =
 
 -- the record that begins a text, and the text after it
 abbrev pub PartsRecord : FormView → List ℕ → MixedRowsView → List ℕ → Type 0
-PartsRecord f bytes rows rest = (e : EpochTableView) (after : List ℕ) → IsMixedEpoch f e → bytes ≡ mixed_record_text f.doppler e ++ after → IsRecordOf e rows × (rest ≡ after)
+PartsRecord f bytes rows rest = (e : EpochTableView) (after : List ℕ) → IsMixedEpoch f e → IsEndOrRecord after → bytes ≡ mixed_record_text f.doppler e ++ after
+    → IsRecordOf e rows × (rest ≡ after)
 
 -- it is the first one that was left, and the others are left
 pub next-read : (f : FormView) (bytes rest : List ℕ) (rows : MixedRowsView) (epochs : List EpochTableView) → PartsRecord f bytes rows rest → length bytes ≢ 0
     → AreMixedLeft (left_view f bytes) epochs → IsNextRecordOf epochs rows (left_view f rest)
 next-read f bytes rest rows [] parts some left = some (ap length left.text)
 next-read f bytes rest rows (e ∷ epochs) parts some left =
-    let is = parts e (flat_map (mixed_record_text f.doppler) epochs) (All-head (IsMixedEpoch f) e epochs left.are_epochs) left.text in
-    (is.0, record { are_epochs = All-tail (IsMixedEpoch f) e epochs left.are_epochs; text = is.1 })
+    let others = All-tail (IsMixedEpoch f) e epochs left.are_epochs in
+    let is = parts e (flat_map (mixed_record_text f.doppler) epochs) (All-head (IsMixedEpoch f) e epochs left.are_epochs) (records-begin f epochs others) left.text in
+    (is.0, record { are_epochs = others; text = is.1 })
 
 pub others-left : (f : FormView) (bytes rest : List ℕ) (rows : MixedRowsView) → PartsRecord f bytes rows rest → length bytes ≢ 0 → HasMixedLeft f bytes → HasMixedLeft f rest
 others-left f bytes rest rows parts some ([], left) = absurd (some (ap length left.text))
@@ -74,7 +88,7 @@ pub less-left : (f : FormView) (bytes rest : List ℕ) (rows : MixedRowsView) �
 less-left f bytes rest rows parts some ([], left) = absurd (some (ap length left.text))
 less-left f bytes rest rows parts some (e ∷ epochs, left) =
     let first = All-head (IsMixedEpoch f) e epochs left.are_epochs in
-    let is = parts e (flat_map (mixed_record_text f.doppler) epochs) first left.text in
+    let is = parts e (flat_map (mixed_record_text f.doppler) epochs) first (records-begin f epochs (All-tail (IsMixedEpoch f) e epochs left.are_epochs)) left.text in
     let long : length (mixed_record_text f.doppler e) ≢ 0 = λ none. some_text f e [] first (ap (λ (xs : List ℕ). xs ++ []) (none_of (mixed_record_text f.doppler e) none)) in
     omega (arith, ap length left.text, length-append (mixed_record_text f.doppler e) (flat_map (mixed_record_text f.doppler) epochs), ap length is.1, long)
 

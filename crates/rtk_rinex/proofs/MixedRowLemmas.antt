@@ -12,19 +12,20 @@ use Rattle.rtk_obs.specs.SatelliteIndex.{IsSatelliteIndex, system_at, bit_at, le
 use Rattle.rtk_rinex.specs.declared.epoch_table.Observed.{Observed}
 use Rattle.rtk_rinex.specs.declared.epoch_table.SatelliteRow.{SatelliteRow}
 use Rattle.rtk_rinex.specs.Columns.{left}
-use Rattle.rtk_rinex.specs.Lines.{HasNoEnd, IsLine}
+use Rattle.rtk_rinex.specs.Lines.{IsLine}
 use Rattle.rtk_rinex.specs.Record.{code_text, code_width, is_shown, trim_end}
 use Rattle.rtk_rinex.specs.Table.{IsObservedIn}
 use Rattle.rtk_rinex.specs.MixedRecord.{mixed_satellite_line}
 use Rattle.rtk_rinex.specs.MixedForm.{FormView, width_at, has_phases}
 use Rattle.rtk_rinex.specs.MixedTable.{IsMixedRow, HasNoPhase}
 use Rattle.rtk_rinex.specs.MixedCheckLine.{IsMixedForm}
+use Rattle.rtk_rinex.specs.Steps.ReadRecords.{HasNoMark}
 use Rattle.rtk_rinex.specs.Steps.MixedReadRecords.{IsMixedCell, AreMixedCells, AreCodes}
 use Rattle.rtk_rinex.proofs.CellLemmas.{trim_end-blanks, trim_end-solid, some-columns, same_end}
 use Rattle.rtk_rinex.proofs.DigitsLemmas.{take-exact, drop-exact, length-left}
 use Rattle.rtk_rinex.proofs.FormLemmas.{solid, get_front}
-use Rattle.rtk_rinex.proofs.LineLemmas.{IsNoEnd, both, of_trimmed, of_last_digits}
-use Rattle.rtk_rinex.proofs.MixedCodeLemmas.{left-code, no-end-codes, same-codes, blank-codes, solid-codes, one-code}
+use Rattle.rtk_rinex.proofs.PlainLemmas.{IsPlain, no-end, plain-line, plain-both, plain-last_digits, plain-codes, plain-trimmed}
+use Rattle.rtk_rinex.proofs.MixedCodeLemmas.{left-code, same-codes, blank-codes, solid-codes, one-code}
 use Rattle.rtk_rinex.proofs.RecordLemmas.{trim_end-front}
 use Rattle.rtk_rinex.proofs.RowLemmas.{IsTrimmed, trimmed}
 use Rattle.rtk_rinex.proofs.SatelliteRangeLemmas.{same_satellite}
@@ -32,14 +33,14 @@ use Rattle.rtk_rinex.proofs.WrittenLemmas.{length-code, length-cells, no-width, 
 
 -- ---- the name
 
-letter-no_end : (s : System) → letter_of s ≢ 10
-letter-no_end Gps = λ e. omega (arith, e)
-letter-no_end Glonass = λ e. omega (arith, e)
-letter-no_end Galileo = λ e. omega (arith, e)
-letter-no_end Beidou = λ e. omega (arith, e)
-letter-no_end Qzss = λ e. omega (arith, e)
-letter-no_end Sbas = λ e. omega (arith, e)
-letter-no_end Navic = λ e. omega (arith, e)
+plain-letter : (s : System) → IsPlain (letter_of s)
+plain-letter Gps = (omega arith, λ e. omega (arith, e))
+plain-letter Glonass = (omega arith, λ e. omega (arith, e))
+plain-letter Galileo = (omega arith, λ e. omega (arith, e))
+plain-letter Beidou = (omega arith, λ e. omega (arith, e))
+plain-letter Qzss = (omega arith, λ e. omega (arith, e))
+plain-letter Sbas = (omega arith, λ e. omega (arith, e))
+plain-letter Navic = (omega arith, λ e. omega (arith, e))
 
 abbrev number_of : ℕ → ℕ
 number_of s = bit_at s + name_offset (system_at s)
@@ -61,12 +62,21 @@ mixed-named doppler line r e = rw (e, mixed_line-is doppler r) refl
 pub one-satellite : (line : List ℕ) (s t : ℕ) → IsSatelliteIndex s → IsSatelliteIndex t → take 3 line ≡ index_name s → take 3 line ≡ index_name t → s ≡ t
 one-satellite line s t h g e f = same_satellite s t h g (sym e ∙ f)
 
+-- the line without its LF
+plain-front : (doppler : Bool) (r : SatelliteRow) → All IsPlain (trim_end (index_name r.satellite ++ flat_map (code_text doppler) r.observed.items))
+plain-front doppler r =
+    let s : System = system_at r.satellite in
+    let name = All-cons IsPlain (letter_of s) (last_digits 2 (number_of r.satellite)) (plain-letter s) (plain-last_digits 2 (number_of r.satellite)) in
+    plain-trimmed (index_name r.satellite ++ flat_map (code_text doppler) r.observed.items)
+    (plain-both (index_name r.satellite) (flat_map (code_text doppler) r.observed.items) name (plain-codes doppler r.observed.items))
+
 pub mixed_line-line : (doppler : Bool) (r : SatelliteRow) → IsLine (mixed_satellite_line doppler r)
 mixed_line-line doppler r =
-    let name : List ℕ = index_name r.satellite in
-    let text : List ℕ = name ++ flat_map (code_text doppler) r.observed.items in
-    let g : HasNoEnd name = All-cons IsNoEnd (letter_of (system_at r.satellite)) (last_digits 2 (number_of r.satellite)) (letter-no_end (system_at r.satellite)) (of_last_digits 2 (number_of r.satellite)) in
-    (trim_end text, of_trimmed text (both name (flat_map (code_text doppler) r.observed.items) g (no-end-codes doppler r.observed.items)), refl)
+    let front : List ℕ = trim_end (index_name r.satellite ++ flat_map (code_text doppler) r.observed.items) in
+    (front, no-end front (plain-front doppler r), refl)
+
+pub mixed_line-row : (doppler : Bool) (r : SatelliteRow) → HasNoMark (mixed_satellite_line doppler r)
+mixed_line-row doppler r = plain-line (trim_end (index_name r.satellite ++ flat_map (code_text doppler) r.observed.items)) (plain-front doppler r)
 
 -- ---- the columns
 

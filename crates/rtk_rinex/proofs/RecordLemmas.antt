@@ -1,5 +1,5 @@
 -- Lists without the blanks at their end.
-use Rattle.std.proofs.Common.{◌≡◌, ◌≢◌, ℕ, ◌+◌, ◌-◌, ◌<◌, ◌≤◌, [], ◌∷◌, ◌++◌, List, length, take, take_all, get_or, ap, sym, arith, refl, ◌∙◌}
+use Rattle.std.proofs.Common.{◌≡◌, ◌≢◌, ℕ, ◌+◌, ◌-◌, ◌<◌, ◌≤◌, [], ◌∷◌, ◌++◌, List, length, take, get_or, ap, arith, refl, ◌∙◌}
 use Rattle.std.proofs.lemmas.Bool.Decides.{nat_tests}
 use Rattle.std.proofs.lemmas.Grind.{take_at_read}
 use Rattle.std.specs.List.{flat_map}
@@ -45,19 +45,6 @@ trim_end-done xs n low high ne =
     let inside : n - 1 < length xs = omega arith in
     let t = rw back at ((take_at_read xs (n - 1) 0 inside).1) in
     rw t (trim_end-front (take (n - 1) xs) (get_or xs (n - 1) 0) [] ne)
-
--- two blanks at the end and no third one
-pub trim_end-two : (xs : List ℕ) → 3 ≤ length xs → get_or xs (length xs - 3) 0 ≢ 32 → get_or xs (length xs - 2) 0 ≡ 32 → get_or xs (length xs - 1) 0 ≡ 32
-    → take (length xs - 2) xs ≡ trim_end xs
-trim_end-two xs l third second first =
-    let n = length xs in
-    let at : n - 1 - 1 ≡ n - 2 = omega arith in
-    let before : n - 2 - 1 ≡ n - 3 = omega arith in
-    let all : take n xs ≡ xs = take_all n xs (omega arith) in
-    let one : trim_end (take n xs) ≡ trim_end (take (n - 1) xs) = trim_end-step xs n (omega arith) (omega arith) first in
-    let two : trim_end (take (n - 1) xs) ≡ trim_end (take (n - 2) xs) = rw at at (trim_end-step xs (n - 1) (omega arith) (omega arith) (rw at second)) in
-    let done : trim_end (take (n - 2) xs) ≡ take (n - 2) xs = trim_end-done xs (n - 2) (omega arith) (omega arith) (rw before third) in
-    sym (sym (ap trim_end all) ∙ one ∙ two ∙ done)
 
 -- a record without a line is empty, and any other has its epoch line
 pub lines_of-none : (c : Civil) (rows : List SatelliteRow) → length rows ≡ 0 → lines_of c rows ≡ []

@@ -74,13 +74,20 @@ open-line doppler l codes few room blank none =
     }
 
 -- the blanks where the columns of a code go
-pub free-blank : (doppler : Bool) (l : RecordLinesView) (os : List Observed) (k : ℕ) → HasOpenLine doppler l os → IsFreeIn doppler os k
+free-blank : (doppler : Bool) (l : RecordLinesView) (os : List Observed) (k : ℕ) → HasOpenLine doppler l os → IsFreeIn doppler os k
     → take (code_width doppler) (drop (3 + code_width doppler * k) l.rest) ≡ replicate (code_width doppler) 32
 free-blank doppler l os k h f =
     let rest : List ℕ = replicate (length l.rest - (3 + code_width doppler * length os)) 32 in
     ap (λ (xs : List ℕ). take (code_width doppler) (drop (3 + code_width doppler * k) xs)) h.columns
     ∙ ap (take (code_width doppler)) (drop-append-add (replicate 3 32) (flat_map (code_text doppler) os ++ rest) (code_width doppler * k))
     ∙ code-blank doppler os k no_observation rest f.inside (f.free no_observation)
+
+-- they are blank in the text
+pub free-in : (doppler : Bool) (l : RecordLinesView) (os : List Observed) (k : ℕ) (text : List ℕ) (at place : ℕ) → HasOpenLine doppler l os → IsFreeIn doppler os k → l.rest ≡ drop at text
+    → place ≡ at + (3 + code_width doppler * k) → take (code_width doppler) (drop place text) ≡ replicate (code_width doppler) 32
+free-in doppler l os k text at place h f rest e =
+    let n = 3 + code_width doppler * k in
+    ap (λ (m : ℕ). take (code_width doppler) (drop m text)) e ∙ ap (take (code_width doppler)) (sym (drop-drop n at text) ∙ ap (drop n) (sym rest)) ∙ free-blank doppler l os k h f
 
 -- the columns of a code are written in a text
 pub put-at : (doppler : Bool) (text now g : List ℕ) (at place n : ℕ) → place ≡ at + n → at ≤ length text → now ≡ take place text ++ (g ++ drop (code_width doppler) (drop place text))

@@ -1,28 +1,29 @@
 -- What stands next in the text of records that are known to be good.
-use Rattle.std.proofs.Common.{◌≡◌, ◌≢◌, ℕ, zero, suc, ◌+◌, ◌-◌, ◌<◌, ◌≤◌, Option, Some, None, List, [], ◌∷◌, ◌++◌, length, take, drop, flat_map, refl, sym, ◌∙◌, ap, arith, append_assoc, length-append, inl, inr}
+use Rattle.std.proofs.Common.{◌≡◌, ◌≢◌, ℕ, zero, suc, ◌+◌, ◌-◌, ◌<◌, ◌≤◌, Option, Some, None, List, [], ◌∷◌, ◌++◌, length, take, drop, get_or, flat_map, true, refl, sym, ◌∙◌, ap, arith, append_assoc, length-append, inl, inr}
 use Rattle.std.specs.Prelude.{All, AllPairs}
 use Rattle.std.specs.Int.{IsInRange}
+use Rattle.memchr.specs.Find.{IsFirstByte, is_byte}
 use mathlib.Core.Logic.{∥∥₁_map}
-use Rattle.std.proofs.lemmas.Bool.Decides.{leb_tells}
+use Rattle.std.proofs.lemmas.Bool.Decides.{leb_tells, nat_tests}
 use Rattle.std.proofs.lemmas.Grind.{not_there}
 use Rattle.std.proofs.lemmas.List.{append-nil}
-use Rattle.std.proofs.lemmas.List.Elements.{All-nil, All-cons, All-head, All-tail}
+use Rattle.std.proofs.lemmas.List.Elements.{All-nil, All-cons, All-head, All-tail, All-append}
 use Rattle.rtk_rinex.specs.declared.epoch_table.SatelliteRow.{SatelliteRow}
 use Rattle.rtk_obs.specs.Reading.{IsMoment, reading_of}
 use Rattle.rtk_rinex.specs.Header.{HeadView, PositionView, IsHeadView, header_text}
 use Rattle.rtk_rinex.specs.Record.{EpochTableView, IsSatelliteRow, epoch_line, satellite_line, record_text}
 use Rattle.rtk_rinex.specs.Table.{WellFormedTable, IsWellFormedTable, IsTableRow, IsTableEpoch, table_text}
-use Rattle.rtk_rinex.specs.Lines.{HasNoEnd, IsLine}
+use Rattle.rtk_rinex.specs.Lines.{IsLine}
 use Rattle.rtk_rinex.specs.CheckLine.{IsNextSatellite}
 use Rattle.rtk_rinex.specs.CheckText.{last_satellite, AreRows}
 use Rattle.rtk_rinex.specs.CheckTable.{HoldsTable}
 use Rattle.rtk_rinex.specs.Records.{RecordsView, AreLeft, IsRecordsView, IsNextOf, IsNextTimeOf}
 use Rattle.rtk_rinex.specs.Steps.HeaderRead.{IsOnlyHeader}
-use Rattle.rtk_rinex.specs.Steps.ReadRecords.{ReadsRows, WritesLines, BeginsWithRecord}
+use Rattle.rtk_rinex.specs.Steps.ReadRecords.{ReadsRows, HasNoMark, WritesRows, IsEndOrRecord, BeginsWithRecord}
 use Rattle.rtk_rinex.proofs.DigitsLemmas.{take-exact}
 use Rattle.rtk_rinex.proofs.FieldLemmas.{none_of}
 use Rattle.rtk_rinex.proofs.CheckLemmas.{rows-all, rows-rise, record-lines, record-is}
-use Rattle.rtk_rinex.proofs.LineLemmas.{satellite_line-line, no_line, same_line}
+use Rattle.rtk_rinex.proofs.LineLemmas.{satellite_line-line, same_line}
 use Rattle.rtk_rinex.proofs.OneLemmas.{Below, pairs-head, pairs-tail, one_epoch_line, one_row, count-of, same_rows, epoch-front, epoch_line-of, one_record, some_text, row-next}
 use Rattle.rtk_rinex.proofs.TextLemmas.{epochs-after-header, rows_more}
 
@@ -244,36 +245,69 @@ records-of bytes rest h s first records lines good split only holds = (
 
 -- ---- records whose values are not read
 
--- the line that stands after so many rows is that of the next one
-pub line-skipped : (line_of : SatelliteRow → List ℕ) → WritesLines line_of → (rows : List SatelliteRow) (k : ℕ) (line after bytes rest : List ℕ) → k < length rows
-    → bytes ≡ flat_map line_of (drop k rows) ++ rest → IsLine line → bytes ≡ line ++ after → after ≡ flat_map line_of (drop (k + 1) rows) ++ rest
-line-skipped line_of of [] k line after bytes rest less at is split = absurd (omega (arith, less))
-line-skipped line_of of (r ∷ rows) zero line after bytes rest less at is split =
-    (same_line line (line_of r) after (flat_map line_of rows ++ rest) is (of r)
-    (sym split ∙ at ∙ append_assoc (line_of r) (flat_map line_of rows) rest)).1
-line-skipped line_of of (r ∷ rows) (suc k) line after bytes rest less at is split =
-    let next : suc k + 1 ≡ suc (k + 1) = omega arith in
-    line-skipped line_of of rows k line after bytes rest (omega (arith, less)) at is split
-    ∙ ap (λ (m : ℕ). flat_map line_of (drop m (r ∷ rows)) ++ rest) (sym next)
+abbrev IsUnmarked : ℕ → Type 0
+IsUnmarked x = x ≢ 62
 
--- there is such a line
-pub row-there : (line_of : SatelliteRow → List ℕ) → WritesLines line_of → (rows : List SatelliteRow) (k : ℕ) (bytes rest : List ℕ) → k < length rows
-    → bytes ≡ flat_map line_of (drop k rows) ++ rest → HasNoEnd bytes → ⊥
-row-there line_of of [] k bytes rest less at none = omega (arith, less)
-row-there line_of of (r ∷ rows) zero bytes rest less at none =
-    no_line bytes (line_of r) (flat_map line_of rows ++ rest) none (of r) (at ∙ append_assoc (line_of r) (flat_map line_of rows) rest)
-row-there line_of of (r ∷ rows) (suc k) bytes rest less at none = row-there line_of of rows k bytes rest (omega (arith, less)) at none
+pub rows-unmarked : (line_of : SatelliteRow → List ℕ) → WritesRows line_of → (rows : List SatelliteRow) → HasNoMark (flat_map line_of rows)
+rows-unmarked line_of of [] = All-nil IsUnmarked
+rows-unmarked line_of of (r ∷ rows) = All-append IsUnmarked (line_of r) (flat_map line_of rows) (of r) (rows-unmarked line_of of rows)
+
+front-at : (front rest : List ℕ) (k : ℕ) → k < length front → get_or (front ++ rest) k 0 ≡ get_or front k 0
+front-at [] rest k less = absurd (omega (arith, less))
+front-at (x ∷ front) rest zero less = refl
+front-at (x ∷ front) rest (suc k) less = front-at front rest k (omega (arith, less))
+
+mark-is : (x : ℕ) → is_byte 62 x ≡ true → x ≡ 62
+mark-is x e = grind (arith, nat_tests)
+
+unmarked-front : (front rest : List ℕ) (n : ℕ) → HasNoMark front → n < length front → is_byte 62 (get_or (front ++ rest) n 0) ≡ true → ⊥
+unmarked-front front rest n none less is = none n 0 less (sym (front-at front rest n less) ∙ mark-is (get_or (front ++ rest) n 0) is)
+
+mark-here : (front rest : List ℕ) → is_byte 62 (get_or (front ++ 62 ∷ rest) (length front) 0) ≡ true
+mark-here [] rest = refl
+mark-here (x ∷ front) rest = mark-here front rest
+
+-- without a mark no record stands after the rows
+pub no-record-after : (front rest : List ℕ) → IsEndOrRecord rest → IsFirstByte (is_byte 62) (front ++ rest) None → [] ≡ rest
+no-record-after front rest (inl end) first = sym end
+no-record-after front rest (inr mark) first =
+    let inside : length front < length (front ++ rest) = omega (arith, length-append front rest, ap length mark.1) in
+    absurd (first (length front) (omega arith) inside (rw (mark.1) (mark-here front mark.0)))
+
+no-later : (front rest : List ℕ) (n : ℕ) → IsEndOrRecord rest → IsFirstByte (is_byte 62) (front ++ rest) (Some n) → n ≤ length front
+no-later front rest n (inl end) first = let inside : n < length (front ++ rest) = first.0.high in omega (arith, inside, length-append front rest, ap length end)
+no-later front rest n (inr mark) first =
+    elim (leb_tells n (length front)) [
+      | inl same ↦ same.1
+      | inr after ↦ absurd (first.0.before (length front) (omega arith) (omega (arith, after.1)) (rw (mark.1) (mark-here front mark.0)))
+    ]
+
+-- the first mark is that of the record after the rows
+pub record-after : (front rest : List ℕ) (n : ℕ) → HasNoMark front → IsEndOrRecord rest → IsFirstByte (is_byte 62) (front ++ rest) (Some n) → n ≡ length front
+record-after front rest n none ends first =
+    elim (leb_tells (length front) n) [
+      | inl low ↦ omega (arith, low.1, no-later front rest n ends first)
+      | inr before ↦ absurd (unmarked-front front rest n none (omega (arith, before.1)) first.1)
+    ]
+
+-- what is left are records, so it begins with a mark if it is not empty
+pub records-begin : (n : ℕ) (epochs : List EpochTableView) → All (IsTableEpoch n) epochs → IsEndOrRecord (flat_map record_text epochs)
+records-begin n [] good = inl refl
+records-begin n (e ∷ epochs) good =
+    let text : List ℕ = epoch_line (reading_of e.time) (length e.rows) ++ (flat_map satellite_line e.rows ++ flat_map record_text epochs) in
+    inr (drop 1 text, epoch-front n e (flat_map record_text epochs) (All-head (IsTableEpoch n) e epochs good))
 
 -- the record that begins a text: its moment, and the text after it
 abbrev pub SkipsRecord : List ℕ → ℕ → List ℕ → Type 0
-SkipsRecord bytes time rest = (n : ℕ) (e : EpochTableView) (after : List ℕ) → IsTableEpoch n e → bytes ≡ record_text e ++ after → (time ≡ e.time) × (rest ≡ after)
+SkipsRecord bytes time rest = (n : ℕ) (e : EpochTableView) (after : List ℕ) → IsTableEpoch n e → IsEndOrRecord after → bytes ≡ record_text e ++ after → (time ≡ e.time) × (rest ≡ after)
 
 pub time-read : (n t : ℕ) (bytes rest : List ℕ) (epochs : List EpochTableView) → SkipsRecord bytes t rest → length bytes ≢ 0 → AreLeft (view_of n bytes) epochs
     → IsNextTimeOf epochs t (view_of n rest)
 time-read n t bytes rest [] skips some left = some (ap length left.text)
 time-read n t bytes rest (e ∷ epochs) skips some left =
-    let is = skips n e (flat_map record_text epochs) (All-head (IsTableEpoch n) e epochs left.are_epochs) left.text in
-    (is.0, record { are_epochs = All-tail (IsTableEpoch n) e epochs left.are_epochs; text = is.1 })
+    let others = All-tail (IsTableEpoch n) e epochs left.are_epochs in
+    let is = skips n e (flat_map record_text epochs) (All-head (IsTableEpoch n) e epochs left.are_epochs) (records-begin n epochs others) left.text in
+    (is.0, record { are_epochs = others; text = is.1 })
 
 pub others-skipped : (n t : ℕ) (bytes rest : List ℕ) → SkipsRecord bytes t rest → length bytes ≢ 0 → HasLeft n bytes → HasLeft n rest
 others-skipped n t bytes rest skips some ([], left) = absurd (some (ap length left.text))
@@ -283,5 +317,5 @@ pub less-left : (n t : ℕ) (bytes rest : List ℕ) → SkipsRecord bytes t rest
 less-left n t bytes rest skips some ([], left) = absurd (some (ap length left.text))
 less-left n t bytes rest skips some (e ∷ epochs, left) =
     let first = All-head (IsTableEpoch n) e epochs left.are_epochs in
-    let is = skips n e (flat_map record_text epochs) first left.text in
+    let is = skips n e (flat_map record_text epochs) first (records-begin n epochs (All-tail (IsTableEpoch n) e epochs left.are_epochs)) left.text in
     record-some n e bytes rest first (left.text ∙ ap (λ (xs : List ℕ). record_text e ++ xs) (sym is.1))

@@ -10,17 +10,17 @@ use Rattle.rtk_rinex.specs.Columns.{right}
 use Rattle.rtk_rinex.specs.declared.columns.TheConstants.{POINT_AND_THREE, THREE_OF_FOUR}
 
 -- four texts of one character: those of n, then those of the numbers after it
-entries : (ℕ → ℕ) → (ℕ → ℕ) → (ℕ → ℕ) → (ℕ → ℕ) → ℕ → List ℕ → Bool
+unfoldable pub entries : (ℕ → ℕ) → (ℕ → ℕ) → (ℕ → ℕ) → (ℕ → ℕ) → ℕ → List ℕ → Bool
 entries a b c d n (p ∷ q ∷ r ∷ s ∷ more) = (p == a n) && ((q == b n) && ((r == c n) && ((s == d n) && entries a b c d (n + 1) more)))
 entries a b c d n [] = true
 entries a b c d n (p ∷ []) = false
 entries a b c d n (p ∷ q ∷ []) = false
 entries a b c d n (p ∷ q ∷ r ∷ []) = false
 
-abbrev Stands : ℕ → ℕ → ℕ → ℕ → List ℕ → ℕ → Type 0
+abbrev pub Stands : ℕ → ℕ → ℕ → ℕ → List ℕ → ℕ → Type 0
 Stands p q r s ts i = (get_or ts (4 * i) 0 ≡ p) × (get_or ts (4 * i + 1) 0 ≡ q) × (get_or ts (4 * i + 2) 0 ≡ r) × (get_or ts (4 * i + 3) 0 ≡ s)
 
-entry_at : (a b c d : ℕ → ℕ) (n : ℕ) (ts : List ℕ) (i : ℕ) → entries a b c d n ts ≡ true → 4 * i + 3 < length ts → Stands (a (n + i)) (b (n + i)) (c (n + i)) (d (n + i)) ts i
+pub entry_at : (a b c d : ℕ → ℕ) (n : ℕ) (ts : List ℕ) (i : ℕ) → entries a b c d n ts ≡ true → 4 * i + 3 < length ts → Stands (a (n + i)) (b (n + i)) (c (n + i)) (d (n + i)) ts i
 unfolding entries
 entry_at a b c d n [] i h l = absurd (omega arith)
 entry_at a b c d n (p ∷ []) i h l = absurd (omega arith)

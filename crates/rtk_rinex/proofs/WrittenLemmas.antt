@@ -7,6 +7,7 @@ use Rattle.std.proofs.Math.Seq.{set-append_seam, take-append-add, drop-append-ad
 use Rattle.rtk_rinex.specs.declared.epoch_table.Observed.{Observed}
 use Rattle.rtk_rinex.specs.declared.epoch_table.SatelliteRow.{SatelliteRow}
 use Rattle.rtk_obs.specs.CivilText.{last_digits}
+use Rattle.rtk_rinex.specs.Columns.{fixed}
 use Rattle.rtk_rinex.specs.Record.{is_written, is_present, observation, observations, observations_with_doppler, code_text, code_width, is_shown, lli_digit, strength_digit, strength_value, has_observation, has_observation_or_doppler, has_line, trim_end, satellite_line, no_observation}
 use Rattle.rtk_rinex.specs.RecordLines.{ended}
 use Rattle.rtk_rinex.specs.Steps.WrittenLines.{named_line}
@@ -74,6 +75,57 @@ length-code true o = length-shifted o
 pub blank-code : (doppler : Bool) (o : Observed) → is_shown doppler o ≡ false → code_text doppler o ≡ replicate (code_width doppler) 32
 blank-code false o e = blank-cell o e
 blank-code true o e = blank-shifted o e
+
+-- ---- the blanks at the end of a code
+
+ends-if : (v : ℤ) (c : Bool) → is_written v ≡ c → drop 14 (observation (Some v) 32 32) ≡ 32 ∷ 32 ∷ []
+ends-if v true e = rw e (drop_at (fixed 3 14 v) (32 ∷ 32 ∷ []) 14 (length-fixed v e))
+ends-if v false e = rw e refl
+
+blank-ends : (v : Option ℤ) → drop 14 (observation v 32 32) ≡ 32 ∷ 32 ∷ []
+blank-ends None = refl
+blank-ends (Some v) = ends-if v (is_written v) refl
+
+after-front : (front more : List ℕ) (n : ℕ) → n ≡ length front + 14 → drop n (front ++ more) ≡ drop 14 more
+after-front front more n e = rw e (drop-append-add front more 14)
+
+-- a strength has no digits, so the last two columns are blank
+code-ends : (doppler : Bool) (o : Observed) → drop (code_width doppler - 2) (code_text doppler o) ≡ 32 ∷ 32 ∷ []
+code-ends false o =
+    let a : List ℕ = observation o.range_mm 32 (strength_digit o.strength_millidbhz) in
+    let b : List ℕ = observation o.phase_millicycles (lli_digit o.slip o.half) (strength_digit o.strength_millidbhz) in
+    let l : length a ≡ 16 = length-value o.range_mm 32 (strength_digit o.strength_millidbhz) in
+    let m : length b ≡ 16 = length-value o.phase_millicycles (lli_digit o.slip o.half) (strength_digit o.strength_millidbhz) in
+    after-front (a ++ b) (observation (strength_value o.strength_millidbhz) 32 32) 46 (omega (arith, length-append a b, l, m)) ∙ blank-ends (strength_value o.strength_millidbhz)
+code-ends true o =
+    let a : List ℕ = observation o.range_mm 32 (strength_digit o.strength_millidbhz) in
+    let b : List ℕ = observation o.phase_millicycles (lli_digit o.slip o.half) (strength_digit o.strength_millidbhz) in
+    let d : List ℕ = observation o.doppler_millihertz 32 32 in
+    let l : length a ≡ 16 = length-value o.range_mm 32 (strength_digit o.strength_millidbhz) in
+    let m : length b ≡ 16 = length-value o.phase_millicycles (lli_digit o.slip o.half) (strength_digit o.strength_millidbhz) in
+    let n : length d ≡ 16 = length-value o.doppler_millihertz 32 32 in
+    after-front ((a ++ b) ++ d) (observation (strength_value o.strength_millidbhz) 32 32) 62 (omega (arith, length-append (a ++ b) d, length-append a b, l, m, n))
+    ∙ blank-ends (strength_value o.strength_millidbhz)
+
+blanks-end : (doppler : Bool) (more : List ℕ) → drop (code_width doppler - 2) (replicate (code_width doppler) 32 ++ more) ≡ 32 ∷ 32 ∷ more
+blanks-end false more = refl
+blanks-end true more = refl
+
+pub length-shown : (doppler : Bool) (o : Observed) → length (take (code_width doppler - 2) (code_text doppler o)) ≡ code_width doppler - 2
+length-shown doppler o = omega (arith, length-take (code_width doppler - 2) (code_text doppler o), length-code doppler o)
+
+-- so a code is written over blanks by its other columns
+pub code-shown : (doppler : Bool) (o : Observed) (text : List ℕ) → take (code_width doppler) text ≡ replicate (code_width doppler) 32
+    → code_text doppler o ++ drop (code_width doppler) text ≡ take (code_width doppler - 2) (code_text doppler o) ++ drop (code_width doppler - 2) text
+code-shown doppler o text blank =
+    let w = code_width doppler in
+    let g : List ℕ = code_text doppler o in
+    let rest : drop (w - 2) text ≡ 32 ∷ 32 ∷ drop w text =
+    ap (drop (w - 2)) (sym (take-append-drop w text) ∙ ap (λ (t : List ℕ). t ++ drop w text) blank) ∙ blanks-end doppler (drop w text) in
+    ap (λ (t : List ℕ). t ++ drop w text) (sym (take-append-drop (w - 2) g)) ∙ append_assoc (take (w - 2) g) (drop (w - 2) g) (drop w text)
+    ∙ ap (λ (t : List ℕ). take (w - 2) g ++ (t ++ drop w text)) (code-ends doppler o) ∙ ap (λ (t : List ℕ). take (w - 2) g ++ t) (sym rest)
+
+-- ---- a number of codes
 
 pub no-width : (doppler : Bool) → code_width doppler * 0 ≡ 0
 no-width false = refl

@@ -54,11 +54,12 @@ ended name columns = trim_end (name ++ drop 3 columns) ++ 10 ∷ []
 
 -- ---- the text that is kept
 
--- a text of these lines, and what is written of the next line up to its end; blanks follow it
-pub record IsKeptText (text : List ℕ) (len end count : ℕ) : Type 0 where
+-- a text of these lines, where the next line begins, and what is written of that line up to its end; blanks follow it
+pub record IsKeptText (text : List ℕ) (len at end count : ℕ) : Type 0 where
   pub few : count ≤ 221
   pub within : end ≤ length text
   pub from : len ≤ end
+  pub place : at ≡ max len 36
   pub short : len ≤ 36 + 1028 * count
   pub none : count ≡ 0 → len ≡ 0
   pub some : 0 < count → 36 ≤ len

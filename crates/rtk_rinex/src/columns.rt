@@ -16,6 +16,9 @@ pub(crate) const CODE_COLUMNS: usize = 48;
 /// The columns of a code in a file with Doppler shifts.
 pub(crate) const DOPPLER_COLUMNS: usize = 64;
 
+/// The last columns of a code, which stay blank: a signal strength has no digits behind its value.
+pub(crate) const BLANK_COLUMNS: usize = 2;
+
 /// Returns the columns of a code in a file with Doppler shifts, or without them.
 pub(crate) fn code_columns(doppler: bool) -> usize
     ensures value { result ≡ code_width doppler }

@@ -4,18 +4,47 @@
 //! `close_line`, code by code in any order. `finish` writes the epoch line before the lines, and `text`
 //! gives the record. Rows of an epoch may be many, so none is kept.
 
-ghost use Rattle.std.specs.Prelude.{◌≡◌, ◌<◌, ◌≤◌, List, [], ◌∷◌, ◌++◌, false, length, replicate, slice_set, OnOk, OnErr};
+ghost use Rattle.std.specs.Prelude.{◌≡◌, ◌<◌, ◌≤◌, List, [], ◌∷◌, ◌++◌, false, true, length, replicate, slice_set, OnOk, OnErr};
+ghost use Rattle.rtk_obs.specs.SatelliteIndex.{index_name};
 ghost use Rattle.rtk_rinex.specs.declared.epoch_table.Observed.{Observed};
 ghost use Rattle.rtk_rinex.specs.declared.epoch_table.SatelliteRow.{SatelliteRow};
 ghost use Rattle.rtk_rinex.specs.Record.{no_observation};
-ghost use Rattle.rtk_rinex.specs.RecordLines.{HasFreeCode, IsFreeIn};
+ghost use Rattle.rtk_rinex.specs.RecordLines.{HasFreeCode, HasOpenLine, IsFreeIn};
 ghost use Rattle.rtk_rinex.specs.MixedRecord.{HoldsMixedLines, HasOpenMixedLine, KeepsMixedLines, mixed_record_text};
 
 use crate::epoch_table::Observed;
 use crate::record_lines::RecordLines;
-use rtk_obs::{GpsMs, SatelliteIndex, satellite_name};
+use rtk_obs::{GpsMs, SatelliteIndex};
 use std::alloc::{AllocError, Global};
 use std::marker::Model;
+
+// The name of each satellite and a blank, by its index. No satellite has the first one.
+static SATELLITE_NAMES: [u8; 888] = *b"\
+    G00 G01 G02 G03 G04 G05 G06 G07 G08 G09 G10 G11 G12 G13 G14 G15 G16 G17 G18 G19 \
+    G20 G21 G22 G23 G24 G25 G26 G27 G28 G29 G30 G31 G32 R01 R02 R03 R04 R05 R06 R07 \
+    R08 R09 R10 R11 R12 R13 R14 R15 R16 R17 R18 R19 R20 R21 R22 R23 R24 R25 R26 R27 \
+    E01 E02 E03 E04 E05 E06 E07 E08 E09 E10 E11 E12 E13 E14 E15 E16 E17 E18 E19 E20 \
+    E21 E22 E23 E24 E25 E26 E27 E28 E29 E30 E31 E32 E33 E34 E35 E36 C01 C02 C03 C04 \
+    C05 C06 C07 C08 C09 C10 C11 C12 C13 C14 C15 C16 C17 C18 C19 C20 C21 C22 C23 C24 \
+    C25 C26 C27 C28 C29 C30 C31 C32 C33 C34 C35 C36 C37 C38 C39 C40 C41 C42 C43 C44 \
+    C45 C46 C47 C48 C49 C50 C51 C52 C53 C54 C55 C56 C57 C58 C59 C60 C61 C62 C63 J01 \
+    J02 J03 J04 J05 J06 J07 J08 J09 J10 S20 S21 S22 S23 S24 S25 S26 S27 S28 S29 S30 \
+    S31 S32 S33 S34 S35 S36 S37 S38 S39 S40 S41 S42 S43 S44 S45 S46 S47 S48 S49 S50 \
+    S51 S52 S53 S54 S55 S56 S57 S58 I01 I02 I03 I04 I05 I06 I07 I08 I09 I10 I11 I12 \
+    I13 I14 ";
+
+// Returns the name of a satellite, which `satellite_name` of rtk_obs works out: here it is read, since each line of a
+// file needs one.
+fn name_of(satellite: SatelliteIndex) -> [u8; 3]
+    ensures { result ≡ index_name satellite }
+{
+    let entry = 4 * usize::from(satellite.index());
+    [
+        SATELLITE_NAMES[entry],
+        SATELLITE_NAMES[entry + 1],
+        SATELLITE_NAMES[entry + 2],
+    ]
+}
 
 /// The text of a record of any systems that is written satellite by satellite, and kept from record to
 /// record, with Doppler shifts or without them; a contract sees its `MixedLinesView`.
@@ -99,16 +128,40 @@ impl MixedRecordLines {
         }
     }
 
+    /// Writes what a code shows without its Doppler shift at its place in the open line, in which it shows nothing
+    /// yet. A caller who writes many codes asks once, and not for each of them, whether lines show shifts.
+    #[inline(always)]
+    pub fn put_plain_code(&mut self, place: usize, observed: &Observed)
+        requires { HasFreeCode false self.old.lines place }
+        ensures open { (row : List Observed) → HasOpenLine false self.old.lines row → IsFreeIn false row place
+            → HasOpenLine false self.new.lines (slice_set row place observed.now) }
+        ensures lines { KeepsMixedLines self.old self.new }
+    {
+        self.lines.put_code(place, observed);
+    }
+
+    /// Writes what a code shows with its Doppler shift, as `put_plain_code` does without it.
+    #[inline(always)]
+    pub fn put_doppler_code(&mut self, place: usize, observed: &Observed)
+        requires { HasFreeCode true self.old.lines place }
+        ensures open { (row : List Observed) → HasOpenLine true self.old.lines row → IsFreeIn true row place
+            → HasOpenLine true self.new.lines (slice_set row place observed.now) }
+        ensures lines { KeepsMixedLines self.old self.new }
+    {
+        self.lines.put_doppler_code(place, observed);
+    }
+
     /// Ends the open line as that of this satellite. A line without a written observation is left
     /// out. In a record of RINEX the satellites rise, and each line has the codes that the header lists of
     /// its system. The caller has to see to that.
+    #[inline(always)]
     pub fn close_line(&mut self, satellite: SatelliteIndex)
         requires { self.old.lines.count < 221 }
         ensures lines { (rows : List SatelliteRow) (observed : List Observed) → HoldsMixedLines self.old rows → HasOpenMixedLine self.old observed
             → HoldsMixedLines self.new (rows ++ record { satellite = satellite; observed = record { items = observed } } ∷ []) }
         ensures doppler { self.new.doppler ≡ self.old.doppler }
     {
-        self.lines.close_named(satellite_name(satellite));
+        self.lines.close_named(name_of(satellite));
     }
 
     // Writes what the codes show in the open line, in which they show nothing yet.

@@ -10,7 +10,8 @@ ghost use Rattle.rtk_rinex.specs.Record.{EpochTableView};
 ghost use Rattle.rtk_rinex.specs.MixedRecord.{mixed_satellite_line, mixed_record_text};
 ghost use Rattle.rtk_rinex.specs.MixedTable.{IsMixedRow, IsMixedEpoch};
 ghost use Rattle.rtk_rinex.specs.MixedRecords.{IsRecordOf};
-ghost use Rattle.rtk_rinex.specs.Steps.MixedReadRecords.{BeginsWithMixedRecord};
+ghost use Rattle.rtk_rinex.specs.Steps.MixedReadRecords.{BeginsWithMixedRecord, BeginsMixedRecords};
+ghost use Rattle.rtk_rinex.specs.Steps.ReadRecords.{IsEndOrRecord};
 
 use crate::columns::EPOCH_LINE;
 use crate::digits::is_same;
@@ -113,15 +114,15 @@ fn read_mixed_row(
 
 // Returns the record that begins a text, and the text after it.
 fn first_record<'a>(text: &'a [u8], form: &RecordForm) -> (MixedRows<'a>, &'a [u8])
-    requires { ∥ BeginsWithMixedRecord form.now text.now ∥₁ }
-    ensures parts { (e : EpochTableView) (rest : List ℕ) → IsMixedEpoch form.now e → text.now ≡ mixed_record_text form.now.doppler e ++ rest
+    requires { ∥ BeginsMixedRecords form.now text.now ∥₁ }
+    ensures parts { (e : EpochTableView) (rest : List ℕ) → IsMixedEpoch form.now e → IsEndOrRecord rest → text.now ≡ mixed_record_text form.now.doppler e ++ rest
         → IsRecordOf e result.0 × (result.1.now ≡ rest) }
     ensures whole { text.now ≡ result.0.text ++ result.1.now }
     ensures few { result.0.count ≤ 221 }
     ensures form { result.0.form ≡ form.now }
 {
     let (stamp, lines) = read_stamp(text, form);
-    let skipped = skip_rows(lines, stamp.count);
+    let skipped = skip_rows(lines);
     let (whole, rest) = split_before(text, skipped);
     let (rows, _) = split_before(lines, skipped);
     (MixedRows::of_lines(*form, stamp, whole, rows), rest)

@@ -12,7 +12,7 @@ ghost use Rattle.rtk_rinex.specs.Record.{HasWidth, observations, observations_wi
 ghost use Rattle.rtk_rinex.specs.RecordLines.{HasOpenLine, HasFreeCode, HoldsLines, IsFreeIn, KeepsLines, ended};
 ghost use Rattle.rtk_rinex.specs.Steps.WrittenLines.{AddsLine, PutsEpochLine};
 
-use crate::columns::{CODE_COLUMNS, DOPPLER_COLUMNS, EPOCH_LINE, GPS_SATELLITES};
+use crate::columns::{BLANK_COLUMNS, CODE_COLUMNS, DOPPLER_COLUMNS, EPOCH_LINE, GPS_SATELLITES};
 use crate::epoch_table::{EpochTable, Observed};
 use crate::head::Head;
 use crate::record_text::{
@@ -33,7 +33,9 @@ use std::marker::Model;
 pub struct RecordLines {
     text: Vec<u8>,
     len: usize,
-    // Where the columns end that are written of the next line, or `len`.
+    // Where the next line begins: behind the text, or where the epoch line of an empty one ends.
+    at: usize,
+    // Where the columns end that are written of the next line, but for the blank ones of its last code, or `len`.
     end: usize,
     count: usize,
 }
@@ -54,8 +56,8 @@ impl Model for RecordLines {
       is_written = nat_lt r.len r.end;
     } };
 
-    ghost invariant = { λ r. IsKeptText r.text.items r.len r.end r.count
-        × (r ≡ record { text = r.text; len = r.len; end = r.end; count = r.count }) };
+    ghost invariant = { λ r. IsKeptText r.text.items r.len r.at r.end r.count
+        × (r ≡ record { text = r.text; len = r.len; at = r.at; end = r.end; count = r.count }) };
 }
 
 // Lengthens a text by blanks.
@@ -171,6 +173,7 @@ impl RecordLines {
         RecordLines {
             text: Vec::new(alloc),
             len: 0,
+            at: EPOCH_LINE,
             end: 0,
             count: 0,
         }
@@ -182,6 +185,7 @@ impl RecordLines {
     {
         blank(&mut self.text, 0, self.end);
         self.len = 0;
+        self.at = EPOCH_LINE;
         self.end = 0;
         self.count = 0;
     }
@@ -209,8 +213,7 @@ impl RecordLines {
         ensures lines { KeepsLines self.old self.new }
         ensures err { OnErr result (self.new ≡ self.old) }
     {
-        let at = self.len.max(EPOCH_LINE);
-        make_room(&mut self.text, at, line_room(doppler, codes))?;
+        make_room(&mut self.text, self.at, line_room(doppler, codes))?;
         if self.end > self.len {
             blank(&mut self.text, self.len, self.end);
             self.end = self.len;
@@ -227,9 +230,9 @@ impl RecordLines {
         ensures lines { KeepsLines self.old self.new }
     {
         if has_observation(observed) {
-            let at = self.len.max(EPOCH_LINE) + 3 + CODE_COLUMNS * place;
+            let at = self.at + 3 + CODE_COLUMNS * place;
             put_code_at(&mut self.text, at, observed);
-            self.end = self.end.max(at + CODE_COLUMNS);
+            self.end = self.end.max(at + CODE_COLUMNS - BLANK_COLUMNS);
         }
     }
 
@@ -244,9 +247,9 @@ impl RecordLines {
         ensures lines { KeepsLines self.old self.new }
     {
         if has_observation_or_doppler(observed) {
-            let at = self.len.max(EPOCH_LINE) + 3 + DOPPLER_COLUMNS * place;
+            let at = self.at + 3 + DOPPLER_COLUMNS * place;
             put_doppler_code_at(&mut self.text, at, observed);
-            self.end = self.end.max(at + DOPPLER_COLUMNS);
+            self.end = self.end.max(at + DOPPLER_COLUMNS - BLANK_COLUMNS);
         }
     }
 
@@ -270,8 +273,8 @@ impl RecordLines {
         ensures { (doppler : Bool) (observed : List Observed) → HasOpenLine doppler self.old observed → AddsLine doppler name observed self.old self.new }
     {
         if self.end > self.len {
-            let at = self.len.max(EPOCH_LINE);
-            self.len = end_line_at(&mut self.text, at, name, self.end);
+            self.len = end_line_at(&mut self.text, self.at, name, self.end);
+            self.at = self.len;
             self.end = self.len;
             self.count += 1;
         }

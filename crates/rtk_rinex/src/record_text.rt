@@ -1,6 +1,6 @@
 //! The lines of a record: the epoch line, and a line for each satellite that shows something.
 
-ghost use Rattle.std.specs.Prelude.{◌≡◌, ◌+◌, ◌<◌, ◌≤◌, ◌-◌, [], ◌∷◌, ◌++◌, length, take, drop, replicate, codes, decimal, false, IsTrue};
+ghost use Rattle.std.specs.Prelude.{◌≡◌, ◌+◌, ◌<◌, ◌≤◌, ◌-◌, [], ◌∷◌, ◌++◌, length, take, drop, replicate, codes, decimal, false};
 ghost use Rattle.std.specs.List.{list_any};
 ghost use Rattle.rtk_obs.specs.CivilText.{last_digits};
 ghost use Rattle.rtk_rinex.specs.Record.{is_written, is_present, observation, observations, observations_with_doppler, strength_digit, strength_value, lli_digit, has_observation, has_observation_or_doppler, has_line, trim_end, epoch_date_text, epoch_line};
@@ -167,27 +167,12 @@ pub(crate) fn put_doppler_columns(columns: &mut [u8], observed: &Observed)
     put_last_columns(&mut columns[32..], observed);
 }
 
-// Returns whether two blanks stand at the end and no third one, as at the end of the columns of a
-// strength.
-fn has_two_blanks(bytes: &[u8]) -> bool
-    ensures { IsTrue result → (2 ≤ length bytes.now) × (take (length bytes.now - 2) bytes.now ≡ trim_end bytes.now) }
-{
-    let len = bytes.len();
-    if len < 3 || bytes[len - 3] == b' ' || bytes[len - 2] != b' ' {
-        return false;
-    }
-    bytes[len - 1] == b' '
-}
-
 /// Returns the number of bytes before the blanks at the end.
 pub(crate) fn trimmed_len(bytes: &[u8]) -> usize
     ensures within { result ≤ length bytes.now }
     ensures value { take result bytes.now ≡ trim_end bytes.now }
 {
     let mut end = bytes.len();
-    if has_two_blanks(bytes) {
-        return end - 2;
-    }
     while end > 0 && bytes[end - 1] == b' ' {
         end -= 1;
     }

@@ -8,7 +8,7 @@ ghost use Rattle.rtk_rinex.specs.declared.epoch_table.SatelliteRow.{SatelliteRow
 ghost use Rattle.rtk_rinex.specs.Record.{EpochTableView, satellite_line, record_text};
 ghost use Rattle.rtk_rinex.specs.Table.{IsTableEpoch};
 ghost use Rattle.rtk_rinex.specs.CheckText.{AreRows};
-ghost use Rattle.rtk_rinex.specs.Steps.ReadRecords.{ReadsRows, WritesLines, BeginsWithRows, BeginsWithRecord};
+ghost use Rattle.rtk_rinex.specs.Steps.ReadRecords.{ReadsRows, WritesRows, IsEndOrRecord, BeginsWithRecord};
 ghost use Rattle.rtk_rinex.specs.Records.{IsRecordsView};
 
 use crate::columns::{EPOCH_LINE, GPS_SATELLITES};
@@ -16,6 +16,7 @@ use crate::epoch_line_check::{read_epoch_line, stamp_in};
 use crate::epoch_table::{EpochTable, SatelliteRow};
 use crate::records_check::next_line;
 use crate::satellite_line_read::read_row;
+use memchr::memchr;
 use rtk_obs::GpsMs;
 use std::marker::Model;
 
@@ -82,28 +83,23 @@ fn read_record<'a>(text: &'a [u8], code_count: usize, epoch: &mut EpochTable) ->
     read_rows(after, code_count, stamp.count, epoch)
 }
 
-/// Returns the text after the lines of `count` rows.
-pub(crate) fn skip_rows<'a>(text: &'a [u8], count: usize) -> &'a [u8]
-    requires { ∥ ((line_of : SatelliteRow → List ℕ) × WritesLines line_of × BeginsWithRows line_of count text.now) ∥₁ }
-    ensures rest { (line_of : SatelliteRow → List ℕ) (rows : List SatelliteRow) (rest : List ℕ) → WritesLines line_of → length rows ≡ count
+/// Returns the text after the lines of rows: the next record, which the first `>` begins, or nothing after the last one.
+pub(crate) fn skip_rows(text: &[u8]) -> &[u8]
+    ensures rest { (line_of : SatelliteRow → List ℕ) (rows : List SatelliteRow) (rest : List ℕ) → WritesRows line_of → IsEndOrRecord rest
         → text.now ≡ flat_map line_of rows ++ rest → result.now ≡ rest }
     ensures len { length result.now ≤ length text.now }
 {
-    let mut rest = text;
-    for _ in 0..count {
-        let Some((_, after)) = next_line(rest) else {
-            unreachable!();
-        };
-        rest = after;
+    match memchr(b'>', text) {
+        Some(next) => text.split_at(next).1,
+        None => &[],
     }
-    rest
 }
 
 // Returns the moment of the record that begins a text, and the text after the record, whose values
 // are not read.
 fn skip_record<'a>(text: &'a [u8]) -> (GpsMs, &'a [u8])
     requires { ∥ ((code_count : ℕ) × BeginsWithRecord code_count text.now) ∥₁ }
-    ensures { (code_count : ℕ) (e : EpochTableView) (rest : List ℕ) → IsTableEpoch code_count e → text.now ≡ record_text e ++ rest
+    ensures { (code_count : ℕ) (e : EpochTableView) (rest : List ℕ) → IsTableEpoch code_count e → IsEndOrRecord rest → text.now ≡ record_text e ++ rest
         → (result.0 ≡ e.time) × (result.1.now ≡ rest) }
 {
     let Some((line, after)) = next_line(text) else {
@@ -112,7 +108,7 @@ fn skip_record<'a>(text: &'a [u8]) -> (GpsMs, &'a [u8])
     let Some(stamp) = stamp_in(line.split_at(EPOCH_LINE - 1).0, GPS_SATELLITES) else {
         unreachable!();
     };
-    (stamp.time, skip_rows(after, stamp.count))
+    (stamp.time, skip_rows(after))
 }
 
 impl<'a> Records<'a> {

@@ -7,7 +7,7 @@ ghost use Rattle.rtk_setup.specs.Setup.{IsLeapSeconds};
 use std::marker::Model;
 
 /// The greatest number of leap seconds, since it has two digits.
-const GREATEST_LEAP_SECONDS: u8 = 99;
+pub const GREATEST_LEAP_SECONDS: u8 = 99;
 
 /// A number of leap seconds, by which GPS time is ahead of UTC, from 0 to 99. Clauses see the number.
 #[derive(Clone, Copy, Debug, PartialEq, Eq)]

@@ -33,7 +33,7 @@ mod system_kinds;
 mod window;
 
 pub use counts::Counts;
-pub use leap_seconds::LeapSeconds;
+pub use leap_seconds::{GREATEST_LEAP_SECONDS, LeapSeconds};
 pub use links::MOST_LINKS;
 pub use rates::without_rates;
 pub use reference::Reference;

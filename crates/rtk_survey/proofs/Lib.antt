@@ -3,7 +3,6 @@ pub mod BitLemmas
 pub mod BitMarkLemmas
 pub mod ChannelLemmas
 pub mod ChannelLineLemmas
-pub mod ClockSpanLemmas
 pub mod CountingLemmas
 pub mod CutLemmas
 pub mod DateLemmas
@@ -31,6 +30,7 @@ pub mod ReadLemmas
 pub mod ResultLemmas
 pub mod SbasLemmas
 pub mod SignalLemmas
+pub mod StationClockLemmas
 pub mod StationLemmas
 pub mod SummaryTellingLemmas
 pub mod SystemLemmas

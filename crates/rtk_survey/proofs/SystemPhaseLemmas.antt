@@ -1,5 +1,5 @@
 -- The phases of other systems than GPS, cell by cell and message by message.
-use Rattle.std.proofs.Common.{◌≡◌, ◌≢◌, ◌<◌, ◌+◌, ◌-◌, ◌==◌, ◌&&◌, ◌||◌, ℕ, Bool, true, false, cond, List, [], ◌∷◌, ◌++◌, Option, None, Some, length, set, take, get_or, replicate, is_some, inl, inr, refl, sym, ap, subst, ◌∙◌, get_or-set_same, get_or-set_other, ne_eqb, arith}
+use Rattle.std.proofs.Common.{◌≡◌, ◌≢◌, ◌<◌, ◌+◌, ◌==◌, ◌&&◌, ◌||◌, ℕ, Bool, true, false, cond, List, [], ◌∷◌, ◌++◌, Option, None, Some, length, set, take, get_or, replicate, is_some, inl, inr, refl, sym, ap, subst, ◌∙◌, get_or-set_same, get_or-set_other, ne_eqb, arith}
 use Rattle.std.specs.Prelude.{filter, unwrap_or}
 use Rattle.std.specs.BTreeMap.{BTreeMap, get, is_at, Updates}
 use Rattle.std.specs.List.{list_any, count_by}

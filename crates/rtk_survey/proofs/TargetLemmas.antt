@@ -14,7 +14,7 @@ use Rattle.rtk_survey.specs.BesideGps.{gives_value_beside}
 use Rattle.rtk_survey.specs.Targets.{IsAnswer, IsTargetOf, has_dating, system_beside, observes_gps, observes, station_at, station_after, HasTargetPhases, with_time_of, with_observation, with_date_if_any, dates_of, parting_of}
 use Rattle.rtk_survey.specs.Counting.{shown_count}
 use Rattle.rtk_survey.specs.Parting as parting
-use Rattle.rtk_survey.specs.Parting.{with_epochs}
+use Rattle.rtk_survey.specs.Parting.{parting_with_message}
 use Rattle.rtk_survey.specs.declared.parting.Parting.{Parting}
 use Rattle.rtk_survey.specs.Phases.{entries_numbered, CountsPhases, HasPhases}
 use Rattle.rtk_survey.specs.declared.dating_systems.DatingSystems.{DatingSystems}
@@ -178,16 +178,17 @@ answer-more (Some t) fs more old new step is = step t is
 -- ---- where a second date begins
 
 pub parted-message : (q : Target) (fs : List ReadFrame) (t : TargetSurvey) (m : AnyMessage) (frame : ℕ) (new : TargetDates) (p : Parting)
-    → new ≡ with_observation t.present t.dates m → frame ≡ shown_count (length fs) → IsTargetOf q fs t → p ≡ with_epochs t.dates.capture.span new.capture.span frame t.parting
-    → p ≡ with_epochs (dates_of q fs).capture.span (with_observation q.present (dates_of q fs) m).capture.span (shown_count (length fs)) (parting_of q fs)
+    → new ≡ with_observation t.present t.dates m → frame ≡ shown_count (length fs) → IsTargetOf q fs t
+    → p ≡ parting_with_message t.dates.station m t.dates.capture.span new.capture.span frame t.parting
+    → p ≡ parting_with_message (dates_of q fs).station m (dates_of q fs).capture.span (with_observation q.present (dates_of q fs) m).capture.span (shown_count (length fs)) (parting_of q fs)
 parted-message q fs t m frame new p fresh count is parted =
     let d : TargetDates = dates_of q fs in
     parted
-    ∙ ap (λ (x : TargetDates). with_epochs t.dates.capture.span x.capture.span frame t.parting) fresh
-    ∙ ap (λ (n : ℕ). with_epochs t.dates.capture.span (with_observation n t.dates m).capture.span frame t.parting) is.present
-    ∙ ap (λ (x : TargetDates). with_epochs x.capture.span (with_observation q.present x m).capture.span frame t.parting) is.dates
-    ∙ ap (λ (n : ℕ). with_epochs d.capture.span (with_observation q.present d m).capture.span n t.parting) count
-    ∙ ap (λ (x : Parting). with_epochs d.capture.span (with_observation q.present d m).capture.span (shown_count (length fs)) x) is.parting
+    ∙ ap (λ (x : TargetDates). parting_with_message t.dates.station m t.dates.capture.span x.capture.span frame t.parting) fresh
+    ∙ ap (λ (n : ℕ). parting_with_message t.dates.station m t.dates.capture.span (with_observation n t.dates m).capture.span frame t.parting) is.present
+    ∙ ap (λ (x : TargetDates). parting_with_message x.station m x.capture.span (with_observation q.present x m).capture.span frame t.parting) is.dates
+    ∙ ap (λ (n : ℕ). parting_with_message d.station m d.capture.span (with_observation q.present d m).capture.span n t.parting) count
+    ∙ ap (λ (x : Parting). parting_with_message d.station m d.capture.span (with_observation q.present d m).capture.span (shown_count (length fs)) x) is.parting
 
 pub parted-date : (q : Target) (fs : List ReadFrame) (t : TargetSurvey) (m date : Option DateMessage) (frame : ℕ) (p : Parting)
     → m ≡ date → frame ≡ shown_count (length fs) → IsTargetOf q fs t → p ≡ parting.parting_with_date t.present t.dates.station t.dates.capture m frame t.parting

@@ -4,7 +4,7 @@ use Rattle.std.specs.List.{list_any}
 use Rattle.arrayvec.specs.ArrayVec.{ArrayVec}
 use Rattle.rtk_message.specs.Fields.{week_ms}
 use Rattle.rtk_survey.specs.Epochs.{with_time, begun, last_time_of_week}
-use Rattle.rtk_survey.specs.FarDates.{far_date, first_far_date}
+use Rattle.rtk_survey.specs.FarDates.{far_date, far_from_next, last_far_date, first_far_date}
 use Rattle.rtk_survey.specs.Telling.{half_week_ms, told, own_moment}
 use Rattle.rtk_survey.specs.declared.capture_dates.CaptureDates.{CaptureDates}
 use Rattle.rtk_survey.specs.declared.date_message.DateMessage.{DateMessage}
@@ -62,7 +62,20 @@ with_first_if_any station d (Some first) t = with_first station d first t
 abbrev pub with_far_date : Option FarDate → Tellings → Tellings
 with_far_date more t = record t { far = first_far_date t.far more }
 
+-- a date more that may be far from the epoch before it: the one behind it tells whether it counts
+abbrev pub with_waiting_far : Option FarDate → Tellings → Tellings
+with_waiting_far more t = record t { waiting_far = last_far_date t.waiting_far more }
+
+-- an epoch at this time of week, behind the dates that wait for it
+abbrev pub with_epoch_behind : ℕ → ℕ → Tellings → Tellings
+with_epoch_behind now tow t = record t { far = first_far_date t.far (far_from_next now tow t.waiting_far); waiting_far = None }
+
 -- a message more after these epochs of the station
+abbrev pub with_telling_behind : ℕ → ℕ → Span → DateMessage → Tellings → Tellings
+with_telling_behind now station s d t =
+    with_first_if_any station d (first_epoch_told now s d) (with_waiting_far (far_date now station s d) t)
+
+-- a message more that came before the first epoch of the station
 abbrev pub with_telling : ℕ → ℕ → Span → DateMessage → Tellings → Tellings
 with_telling now station s d t = with_first_if_any station d (first_epoch_told now s d) (with_far_date (far_date now station s d) t)
 
@@ -73,7 +86,14 @@ with_tellings now station s (d ∷ ds) t = with_tellings now station s ds (with_
 
 abbrev pub no_tellings : Tellings
 no_tellings =
-    record { own = record { items = [] }; weeks = record { items = [] }; system_weeks = record { items = [] }; others = record { items = [] }; far = None }
+    record {
+      own = record { items = [] };
+      weeks = record { items = [] };
+      system_weeks = record { items = [] };
+      others = record { items = [] };
+      far = None;
+      waiting_far = None;
+    }
 
 -- ---- the capture so far
 
@@ -109,7 +129,7 @@ with_first_epoch now station c s =
 -- after some epochs, or none: the time of week of an epoch more of the station
 abbrev pub with_epoch_after : ℕ → ℕ → Option Span → CaptureDates → ℕ → CaptureDates
 with_epoch_after now station None c tow = with_first_epoch now station c (begun tow)
-with_epoch_after now station (Some s) c tow = record c { span = Some (with_time s tow) }
+with_epoch_after now station (Some s) c tow = record c { span = Some (with_time s tow); told = with_epoch_behind now tow c.told }
 
 abbrev pub with_epoch_time : ℕ → ℕ → CaptureDates → ℕ → CaptureDates
 with_epoch_time now station c tow = with_epoch_after now station c.span c tow
@@ -117,7 +137,7 @@ with_epoch_time now station c tow = with_epoch_after now station c.span c tow
 -- after some epochs, or none: a date message more
 abbrev pub with_date_after : ℕ → ℕ → Option Span → CaptureDates → DateMessage → CaptureDates
 with_date_after now station None c d = with_waiting c d
-with_date_after now station (Some s) c d = record c { told = with_telling now station s d c.told }
+with_date_after now station (Some s) c d = record c { told = with_telling_behind now station s d c.told }
 
 abbrev pub with_date : ℕ → ℕ → CaptureDates → DateMessage → CaptureDates
 with_date now station c d = with_date_after now station c.span c d

@@ -1,8 +1,12 @@
 -- How far the clocks of systems are apart within chains of messages. A chain ends with an observation message whose
--- multiple-message bit (DF393, DF005) is 0, and the next one begins behind it. Lists of messages are newest first, and
--- lists of clocks and offsets are in the order of the capture.
+-- multiple-message bit (DF393, DF005) is 0, and the next one begins behind it. A station tells the time of an epoch once for
+-- each system. So if a message tells another time of day than one of the same system in the chain, the message that would have
+-- ended the chain is missing, and a new chain begins. The clocks of the chain that was cut off are not compared, because it is
+-- not known which of them are of one epoch. Lists of messages are newest first, and lists of clocks and offsets are in the order
+-- of the capture.
 -- Source: RTCM 10403.3, DF005, DF034, DF393 and DF416; which clocks are compared is this project's rule
 use Rattle.std.specs.Prelude.{ℕ, suc, ◌+◌, ◌-◌, ◌/◌, ◌%◌, ◌^◌, ◌==◌, Bool, true, false, not, ◌&&◌, nat_le, nat_lt, List, [], ◌∷◌, ◌++◌, length, set, get_or, Option, None, Some, if◌then◌else◌}
+use Rattle.std.specs.List.{list_any}
 use Rattle.std.specs.declared.vec.Vec.{Vec}
 use Rattle.arrayvec.specs.ArrayVec.{ArrayVec}
 use Rattle.rtk_message.specs.Fields.{week_ms}
@@ -240,14 +244,30 @@ no_clocks = record { waiting = record { items = [] }; offsets = no_offsets }
 abbrev pub with_open : ClockTold → ClockSurvey → ClockSurvey
 with_open c s = if nat_lt (length s.waiting.items) 32 then record s { waiting = record { items = s.waiting.items ++ c ∷ [] } } else s
 
+-- formula
+-- two clocks are of one system and tell other times of day. A 1012 tells no day, so days are not looked at
+abbrev pub differs_in_time : ClockTold → ClockTold → Bool
+differs_in_time c other = clock_rank c.system == clock_rank other.system && not (c.time % day_ms == other.time % day_ms)
+
+-- a chain begins with a clock behind these clocks, of which one is of its system and tells another time of day
+abbrev pub begins_chain : List ClockTold → ClockTold → Bool
+begins_chain cs c = list_any (differs_in_time c) cs
+
+-- the chain in which a clock stands: if one begins with it, the chain that has not ended is dropped
+abbrev pub chain_before : ClockTold → ClockSurvey → ClockSurvey
+chain_before c s = if begins_chain s.waiting.items c then record s { waiting = record { items = [] } } else s
+
 -- the chain ends
 abbrev pub chain_ended : ClockSurvey → ClockSurvey
 chain_ended s = record { waiting = record { items = [] }; offsets = with_chain s.waiting.items s.offsets }
 
+abbrev pub with_clock : ClockTold → Bool → ClockSurvey → ClockSurvey
+with_clock c true s = with_open c s
+with_clock c false s = chain_ended (with_open c s)
+
 abbrev pub with_clock_if : Option ClockTold → Bool → ClockSurvey → ClockSurvey
 with_clock_if None more s = s
-with_clock_if (Some c) true s = with_open c s
-with_clock_if (Some c) false s = chain_ended (with_open c s)
+with_clock_if (Some c) more s = with_clock c more (chain_before c s)
 
 -- a message more
 abbrev pub with_clock_of : AnyMessage → ClockSurvey → ClockSurvey

@@ -1,21 +1,20 @@
--- How far the clocks of GLONASS and BeiDou of a station go in a capture (this project's rule). They give no epoch, so each
--- is followed by itself, from message to message: a message is dated near the last epoch, or near the last message of the same
--- clock if no epoch came since. As long as no epoch came, the dates that 1013 and 1029 of the station name take their place.
--- Beside epochs all moments are as if the first epoch were in week 1,024, as those of epochs are.
+-- How far a clock of GLONASS or BeiDou goes in a capture (this project's rule). It gives no epoch, so it is followed from
+-- message to message: a message is dated near the last epoch, or near the last message of the clock if no epoch came since. As
+-- long as no epoch came, the dates that 1013 and 1029 of the station name take their place. Beside epochs all moments are as if
+-- the first epoch were in week 1,024, as those of epochs are.
 -- Source: RTCM 10403.3, DF034, DF416 and DF427
-use Rattle.std.specs.Prelude.{ℕ, ◌+◌, ◌-◌, ◌%◌, ◌==◌, Bool, true, false, not, ◌&&◌, nat_le, min, Option, None, Some, unwrap_or, is_some, if◌then◌else◌}
-use Rattle.std.specs.BTreeMap.{BTreeMap, get}
-use Rattle.std.specs.Ordering.{nat_cmp}
+use Rattle.std.specs.Prelude.{ℕ, ◌+◌, ◌-◌, ◌%◌, ◌==◌, Bool, true, false, not, ◌&&◌, ◌||◌, nat_le, min, Option, None, Some, unwrap_or, is_some, if◌then◌else◌}
 use Rattle.rtk_message.specs.declared.any_message.AnyMessage.{AnyMessage}
 use Rattle.rtk_message.specs.declared.any_message.AnyMessage.TheVariants as any
 use Rattle.rtk_message.specs.declared.system.System.{System}
 use Rattle.rtk_message.specs.declared.system.System.TheVariants.{Gps, Glonass, Galileo, Beidou, Qzss, Sbas, Navic}
 use Rattle.rtk_message.specs.Obs1012 as obs1012
+use Rattle.rtk_message.specs.Fields.{week_ms}
 use Rattle.rtk_obs.specs.declared.time.TheConstants.{LAST_MS}
 use Rattle.rtk_survey.specs.BesideGps.{told_time, gives_value_beside}
 use Rattle.rtk_survey.specs.Chains.{tells_day}
 use Rattle.rtk_survey.specs.ClockMarks.{opened_moment}
-use Rattle.rtk_survey.specs.Epochs.{begun, is_followed, with_moment, last_time_of_week}
+use Rattle.rtk_survey.specs.Epochs.{begun, is_followed, with_moment}
 use Rattle.rtk_survey.specs.Telling.{dated, day_ms}
 use Rattle.rtk_survey.specs.declared.clock_marks.ClockMarks.{ClockMarks}
 use Rattle.rtk_survey.specs.declared.clock_spans.ClockSpan.{ClockSpan}
@@ -23,7 +22,6 @@ use Rattle.rtk_survey.specs.declared.clock_spans.FollowedClock.{FollowedClock}
 use Rattle.rtk_survey.specs.declared.clock_spans.FollowedClock.TheVariants.{GlonassWeek, BeidouWeek, GlonassDay}
 use Rattle.rtk_survey.specs.declared.clock_spans.FollowedSpan.{FollowedSpan}
 use Rattle.rtk_survey.specs.declared.clock_spans.FollowedTime.{FollowedTime}
-use Rattle.rtk_survey.specs.declared.clock_spans.StationClocks.{StationClocks}
 use Rattle.rtk_survey.specs.declared.span.Span.{Span}
 
 -- ---- the clock of a message
@@ -70,6 +68,10 @@ clock_moment GlonassWeek at t = dated at t
 clock_moment BeidouWeek at t = dated at t
 clock_moment GlonassDay at t = dated_in_day at t
 
+-- the clock that dates moments again: that of MSM of GLONASS, if one tells the day of a time of day
+abbrev pub redating_clock : FollowedClock → Bool → FollowedClock
+redating_clock clock has_day = if has_day then GlonassWeek else clock
+
 -- a moment, if it can be written; else another one
 abbrev pub moment_or : ℕ → ℕ → ℕ
 moment_or t other = if nat_le t LAST_MS then t else other
@@ -112,6 +114,8 @@ kept_span k = record {
   is_wide = k.span.is_wide;
   mark = k.mark;
   by_dates = k.by_dates;
+  beside = k.beside;
+  has_day = k.has_day;
 }
 
 abbrev pub opened_if_any : Option ℕ → Option ℕ
@@ -131,24 +135,57 @@ opened_span k = record {
   };
   mark = opened_if_any k.mark;
   by_dates = k.by_dates;
+  beside = opened_if_any k.beside;
+  has_day = k.has_day;
 }
 
 -- the first message of a clock, near the last epoch or date if one came
 abbrev pub clock_begun : FollowedClock → Option ClockMarks → ℕ → FollowedSpan
-clock_begun c None t = record { span = begun t; mark = None; by_dates = false }
-clock_begun c (Some m) t =
-    record { span = span_at (moment_or (clock_moment c m.last t) m.last); mark = Some m.last; by_dates = m.are_dates }
+clock_begun c None t = record { span = begun t; mark = None; by_dates = false; beside = None; has_day = false }
+clock_begun c (Some m) t = record {
+  span = span_at (moment_or (clock_moment c m.last t) m.last);
+  mark = Some m.last;
+  by_dates = is_some m.date;
+  beside = None;
+  has_day = false;
+}
+
+-- the last message: of 1012 it may be an MSM of GLONASS behind them
+abbrev pub last_message : FollowedSpan → ℕ
+last_message k = unwrap_or k.beside k.span.last
 
 -- a clock is dated by epochs, or by dates
 abbrev pub is_marked_by : ClockMarks → FollowedSpan → Bool
-is_marked_by m k = is_some k.mark && (if k.by_dates then m.are_dates else not m.are_dates)
+is_marked_by m k = is_some k.mark && (if k.by_dates then is_some m.date else not (is_some m.date))
 
--- if no epoch came before the messages, the last of them is set near the first epoch, and the others with it; so it is with
--- dates, which epochs replace
+-- the last message is at this moment, and the others with it
+abbrev pub moved_messages : ℕ → Bool → FollowedSpan → FollowedSpan
+moved_messages to by_dates k = record {
+  span = moved_span (last_message k) to k.span;
+  mark = None;
+  by_dates = by_dates;
+  beside = moved_moment_if_any (last_message k) to k.beside;
+  has_day = k.has_day;
+}
+
+abbrev pub earlier_if : Bool → ℕ → ℕ → ℕ
+earlier_if holds t other = if holds then min t other else t
+
+-- formula
+-- where the last message is set near a moment behind it. Of moments by dates the day of the week is known, which counts if the
+-- message does not come after this moment by it
+abbrev pub last_moved : FollowedClock → ℕ → FollowedSpan → ℕ
+last_moved c near k =
+    earlier_if k.by_dates (clock_moment (redating_clock c k.has_day) near (last_message k % week_ms)) (dated near (last_message k % week_ms))
+
+-- the last message is set near a moment, and the others with it. Moments by dates keep their day, however often they are moved
+abbrev pub moved_near : FollowedClock → ℕ → Bool → FollowedSpan → FollowedSpan
+moved_near c near by_dates k = moved_messages (last_moved c near k) (by_dates || k.by_dates) k
+
+-- if no epoch came before the messages, the last of them is set near the first epoch, and the others with it. The same holds of
+-- messages before the first date, and of moments by dates, which epochs replace
 abbrev pub clock_anchored : FollowedClock → ClockMarks → FollowedSpan → FollowedSpan
-clock_anchored c m k =
-    if is_marked_by m k then k else
-    record { span = moved_span k.span.last (clock_moment c m.first (last_time_of_week k.span)) k.span; mark = None; by_dates = m.are_dates }
+clock_anchored c m k = if is_marked_by m k then k else moved_near c m.first (is_some m.date) k
 
 abbrev pub clock_anchored_if_any : FollowedClock → Option ClockMarks → FollowedSpan → FollowedSpan
 clock_anchored_if_any c None k = k
@@ -161,8 +198,8 @@ is_new_mark (Some before) t = not (before == t)
 
 -- the moment near which the next message is dated: the last epoch or date if it is new, else the last message
 abbrev pub clock_base : Option ClockMarks → FollowedSpan → ℕ
-clock_base None k = k.span.last
-clock_base (Some m) k = if is_new_mark k.mark m.last then m.last else k.span.last
+clock_base None k = last_message k
+clock_base (Some m) k = if is_new_mark k.mark m.last then m.last else last_message k
 
 -- a moment more; one that is more than a week from the first is not followed
 abbrev pub with_moment_near : Span → ℕ → Span
@@ -174,7 +211,7 @@ last_mark_of (Some m) = Some m.last
 
 abbrev pub are_dates_if_any : Option ClockMarks → Bool
 are_dates_if_any None = false
-are_dates_if_any (Some m) = m.are_dates
+are_dates_if_any (Some m) = is_some m.date
 
 -- a message more after these epochs or dates, by the time that its clock tells
 abbrev pub with_clock_time : FollowedClock → Option ClockMarks → ℕ → FollowedSpan → FollowedSpan
@@ -182,6 +219,8 @@ with_clock_time c m t k = record {
   span = with_moment_near k.span (clock_moment c (clock_base m k) t);
   mark = last_mark_of m;
   by_dates = are_dates_if_any m;
+  beside = None;
+  has_day = k.has_day;
 }
 
 abbrev pub clock_with : FollowedClock → Option ClockMarks → ClockSpan → ℕ → FollowedSpan
@@ -190,30 +229,3 @@ clock_with c m k t = with_clock_time c m t (clock_anchored_if_any c m (opened_sp
 abbrev pub clock_followed : FollowedClock → Option ClockMarks → Option ClockSpan → ℕ → ClockSpan
 clock_followed c m None t = kept_span (clock_begun c m t)
 clock_followed c m (Some k) t = kept_span (clock_with c m k t)
-
--- ---- the clocks of a station
-
-abbrev pub no_station_clocks : StationClocks
-no_station_clocks = record { glonass = None; beidou = None; glonass_day = None }
-
--- table
--- a time more of a clock, after these epochs or dates
-abbrev pub with_time_of_clock : FollowedClock → Option ClockMarks → ℕ → StationClocks → StationClocks
-with_time_of_clock GlonassWeek e t s = record s { glonass = Some (clock_followed GlonassWeek e s.glonass t) }
-with_time_of_clock BeidouWeek e t s = record s { beidou = Some (clock_followed BeidouWeek e s.beidou t) }
-with_time_of_clock GlonassDay e t s = record s { glonass_day = Some (clock_followed GlonassDay e s.glonass_day t) }
-
-abbrev pub with_followed_time : Option ClockMarks → FollowedTime → StationClocks → StationClocks
-with_followed_time e told s = with_time_of_clock told.clock e told.time s
-
--- the clocks of a station; of one without an entry no clock is followed
-abbrev pub clocks_by_station : BTreeMap ℕ StationClocks → ℕ → StationClocks
-clocks_by_station clocks n = unwrap_or (get nat_cmp clocks n) no_station_clocks
-
--- the clocks of station n, after a time more of station k
-abbrev pub with_time_for : ℕ → ℕ → Option ClockMarks → FollowedTime → StationClocks → StationClocks
-with_time_for n k e told s = if k == n then with_followed_time e told s else s
-
-abbrev pub with_time_for_if_any : ℕ → ℕ → Option ClockMarks → Option FollowedTime → StationClocks → StationClocks
-with_time_for_if_any n k e None s = s
-with_time_for_if_any n k e (Some told) s = with_time_for n k e told s

@@ -11,6 +11,7 @@ pub mod Counting
 pub mod CountingLaws
 pub mod DateLaws
 pub mod DateMessages
+pub mod DayClocks
 pub mod Dayless
 pub mod Epochs
 pub mod EquipmentHistory
@@ -33,6 +34,7 @@ pub mod Proposal
 pub mod ReadFrames
 pub mod ReferencePoints
 pub mod Sbas
+pub mod StationClocks
 pub mod Steps
 pub mod Summary
 pub mod SummaryText

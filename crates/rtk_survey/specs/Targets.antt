@@ -15,13 +15,14 @@ use Rattle.rtk_survey.specs.BesideGps.{gives_value_beside}
 use Rattle.rtk_survey.specs.BitMarks.{is_marked_in}
 use Rattle.rtk_survey.specs.CaptureDates.{no_dates, with_epoch_time, with_date, with_waiting}
 use Rattle.rtk_survey.specs.ClockMarks.{marks_in}
-use Rattle.rtk_survey.specs.ClockSpans.{followed_with_value, no_station_clocks, clocks_by_station, with_time_for_if_any}
+use Rattle.rtk_survey.specs.ClockSpans.{followed_with_value}
+use Rattle.rtk_survey.specs.StationClocks.{no_station_clocks, clocks_by_station, with_time_for_if_any}
 use Rattle.rtk_survey.specs.Counting.{shown_count}
 use Rattle.rtk_survey.specs.DateMessages.{date_in}
 use Rattle.rtk_survey.specs.Epochs.{last_time_of_week}
 use Rattle.rtk_survey.specs.EquipmentMessages.{equipment_in}
 use Rattle.rtk_survey.specs.Parting as parting
-use Rattle.rtk_survey.specs.Parting.{no_parting, with_epochs}
+use Rattle.rtk_survey.specs.Parting.{no_parting, parting_with_message}
 use Rattle.rtk_survey.specs.Phases.{HasPhases}
 use Rattle.rtk_survey.specs.Proposal.{entry_has_value}
 use Rattle.rtk_survey.specs.ReadFrames.{ReadFrame, messages_in, messages_from}
@@ -31,7 +32,7 @@ use Rattle.rtk_survey.specs.Tracing.{entries_of_message}
 use Rattle.rtk_survey.specs.declared.capture_dates.CaptureDates.{CaptureDates}
 use Rattle.rtk_survey.specs.declared.date_message.DateMessage.{DateMessage}
 use Rattle.rtk_survey.specs.declared.clock_marks.ClockMarks.{ClockMarks}
-use Rattle.rtk_survey.specs.declared.clock_spans.StationClocks.{StationClocks}
+use Rattle.rtk_survey.specs.declared.station_clocks.StationClocks.{StationClocks}
 use Rattle.rtk_survey.specs.declared.dating_systems.DatingSystems.{DatingSystems}
 use Rattle.rtk_survey.specs.declared.equipment_message.EquipmentMessage.{EquipmentMessage}
 use Rattle.rtk_survey.specs.declared.parting.Parting.{Parting}
@@ -184,7 +185,8 @@ equipment_times_of q (f ∷ before) = times_with_reading (dates_of q before) (eq
 -- ---- where a second date begins
 
 abbrev pub parting_with_reading : ℕ → TargetDates → ℕ → Parting → Result AnyMessage AnyFault → List ℕ → Parting
-parting_with_reading now d frame p (Ok m) payload = with_epochs d.capture.span (with_observation now d m).capture.span frame p
+parting_with_reading now d frame p (Ok m) payload =
+    parting_with_message d.station m d.capture.span (with_observation now d m).capture.span frame p
 parting_with_reading now d frame p (Err fault) payload = parting.parting_with_date now d.station d.capture (date_in (bits payload)) frame p
 
 -- what frames tell

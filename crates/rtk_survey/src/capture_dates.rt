@@ -113,6 +113,7 @@ impl CaptureDates {
     {
         if let Some(span) = &mut self.span {
             span.take(tow);
+            self.told.take_epoch(now, tow);
             return;
         }
         let span = Span::begun(tow);
@@ -135,7 +136,7 @@ impl CaptureDates {
     {
         match &self.span {
             None => self.wait(message),
-            Some(span) => self.told.take(now, station, span, &message),
+            Some(span) => self.told.take_behind(now, station, span, &message),
         }
     }
 

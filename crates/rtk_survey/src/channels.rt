@@ -2,6 +2,7 @@
 
 ghost use Rattle.std.specs.Prelude.{◌≡◌, ◌≢◌, ◌<◌, ◌≤◌, ◌+◌, ℕ, true, false, List, [], ◌∷◌, OnOk};
 ghost use Rattle.rtk_message.specs.declared.any_message.AnyMessage.{AnyMessage};
+ghost use Rattle.rtk_obs.specs.Carriers.{IsSlot};
 ghost use Rattle.rtk_survey.specs.Channels as spec;
 ghost use Rattle.rtk_survey.specs.Counting.{shown_count};
 ghost use Rattle.rtk_survey.specs.Steps.Fields.{TakesFields};
@@ -30,7 +31,7 @@ pub(crate) const PLACES: u16 = 588;
 
 // The mask has the bit of this slot.
 fn has_slot_bit(mask: u64, slot: u8) -> bool
-    requires { (1 ≤ slot) × (slot < 28) }
+    requires { IsSlot slot }
     ensures { result ≡ spec.has_slot_bit mask slot }
 {
     (mask >> (64 - slot)) % 2 == 1
@@ -38,7 +39,7 @@ fn has_slot_bit(mask: u64, slot: u8) -> bool
 
 // How many bits of the mask stand before that of this slot.
 fn slots_before(mask: u64, slot: u8) -> usize
-    requires { (1 ≤ slot) × (slot < 28) }
+    requires { IsSlot slot }
     ensures { result ≡ spec.slots_before mask slot }
 {
     ((mask >> (64 - slot)) / 2).count_ones() as usize
@@ -46,7 +47,7 @@ fn slots_before(mask: u64, slot: u8) -> usize
 
 // The field of a slot, if the message has its satellite and such fields.
 fn slot_field(message: &Msm, slot: u8) -> Option<u8>
-    requires { (1 ≤ slot) × (slot < 28) }
+    requires { IsSlot slot }
     ensures { result ≡ spec.slot_field message.now slot }
 {
     let mask = message.header.satellite_mask;
@@ -84,7 +85,7 @@ fn is_channel_field(field: u8) -> bool
     ensures yes { result ≡ true → field < 21 }
     ensures no { result ≡ false → 21 ≤ field }
 {
-    field < 21
+    u16::from(field) < FIELDS
 }
 
 // Counts a field of a slot, if it tells a channel.
@@ -124,7 +125,7 @@ fn if_channel(field: Option<u8>) -> Option<u8>
 }
 
 fn field_in_msm(message: &Msm, slot: u8) -> Option<u8>
-    requires { (1 ≤ slot) × (slot < 28) }
+    requires { IsSlot slot }
     ensures { result ≡ spec.field_in_msm message.now slot }
 {
     if is_glonass(message.system) {
@@ -136,7 +137,7 @@ fn field_in_msm(message: &Msm, slot: u8) -> Option<u8>
 
 /// The field of a slot, if the message is of GLONASS and has it.
 pub(crate) fn field_told(message: &AnyMessage, slot: u8) -> Option<u8>
-    requires { (1 ≤ slot) × (slot < 28) }
+    requires { IsSlot slot }
     ensures { result ≡ spec.field_told message.now slot }
 {
     match message {
@@ -152,7 +153,7 @@ fn take_slot(
     message: &AnyMessage,
     slot: u8,
 ) -> Result<(), AllocError>
-    requires { (1 ≤ slot) × (slot < 28) }
+    requires { IsSlot slot }
     ensures own { OnOk result ((f : ℕ) → f < 21 → spec.tells_field slot f message.now ≡ true
         → spec.count_of_field counts.new slot f ≡ shown_count (spec.count_of_field counts.old slot f + 1)) }
     ensures others { OnOk result ((s f : ℕ) → f < 21 → (s ≡ slot → spec.tells_field s f message.now ≡ false)

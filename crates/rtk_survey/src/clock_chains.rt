@@ -1,8 +1,10 @@
 //! How far the clocks of systems are apart within chains of messages.
 //!
-//! A chain ends with an observation message whose multiple-message bit is 0. Its clock is that of its first
-//! message of GPS; if there is none, of Galileo, QZSS, SBAS or NavIC. A 1012 tells no day, so its clock is compared
-//! within half a day. A leap second comes between two days of UTC, so clocks of GLONASS are counted by these days too.
+//! A chain ends with an observation message whose multiple-message bit is 0. If this message is missing, the chain is
+//! dropped before the first message that tells another time of day than one of its system in the chain. Its clock is that
+//! of its first message of GPS; if there is none, of Galileo, QZSS, SBAS or NavIC. A 1012 tells no day, so its clock is
+//! compared within half a day. A leap second comes between two days of UTC, so clocks of GLONASS are counted by these days
+//! too.
 
 ghost use Rattle.std.specs.Prelude.{◌≡◌, ◌<◌, ◌≤◌, length, drop, IfSome, OnOk};
 ghost use Rattle.rtk_survey.specs.Chains as spec;
@@ -148,7 +150,8 @@ fn clock_of_four(message: &Message) -> Option<ClockTold>
     }
 }
 
-fn clock_of(message: &AnyMessage) -> Option<ClockTold>
+/// The clock of an observation message.
+pub(crate) fn clock_of(message: &AnyMessage) -> Option<ClockTold>
     ensures { result ≡ spec.clock_of message.now }
 {
     match message {
@@ -168,7 +171,8 @@ fn more_follow_four(message: &Message) -> bool
     }
 }
 
-fn more_follow(message: &AnyMessage) -> bool
+/// Do more messages of its chain follow?
+pub(crate) fn more_follow(message: &AnyMessage) -> bool
     ensures { result ≡ spec.more_follow message.now }
 {
     match message {
@@ -335,6 +339,23 @@ fn count_on_day(list: &mut ArrayVec<DayOffset, MOST_DAY_OFFSETS>, day: u8, ahead
     }
 }
 
+// ---- a chain that has no end
+
+/// Are two clocks of one system, and do they tell other times of day?
+pub(crate) fn differs_in_time(clock: ClockTold, other: ClockTold) -> bool
+    ensures { result ≡ spec.differs_in_time clock other }
+{
+    let (time, other_time) = (u64::from(clock.time), u64::from(other.time));
+    clock_rank(clock.system) == clock_rank(other.system) && time % DAY_MS != other_time % DAY_MS
+}
+
+// Does a chain begin with a clock behind these clocks?
+fn begins_chain(clocks: &[ClockTold], clock: ClockTold) -> bool
+    ensures { result ≡ spec.begins_chain clocks.now clock }
+{
+    clocks.iter().any(|other| differs_in_time(clock, *other))
+}
+
 impl ClockOffsets {
     /// No chain ended.
     pub(crate) fn new() -> ClockOffsets
@@ -457,6 +478,15 @@ impl ClockSurvey {
         }
     }
 
+    // The chain in which a clock stands.
+    fn begin_chain_if(&mut self, clock: ClockTold)
+        ensures { self.new ≡ spec.chain_before clock self.old }
+    {
+        if begins_chain(self.waiting.as_slice(), clock) {
+            self.waiting.clear();
+        }
+    }
+
     fn end_chain(&mut self)
         ensures { self.new ≡ spec.chain_ended self.old }
     {
@@ -471,6 +501,7 @@ impl ClockSurvey {
         let Some(clock) = clock_of(message) else {
             return;
         };
+        self.begin_chain_if(clock);
         if more_follow(message) {
             self.open_with(clock);
             return;

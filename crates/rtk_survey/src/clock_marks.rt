@@ -4,7 +4,7 @@ ghost use Rattle.std.specs.Prelude.{◌≡◌};
 ghost use Rattle.rtk_survey.specs.ClockMarks as spec;
 
 use crate::capture_dates::CaptureDates;
-use crate::date_message::DateMessage;
+use crate::date_message::{DateMessage, UtcDate};
 use crate::span::Span;
 use crate::tellings::reference_named;
 use rtk_obs::{GpsMs, LAST_MS};
@@ -15,8 +15,8 @@ use rtk_obs::{GpsMs, LAST_MS};
 pub struct ClockMarks {
     pub first: GpsMs,
     pub last: GpsMs,
-    /// They are dates, and not epochs.
-    pub are_dates: bool,
+    /// The 1013 or 1029 that names the last one, if they are dates and not epochs.
+    pub date: Option<UtcDate>,
 }
 
 /// A moment that is kept as a number.
@@ -37,35 +37,50 @@ impl ClockMarks {
         ClockMarks {
             first: epochs.first,
             last: epochs.last,
-            are_dates: false,
+            date: None,
         }
     }
 }
 
-// A date more that the station names.
-fn marks_with_date(marks: Option<ClockMarks>, ms: u64) -> ClockMarks
-    ensures { result ≡ spec.marks_with_date marks ms }
+// The date of a 1013 or a 1029.
+fn utc_of(message: &DateMessage) -> Option<UtcDate>
+    ensures { result ≡ spec.utc_of message.now }
+{
+    match message {
+        DateMessage::Utc(date) => Some(*date),
+        DateMessage::Ephemeris(_) | DateMessage::OtherEphemeris(_) => None,
+    }
+}
+
+// A date more that the station names in a message.
+fn marks_with_date(marks: Option<ClockMarks>, message: &DateMessage, ms: u64) -> ClockMarks
+    ensures { result ≡ spec.marks_with_date marks message.now ms }
 {
     let last = opened_moment(ms);
+    let date = utc_of(message);
     match marks {
         Some(marks) => ClockMarks {
             first: marks.first,
             last,
-            are_dates: marks.are_dates,
+            date,
         },
         None => ClockMarks {
             first: last,
             last,
-            are_dates: true,
+            date,
         },
     }
 }
 
-fn marks_with_date_if_any(marks: Option<ClockMarks>, ms: Option<u64>) -> Option<ClockMarks>
-    ensures { result ≡ spec.marks_with_date_if_any marks ms }
+fn marks_with_date_if_any(
+    marks: Option<ClockMarks>,
+    message: &DateMessage,
+    ms: Option<u64>,
+) -> Option<ClockMarks>
+    ensures { result ≡ spec.marks_with_date_if_any marks message.now ms }
 {
     match ms {
-        Some(ms) => Some(marks_with_date(marks, ms)),
+        Some(ms) => Some(marks_with_date(marks, message, ms)),
         None => marks,
     }
 }
@@ -86,7 +101,7 @@ fn own_marks(now: GpsMs, station: u16, messages: &[DateMessage]) -> Option<Clock
 {
     let mut marks = None;
     for message in messages {
-        marks = marks_with_date_if_any(marks, own_reference(now, station, message));
+        marks = marks_with_date_if_any(marks, message, own_reference(now, station, message));
     }
     marks
 }

@@ -1,13 +1,11 @@
-//! How far the clocks of GLONASS and BeiDou of a station go in a capture.
+//! How far a clock of GLONASS or BeiDou goes in a capture.
 //!
-//! They give no epoch. Each is followed by itself, near the epochs, so that it is known when its messages are more than a
-//! conversion can date. As long as no epoch came, the dates that the station names take their place. A clock of GLONASS that
-//! tells no day is followed apart from those that do.
+//! It gives no epoch. It is followed near the epochs, so that it is known when its messages are more than a conversion can
+//! date. As long as no epoch came, the dates that the station names take their place.
 
-ghost use Rattle.std.specs.Prelude.{◌≡◌, ◌≢◌, ◌<◌, ◌^◌, ℕ, OnOk};
+ghost use Rattle.std.specs.Prelude.{◌≡◌, ◌<◌, ◌^◌};
 ghost use Rattle.rtk_survey.specs.BesideGps.{cells_beside_gps};
 ghost use Rattle.rtk_survey.specs.ClockSpans as spec;
-ghost use Rattle.rtk_survey.specs.ClockSpans.{clocks_by_station, no_station_clocks};
 
 use crate::beside_gps::told_time;
 use crate::clock_chains::tells_day;
@@ -16,9 +14,7 @@ use crate::span::{Span, followed};
 use crate::system_msm::gives_value;
 use crate::telling::{DAY_MS, HALF_DAY_MS, dated};
 use rtk_message::{AnyMessage, System};
-use rtk_obs::{GpsMs, LAST_MS, SignalEntry};
-use std::alloc::{AllocError, Global};
-use std::collections::BTreeMap;
+use rtk_obs::{GpsMs, LAST_MS, SignalEntry, WEEK_MS};
 
 /// A clock that is followed.
 #[derive(Clone, Copy, Debug, PartialEq, Eq)]
@@ -27,7 +23,7 @@ pub enum FollowedClock {
     GlonassWeek,
     /// That of MSM of BeiDou.
     BeidouWeek,
-    /// That of 1012, which tells no day, and of MSM of GLONASS whose day is unknown.
+    /// That of 1012, which tell no day, and of MSM of GLONASS whose day is unknown, which count as 1012.
     GlonassDay,
 }
 
@@ -38,7 +34,7 @@ pub struct FollowedTime {
     pub time: u32,
 }
 
-/// How far a clock goes: the fields of its `Span`, in ms, as a survey keeps them of each station.
+/// A `FollowedSpan` in plain numbers: the fields of its `Span`, in ms. A survey keeps one of each clock of a station.
 #[derive(Clone, Copy, Debug, PartialEq, Eq)]
 pub struct ClockSpan {
     pub first: u64,
@@ -52,6 +48,10 @@ pub struct ClockSpan {
     pub mark: Option<u64>,
     /// It is a date.
     pub by_dates: bool,
+    /// The last MSM of GLONASS, if it came behind the last of these 1012.
+    pub beside: Option<u64>,
+    /// An MSM of GLONASS tells the day of these 1012.
+    pub has_day: bool,
 }
 
 /// How far a clock goes.
@@ -63,14 +63,10 @@ pub struct FollowedSpan {
     pub mark: Option<GpsMs>,
     /// It is a date, and so are the moments.
     pub by_dates: bool,
-}
-
-/// How far the clocks of a station go; `None` if no message of a clock has a value.
-#[derive(Clone, Copy, Debug, PartialEq, Eq)]
-pub struct StationClocks {
-    pub glonass: Option<ClockSpan>,
-    pub beidou: Option<ClockSpan>,
-    pub glonass_day: Option<ClockSpan>,
+    /// The last MSM of GLONASS, if it came behind the last of these 1012. It is the last message then.
+    pub beside: Option<GpsMs>,
+    /// An MSM of GLONASS tells the day of these 1012, so that it is known where in a week they stand.
+    pub has_day: bool,
 }
 
 // ---- the clock of a message
@@ -152,7 +148,19 @@ pub fn clock_moment(clock: FollowedClock, at: GpsMs, time: u32) -> u64
     }
 }
 
-fn moment_or(ms: u64, other: GpsMs) -> GpsMs
+/// The clock that dates moments again: that of MSM of GLONASS, if one tells the day of a time of day.
+pub fn redating_clock(clock: FollowedClock, has_day: bool) -> FollowedClock
+    ensures { result ≡ spec.redating_clock clock has_day }
+{
+    if has_day {
+        FollowedClock::GlonassWeek
+    } else {
+        clock
+    }
+}
+
+/// The moment, if it can be written; else another one.
+pub(crate) fn moment_or(ms: u64, other: GpsMs) -> GpsMs
     ensures { result ≡ spec.moment_or ms other }
 {
     match GpsMs::new(ms) {
@@ -161,8 +169,8 @@ fn moment_or(ms: u64, other: GpsMs) -> GpsMs
     }
 }
 
-// One message alone.
-fn span_at(moment: GpsMs) -> Span
+/// One message alone.
+pub(crate) fn span_at(moment: GpsMs) -> Span
     ensures { result ≡ spec.span_at moment }
 {
     Span {
@@ -215,7 +223,8 @@ fn moved_span(from: GpsMs, to: u64, span: &Span) -> Span
 
 // ---- one clock
 
-fn opened_if_any(ms: Option<u64>) -> Option<GpsMs>
+/// A moment that is kept as a number, if there is one.
+pub(crate) fn opened_if_any(ms: Option<u64>) -> Option<GpsMs>
     ensures { result ≡ spec.opened_if_any ms }
 {
     match ms {
@@ -250,12 +259,18 @@ impl ClockSpan {
             },
             mark: opened_if_any(self.mark),
             by_dates: self.by_dates,
+            beside: opened_if_any(self.beside),
+            has_day: self.has_day,
         }
     }
 }
 
-// The first message of a clock, near the last epoch or date if one came.
-fn clock_begun(clock: FollowedClock, marks: &Option<ClockMarks>, time: u32) -> FollowedSpan
+/// The first message of a clock, near the last epoch or date if one came.
+pub(crate) fn clock_begun(
+    clock: FollowedClock,
+    marks: &Option<ClockMarks>,
+    time: u32,
+) -> FollowedSpan
     ensures { result ≡ spec.clock_begun clock marks.now time }
 {
     match marks {
@@ -263,20 +278,24 @@ fn clock_begun(clock: FollowedClock, marks: &Option<ClockMarks>, time: u32) -> F
             span: Span::begun(time),
             mark: None,
             by_dates: false,
+            beside: None,
+            has_day: false,
         },
         Some(marks) => {
             let ms = clock_moment(clock, marks.last, time);
             FollowedSpan {
                 span: span_at(moment_or(ms, marks.last)),
                 mark: Some(marks.last),
-                by_dates: marks.are_dates,
+                by_dates: marks.date.is_some(),
+                beside: None,
+                has_day: false,
             }
         }
     }
 }
 
-// Is the last epoch or date not the one that was the last before?
-fn is_new_mark(before: Option<GpsMs>, last: GpsMs) -> bool
+/// Is the last epoch or date not the one that was the last before?
+pub(crate) fn is_new_mark(before: Option<GpsMs>, last: GpsMs) -> bool
     ensures { result ≡ spec.is_new_mark before last }
 {
     match before {
@@ -285,8 +304,8 @@ fn is_new_mark(before: Option<GpsMs>, last: GpsMs) -> bool
     }
 }
 
-// A moment more; one that is more than a week from the first is not followed.
-fn with_moment_near(span: &Span, ms: u64) -> Span
+/// A moment more; one that is more than a week from the first is not followed.
+pub(crate) fn with_moment_near(span: &Span, ms: u64) -> Span
     ensures { result ≡ spec.with_moment_near span.now ms }
 {
     let mut more = *span;
@@ -297,7 +316,8 @@ fn with_moment_near(span: &Span, ms: u64) -> Span
     more
 }
 
-fn last_mark_of(marks: &Option<ClockMarks>) -> Option<GpsMs>
+/// The last epoch or date.
+pub(crate) fn last_mark_of(marks: &Option<ClockMarks>) -> Option<GpsMs>
     ensures { result ≡ spec.last_mark_of marks.now }
 {
     match marks {
@@ -306,18 +326,19 @@ fn last_mark_of(marks: &Option<ClockMarks>) -> Option<GpsMs>
     }
 }
 
-fn are_dates_if_any(marks: &Option<ClockMarks>) -> bool
+/// Are they dates?
+pub(crate) fn are_dates_if_any(marks: &Option<ClockMarks>) -> bool
     ensures { result ≡ spec.are_dates_if_any marks.now }
 {
     match marks {
-        Some(marks) => marks.are_dates,
+        Some(marks) => marks.date.is_some(),
         None => false,
     }
 }
 
 impl FollowedSpan {
-    // As a survey keeps it.
-    fn kept(&self) -> ClockSpan
+    /// As a survey keeps it.
+    pub(crate) fn kept(&self) -> ClockSpan
         ensures { result ≡ spec.kept_span self.now }
     {
         ClockSpan {
@@ -330,38 +351,90 @@ impl FollowedSpan {
             is_wide: self.span.is_wide,
             mark: kept_if_any(self.mark),
             by_dates: self.by_dates,
+            beside: kept_if_any(self.beside),
+            has_day: self.has_day,
         }
     }
 
-    // Do epochs date it, or dates, as here?
-    fn is_marked_by(&self, marks: &ClockMarks) -> bool
+    /// The last message: of 1012 it may be an MSM of GLONASS behind them.
+    pub(crate) fn last_message(&self) -> GpsMs
+        ensures { result ≡ spec.last_message self.now }
+    {
+        match self.beside {
+            Some(moment) => moment,
+            None => self.span.last,
+        }
+    }
+
+    /// Do epochs date it, or dates, as here?
+    pub(crate) fn is_marked_by(&self, marks: &ClockMarks) -> bool
         ensures { result ≡ spec.is_marked_by marks.now self.now }
     {
-        let is_alike = if self.by_dates {
-            marks.are_dates
-        } else {
-            !marks.are_dates
-        };
+        let are_dates = marks.date.is_some();
+        let is_alike = if self.by_dates { are_dates } else { !are_dates };
         self.mark.is_some() && is_alike
     }
 
+    // The last message at this moment, and the others with it.
+    fn moved_messages(&self, to: u64, by_dates: bool) -> FollowedSpan
+        requires { to < 2 ^ 61 }
+        ensures { result ≡ spec.moved_messages to by_dates self.now }
+    {
+        let from = self.last_message();
+        FollowedSpan {
+            span: moved_span(from, to, &self.span),
+            mark: None,
+            by_dates,
+            beside: moved_moment_if_any(from, to, self.beside),
+            has_day: self.has_day,
+        }
+    }
+
+    // Where the last message is set near a moment behind it. Of moments by dates the day of the week is known, which counts if
+    // the message does not come after this moment by it.
+    fn last_moved(&self, clock: FollowedClock, near: GpsMs) -> u64
+        ensures value { result ≡ spec.last_moved clock near self.now }
+        ensures bound { result < 2 ^ 61 }
+    {
+        let time = (self.last_message().ms() % WEEK_MS) as u32;
+        let moment = clock_moment(redating_clock(clock, self.has_day), near, time);
+        if self.by_dates {
+            moment.min(dated(near, time))
+        } else {
+            moment
+        }
+    }
+
+    /// The last message near a moment, and the others with it. Moments by dates keep their day, however often they are moved.
+    pub(crate) fn moved_near(
+        &self,
+        clock: FollowedClock,
+        near: GpsMs,
+        by_dates: bool,
+    ) -> FollowedSpan
+        ensures { result ≡ spec.moved_near clock near by_dates self.now }
+    {
+        self.moved_messages(self.last_moved(clock, near), by_dates || self.by_dates)
+    }
+
     /// Its moments near the epochs of the station: if none came before its messages, the last of them is set near the
-    /// first epoch, and the others with it. Dates take the place of epochs, and epochs that of dates.
+    /// first epoch, and the others with it. Dates take the place of epochs, and epochs that of dates. A 1012 that a date
+    /// dated keeps its day of the week, if it does not come after the first epoch by it.
     pub fn anchored(&self, clock: FollowedClock, marks: &ClockMarks) -> FollowedSpan
         ensures { result ≡ spec.clock_anchored clock marks.now self.now }
     {
         if self.is_marked_by(marks) {
             return *self;
         }
-        let to = clock_moment(clock, marks.first, self.span.last_time_of_week());
-        FollowedSpan {
-            span: moved_span(self.span.last, to, &self.span),
-            mark: None,
-            by_dates: marks.are_dates,
-        }
+        self.moved_near(clock, marks.first, marks.date.is_some())
     }
 
-    fn anchored_if_any(&self, clock: FollowedClock, marks: &Option<ClockMarks>) -> FollowedSpan
+    /// The same, if some came.
+    pub(crate) fn anchored_if_any(
+        &self,
+        clock: FollowedClock,
+        marks: &Option<ClockMarks>,
+    ) -> FollowedSpan
         ensures { result ≡ spec.clock_anchored_if_any clock marks.now self.now }
     {
         match marks {
@@ -370,13 +443,13 @@ impl FollowedSpan {
         }
     }
 
-    // The moment near which the next message is dated: the last epoch or date if it is new, else the last message.
-    fn base(&self, marks: &Option<ClockMarks>) -> GpsMs
+    /// The moment near which the next message is dated: the last epoch or date if it is new, else the last message.
+    pub(crate) fn base(&self, marks: &Option<ClockMarks>) -> GpsMs
         ensures { result ≡ spec.clock_base marks.now self.now }
     {
         match marks {
             Some(marks) if is_new_mark(self.mark, marks.last) => marks.last,
-            _ => self.span.last,
+            _ => self.last_message(),
         }
     }
 
@@ -389,12 +462,14 @@ impl FollowedSpan {
             span: with_moment_near(&self.span, ms),
             mark: last_mark_of(marks),
             by_dates: are_dates_if_any(marks),
+            beside: None,
+            has_day: self.has_day,
         }
     }
 }
 
-// A message more of a clock, of which some came.
-fn clock_with(
+/// A message more of a clock, of which some came.
+pub(crate) fn clock_with(
     clock: FollowedClock,
     marks: &Option<ClockMarks>,
     known: &ClockSpan,
@@ -407,8 +482,8 @@ fn clock_with(
     anchored.with_time(clock, marks, time)
 }
 
-// A message more of a clock, of which some came or none.
-fn clock_followed(
+/// A message more of a clock, of which some came or none.
+pub(crate) fn clock_followed(
     clock: FollowedClock,
     marks: &Option<ClockMarks>,
     known: &Option<ClockSpan>,
@@ -420,75 +495,4 @@ fn clock_followed(
         Some(known) => clock_with(clock, marks, known, time).kept(),
         None => clock_begun(clock, marks, time).kept(),
     }
-}
-
-// ---- the clocks of a station
-
-impl StationClocks {
-    /// No message came.
-    pub fn new() -> StationClocks
-        ensures { result ≡ no_station_clocks }
-    {
-        StationClocks {
-            glonass: None,
-            beidou: None,
-            glonass_day: None,
-        }
-    }
-
-    // A time more of a clock, after these epochs or dates.
-    fn take(&mut self, marks: &Option<ClockMarks>, told: FollowedTime)
-        ensures { self.new ≡ spec.with_followed_time marks.now told self.old }
-    {
-        let time = told.time;
-        match told.clock {
-            FollowedClock::GlonassWeek => {
-                let clock = FollowedClock::GlonassWeek;
-                let span = clock_followed(clock, marks, &self.glonass, time);
-                self.glonass = Some(span);
-            }
-            FollowedClock::BeidouWeek => {
-                let clock = FollowedClock::BeidouWeek;
-                let span = clock_followed(clock, marks, &self.beidou, time);
-                self.beidou = Some(span);
-            }
-            FollowedClock::GlonassDay => {
-                let clock = FollowedClock::GlonassDay;
-                let span = clock_followed(clock, marks, &self.glonass_day, time);
-                self.glonass_day = Some(span);
-            }
-        }
-    }
-}
-
-/// No message came.
-pub(crate) fn no_clocks_followed(alloc: Global) -> BTreeMap<u16, StationClocks>
-    ensures { (n : ℕ) → clocks_by_station result n ≡ no_station_clocks }
-{
-    BTreeMap::new(alloc)
-}
-
-/// The clocks of a station.
-pub fn clocks_by_station(clocks: &BTreeMap<u16, StationClocks>, station: u16) -> StationClocks
-    ensures { result ≡ clocks_by_station clocks.now station }
-{
-    match clocks.get(&station) {
-        Some(clocks) => *clocks,
-        None => StationClocks::new(),
-    }
-}
-
-/// A time more of a clock of a station, after these epochs or dates of it.
-pub(crate) fn take_followed_time(
-    clocks: &mut BTreeMap<u16, StationClocks>,
-    station: u16,
-    marks: &Option<ClockMarks>,
-    told: FollowedTime,
-) -> Result<(), AllocError>
-    ensures own { OnOk result (clocks_by_station clocks.new station ≡ spec.with_followed_time marks.now told (clocks_by_station clocks.old station)) }
-    ensures others { OnOk result ((n : ℕ) → n ≢ station → clocks_by_station clocks.new n ≡ clocks_by_station clocks.old n) }
-{
-    let own = clocks.entry(station)?.or_insert(StationClocks::new());
-    own.take(marks, told);
-    Ok(())
 }

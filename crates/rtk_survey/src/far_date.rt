@@ -51,8 +51,41 @@ pub(crate) fn far_date(
     }
 }
 
+// A date that is far from the epoch before it, if it is far from the one behind it.
+fn far_from_both(far: FarDate, behind: Option<FarDate>) -> Option<FarDate>
+    ensures { result ≡ spec.far_from_both far behind }
+{
+    match behind {
+        Some(_) => Some(far),
+        None => None,
+    }
+}
+
+/// A date that is far from the epoch before it, if it is far from the one behind it, which has this time of week.
+pub(crate) fn far_from_next(now: GpsMs, tow: u32, far: Option<FarDate>) -> Option<FarDate>
+    ensures { result ≡ spec.far_from_next now tow far }
+{
+    match far {
+        Some(far) => far_from_both(
+            far,
+            far_from_epoch(far.date, told_by_utc(now, far.date, tow)),
+        ),
+        None => None,
+    }
+}
+
+/// The last of such dates: this one, or else one that was told before.
+pub(crate) fn last_far_date(known: Option<FarDate>, more: Option<FarDate>) -> Option<FarDate>
+    ensures { result ≡ spec.last_far_date known more }
+{
+    match more {
+        Some(more) => Some(more),
+        None => known,
+    }
+}
+
 /// The first of such dates: one that was told before, or else this one.
-pub(crate) fn first_far_date(known: Option<FarDate>, more: Option<FarDate>) -> Option<FarDate>
+pub fn first_far_date(known: Option<FarDate>, more: Option<FarDate>) -> Option<FarDate>
     ensures { result ≡ spec.first_far_date known more }
 {
     match known {

@@ -23,11 +23,11 @@ use crate::date_message::UtcDate;
 use crate::station::StationSurvey;
 use crate::system_msm::{SystemMsm, epochs_numbered};
 use crate::system_signals::AnyCodeMarks;
-use crate::systems_sent::{SystemsSent, letter_of};
+use crate::systems_sent::SystemsSent;
 use crate::telling::moment_of;
 use crate::wrong_clocks::is_system_wrong;
 use rtk_message::{MsmKind, MsmType, System};
-use rtk_obs::{GpsMs, WEEK_MS};
+use rtk_obs::{GpsMs, WEEK_MS, letter_of};
 use std::alloc::{AllocError, Global};
 
 /// The slots of GLONASS are 1 to 27.

@@ -4,9 +4,12 @@ ghost use Rattle.std.specs.Prelude.{◌≡◌};
 ghost use Rattle.rtk_survey.specs.Parting as spec;
 
 use crate::capture_dates::CaptureDates;
+use crate::clock_chains::{ClockTold, clock_of, differs_in_time, more_follow};
 use crate::date_message::DateMessage;
 use crate::span::Span;
+use crate::telling::DAY_MS;
 use crate::tellings::Told;
+use rtk_message::AnyMessage;
 use rtk_obs::GpsMs;
 
 /// A longer step between epochs, or one back, may be where a capture begins anew.
@@ -17,13 +20,23 @@ const LONGEST_STEP_MS: u64 = 60_000;
 pub struct EpochStep {
     /// How long it is, forward or back.
     pub ms: u64,
-    /// How many frames came before the epoch behind it.
+    /// How many frames came before the first message of the epoch behind it.
+    pub frame: u64,
+}
+
+/// The first message of a chain, which ends with a message whose multiple-message bit is 0.
+#[derive(Clone, Copy, Debug, PartialEq, Eq)]
+pub struct ChainStart {
+    pub clock: ClockTold,
+    /// How many frames came before it.
     pub frame: u64,
 }
 
 /// Where a second date begins. Frames are counted from the beginning of the capture.
 #[derive(Clone, Copy, Debug, PartialEq, Eq)]
 pub struct Parting {
+    /// The first message of the chain of the station that has not ended, if an epoch came before it.
+    pub start: Option<ChainStart>,
     /// The greatest such step since the last message of the first date; of several the last one.
     pub step: Option<EpochStep>,
     /// How many frames came before the first message of the second date.
@@ -66,12 +79,53 @@ fn step_with(step: Option<EpochStep>, before: GpsMs, after: GpsMs, frame: u64) -
     }
 }
 
+// Are two times at most 60 s apart in the day? Times of GLONASS lack the leap seconds.
+fn is_within_minute(time: u32, other: u32) -> bool
+    ensures { result ≡ spec.is_within_minute time other }
+{
+    let (time, other) = (u64::from(time) % DAY_MS, u64::from(other) % DAY_MS);
+    (time + (DAY_MS + LONGEST_STEP_MS)).saturating_sub(other) % DAY_MS <= 2 * LONGEST_STEP_MS
+}
+
+// Does a message stand in the chain that begins so? If a chain has no end, it can be of the session before.
+fn is_in_chain(start: ChainStart, clock: ClockTold) -> bool
+    ensures { result ≡ spec.is_in_chain start clock }
+{
+    is_within_minute(start.clock.time, clock.time) && !differs_in_time(start.clock, clock)
+}
+
+fn start_of_chain(start: Option<ChainStart>, message: ChainStart) -> ChainStart
+    ensures { result ≡ spec.start_of_chain start message }
+{
+    match start {
+        Some(start) if is_in_chain(start, message.clock) => start,
+        _ => message,
+    }
+}
+
+fn start_behind(more: bool, start: ChainStart) -> Option<ChainStart>
+    ensures { result ≡ spec.start_behind more start }
+{
+    if more { Some(start) } else { None }
+}
+
+// The clock of a message, if it is of the station that is known.
+fn own_clock(station: Option<u16>, message: &AnyMessage) -> Option<ClockTold>
+    ensures { result ≡ spec.own_clock station message.now }
+{
+    match station {
+        Some(station) if station == message.station() => clock_of(message),
+        _ => None,
+    }
+}
+
 impl Parting {
     /// Nothing came.
     pub(crate) fn new() -> Parting
         ensures { result ≡ spec.no_parting }
     {
         Parting {
+            start: None,
             step: None,
             second: None,
             is_known: false,
@@ -89,13 +143,32 @@ impl Parting {
         self.is_known = self.second.is_some();
     }
 
-    /// A message more: before it and after it these are the epochs.
-    pub(crate) fn take_epochs(&mut self, before: Option<Span>, after: Option<Span>, frame: u64)
+    // A message more: before it and after it these are the epochs.
+    fn take_epochs(&mut self, before: Option<Span>, after: Option<Span>, frame: u64)
         ensures { self.new ≡ spec.with_epochs before after frame self.old }
     {
         if let (Some(before), Some(after)) = (before, after) {
             self.take_step(before.last, after.last, frame);
         }
+    }
+
+    /// A message more, after this station is known: before it and after it these are the epochs.
+    pub(crate) fn take_message_of(
+        &mut self,
+        station: Option<u16>,
+        message: &AnyMessage,
+        before: Option<Span>,
+        after: Option<Span>,
+        frame: u64,
+    )
+        ensures { self.new ≡ spec.parting_with_message station message.now before after frame self.old }
+    {
+        let (Some(_), Some(clock)) = (before, own_clock(station, message)) else {
+            return;
+        };
+        let start = start_of_chain(self.start, ChainStart { clock, frame });
+        self.start = start_behind(more_follow(message), start);
+        self.take_epochs(before, after, start.frame);
     }
 
     // A 1013 or a 1029 of the station: it tells the first date, or another one.
@@ -144,7 +217,7 @@ impl Parting {
     }
 
     /// How many frames come before the place at which the capture is parted: at the first message of the second
-    /// date, or at an epoch before it where the time goes back or steps by more than 60 s, if the epoch after the
+    /// date, or at the first message of an epoch before it where the time goes back or steps by more than 60 s, if the epoch after the
     /// message does not step further.
     pub fn frame(&self) -> Option<u64>
         ensures { result ≡ spec.parted_frame self.now }

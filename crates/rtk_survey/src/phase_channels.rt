@@ -1,6 +1,6 @@
 //! The channels of GLONASS on which the phases of a message are counted.
 
-ghost use Rattle.std.specs.Prelude.{◌≡◌, ◌≢◌, ◌≤◌, ◌<◌, ◌-ℤ◌, ℕ, pos, Some};
+ghost use Rattle.std.specs.Prelude.{◌≡◌, ◌≢◌, ◌<◌, ◌-ℤ◌, ℕ, pos, Some};
 ghost use Rattle.rtk_obs.specs.Carriers.{IsSlot, channel_at};
 ghost use Rattle.rtk_survey.specs.PhaseChannels as spec;
 
@@ -35,7 +35,7 @@ fn channel_of_field(field: u8) -> Channel
 
 // Sets the channel of a slot on which its phases are counted.
 fn set_slot(channels: &mut Channels, message: &AnyMessage, slot: u8)
-    requires { (1 ≤ slot) × (slot < 28) }
+    requires { IsSlot slot }
     ensures own { channel_at channels.new slot ≡ spec.phase_channel message.now slot }
     ensures others { (s : ℕ) → IsSlot s → s ≢ slot → channel_at channels.new s ≡ channel_at channels.old s }
 {

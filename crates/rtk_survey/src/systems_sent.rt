@@ -3,14 +3,13 @@
 ghost use Rattle.std.specs.Prelude.{◌≡◌, false, get_or};
 ghost use Rattle.rtk_obs.specs.AnyCode.{number_of};
 ghost use Rattle.rtk_obs.specs.Code.{place_of};
-ghost use Rattle.rtk_obs.specs.SatelliteIndex.{letter_of};
 ghost use Rattle.rtk_survey.specs.BitMarks.{is_marked_in};
 ghost use Rattle.rtk_survey.specs.UncheckedClocks as spec;
 
 use crate::signals::CODES;
 use crate::system_signals::AnyCodeMarks;
 use rtk_message::System;
-use rtk_obs::{ALL_ANY_CODES, ALL_CODES, AnyCode, Code};
+use rtk_obs::{ALL_ANY_CODES, ALL_CODES, AnyCode, Code, letter_of};
 
 /// The systems that have a code with a value.
 #[derive(Clone, Copy, Debug, PartialEq, Eq)]
@@ -22,21 +21,6 @@ pub struct SystemsSent {
     pub qzss: bool,
     pub sbas: bool,
     pub navic: bool,
-}
-
-/// The letter of a system.
-pub(crate) fn letter_of(system: System) -> u8
-    ensures { result ≡ letter_of system }
-{
-    match system {
-        System::Gps => b'G',
-        System::Glonass => b'R',
-        System::Galileo => b'E',
-        System::Beidou => b'C',
-        System::Qzss => b'J',
-        System::Sbas => b'S',
-        System::Navic => b'I',
-    }
 }
 
 // Has a code a value, and is it of the system with this letter?

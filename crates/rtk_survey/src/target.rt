@@ -7,7 +7,8 @@ ghost use Rattle.rtk_message.specs.declared.any_fault.AnyFault.{AnyFault};
 ghost use Rattle.rtk_message.specs.AnyDecoded.{station_of};
 ghost use Rattle.rtk_survey.specs.BesideGps.{cells_beside_gps};
 ghost use Rattle.rtk_survey.specs.CaptureDates.{no_dates};
-ghost use Rattle.rtk_survey.specs.ClockSpans.{clocks_by_station, followed_with_value, with_time_for, with_time_for_if_any};
+ghost use Rattle.rtk_survey.specs.ClockSpans.{followed_with_value};
+ghost use Rattle.rtk_survey.specs.StationClocks.{clocks_by_station, with_time_for, with_time_for_if_any};
 ghost use Rattle.rtk_survey.specs.Counting.{shown_count};
 ghost use Rattle.rtk_survey.specs.Parting as parting;
 ghost use Rattle.rtk_survey.specs.ReadFrames.{ReadFrame, read_frame};
@@ -19,15 +20,14 @@ ghost use Rattle.rtk_survey.specs.declared.target.Target.{Target};
 
 use crate::capture_dates::CaptureDates;
 use crate::clock_marks::{ClockMarks, marks_in};
-use crate::clock_spans::{
-    FollowedTime, StationClocks, followed_with_value, no_clocks_followed, take_followed_time,
-};
+use crate::clock_spans::{FollowedTime, followed_with_value};
 use crate::date_message::{DateMessage, date_in};
 use crate::dating_systems::DatingSystems;
 use crate::equipment_message::{EquipmentMessage, equipment_in};
 use crate::parting::Parting;
 use crate::phases::Phases;
 use crate::signals::have_value;
+use crate::station_clocks::{StationClocks, no_clocks_followed, take_followed_time};
 use crate::system_msm::gives_value;
 use crate::system_phases::SystemPhases;
 use crate::tellings::Told;
@@ -327,10 +327,11 @@ impl TargetSurvey {
     {
         let present = self.present;
         take_clock_time(&mut self.clocks, present, &self.dates, message, signals)?;
-        let before = self.dates.capture.span;
+        let (station, before) = (self.dates.station, self.dates.capture.span);
         take_message(&mut self.dates, self.present, message, entries, signals);
+        let after = self.dates.capture.span;
         self.parting
-            .take_epochs(before, self.dates.capture.span, frame);
+            .take_message_of(station, message, before, after, frame);
         self.system_phases.count_phases(alloc, message, signals)?;
         take_phases(
             alloc,

@@ -2,10 +2,10 @@
 
 ghost use Rattle.std.specs.Prelude.{◌≡◌, ◌^◌, ◌<◌, Some};
 ghost use Rattle.std.specs.List.{list_any};
-ghost use Rattle.rtk_survey.specs.CaptureDates.{tells_same, is_reference, first_epoch_from, first_epoch_told, with_told, with_first, with_telling, reference_named, with_own_moment, no_tellings, is_rolled_over, is_one_rolled_over, do_system_weeks_decide, counting};
+ghost use Rattle.rtk_survey.specs.CaptureDates.{tells_same, is_reference, first_epoch_from, first_epoch_told, with_told, with_first, with_telling, with_telling_behind, with_epoch_behind, reference_named, with_own_moment, no_tellings, is_rolled_over, is_one_rolled_over, do_system_weeks_decide, counting};
 
 use crate::date_message::DateMessage;
-use crate::far_date::{FarDate, far_date, first_far_date};
+use crate::far_date::{FarDate, far_date, far_from_next, first_far_date, last_far_date};
 use crate::span::Span;
 use crate::telling::{own_moment, told};
 use arrayvec::ArrayVec;
@@ -40,8 +40,10 @@ pub struct Tellings {
     pub system_weeks: ArrayVec<Told, MOST_TOLD>,
     /// By 1013 and 1029 of other stations.
     pub others: ArrayVec<Told, MOST_TOLD>,
-    /// The first date of a 1013 or a 1029 of the station that is more than half a day from the epoch beside it.
+    /// The first date of a 1013 or a 1029 of the station that is more than half a day from the epochs beside it.
     pub far: Option<FarDate>,
+    /// The last such date that is more than half a day from the epoch before it, if no epoch came behind it.
+    pub waiting_far: Option<FarDate>,
 }
 
 /// Is it a moment near which a conversion dates?
@@ -125,6 +127,7 @@ impl Tellings {
             system_weeks: ArrayVec::new(),
             others: ArrayVec::new(),
             far: None,
+            waiting_far: None,
         }
     }
 
@@ -143,7 +146,7 @@ impl Tellings {
         }
     }
 
-    /// A message more, after these epochs of the station.
+    /// A message more that came before the first epoch of the station.
     pub(crate) fn take(&mut self, now: GpsMs, station: u16, span: &Span, message: &DateMessage)
         ensures { self.new ≡ with_telling now station span.now message.now self.old }
     {
@@ -151,6 +154,30 @@ impl Tellings {
         if let Some(first) = first_epoch_told(now, span, message) {
             self.put_first(station, message, first);
         }
+    }
+
+    /// A message more, after these epochs of the station.
+    pub(crate) fn take_behind(
+        &mut self,
+        now: GpsMs,
+        station: u16,
+        span: &Span,
+        message: &DateMessage,
+    )
+        ensures { self.new ≡ with_telling_behind now station span.now message.now self.old }
+    {
+        self.waiting_far = last_far_date(self.waiting_far, far_date(now, station, span, message));
+        if let Some(first) = first_epoch_told(now, span, message) {
+            self.put_first(station, message, first);
+        }
+    }
+
+    /// An epoch at this time of week, behind the dates that wait for it.
+    pub(crate) fn take_epoch(&mut self, now: GpsMs, tow: u32)
+        ensures { self.new ≡ with_epoch_behind now tow self.old }
+    {
+        self.far = first_far_date(self.far, far_from_next(now, tow, self.waiting_far));
+        self.waiting_far = None;
     }
 
     /// A message more of a capture without an epoch: the moment that it names itself.

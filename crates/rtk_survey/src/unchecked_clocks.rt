@@ -9,8 +9,9 @@ ghost use Rattle.rtk_survey.specs.UncheckedClocks as spec;
 use crate::clock_chains::{ClockOffsets, ClockSurvey};
 use crate::clock_lines::{compared_clocks, put_offsets};
 use crate::date_message::UtcDate;
-use crate::systems_sent::{SystemsSent, letter_of};
+use crate::systems_sent::SystemsSent;
 use rtk_message::System;
+use rtk_obs::letter_of;
 use std::alloc::AllocError;
 
 fn lacks_date(date: Option<UtcDate>, system: System) -> bool

@@ -1,10 +1,10 @@
 -- How far the clocks of a station's systems are apart in captures, and which systems are left out by them (this project's
 -- rule).
-use Rattle.std.specs.Prelude.{ℕ, ◌+◌, ◌-◌, ◌*◌, ◌%◌, ◌==◌, Bool, true, false, not, ◌&&◌, nat_lt, nat_le, List, [], ◌∷◌, map, flat_map, Option, None, Some, if◌then◌else◌}
+use Rattle.std.specs.Prelude.{ℕ, ◌+◌, ◌-◌, ◌*◌, ◌%◌, ◌==◌, Bool, true, false, not, ◌&&◌, nat_lt, nat_le, List, [], ◌∷◌, ◌++◌, map, flat_map, Option, None, Some, if◌then◌else◌}
 use Rattle.std.specs.List.{sum_by}
 use Rattle.rtk_message.specs.Fields.{week_ms}
 use Rattle.rtk_message.specs.declared.system.System.{System}
-use Rattle.rtk_message.specs.declared.system.System.TheVariants.{Gps, Glonass, Galileo, Beidou, Qzss, Sbas, Navic}
+use Rattle.rtk_message.specs.declared.system.System.TheVariants.{Glonass, Galileo, Beidou, Qzss, Sbas, Navic}
 use Rattle.rtk_obs.specs.SatelliteIndex.{letter_of}
 use Rattle.rtk_survey.specs.Chains.{offsets_of}
 use Rattle.rtk_survey.specs.ClockLines.{told_offset, compared_clocks, clock_line_of}
@@ -17,10 +17,11 @@ use Rattle.rtk_survey.specs.declared.station.StationSurvey.{StationSurvey}
 use Rattle.rtk_survey.specs.declared.survey.CaptureSurvey.{CaptureSurvey}
 use Rattle.rtk_survey.specs.Contents.{station_in}
 use Rattle.rtk_systems.specs.ClockSeconds.{seconds_on}
-use Rattle.rtk_systems.specs.SystemFlags.{flag_of}
+use Rattle.rtk_systems.specs.MessageLines.{held_lines}
+use Rattle.rtk_rinex.specs.SystemFlags.{flag_of}
 use Rattle.rtk_systems.specs.Values.{is_glonass_system}
 use Rattle.rtk_systems.specs.declared.clock_seconds.ClockSeconds.{ClockSeconds}
-use Rattle.rtk_systems.specs.declared.system_flags.SystemFlags.{SystemFlags}
+use Rattle.rtk_rinex.specs.declared.system_flags.SystemFlags.{SystemFlags}
 
 -- ---- the offsets of captures
 
@@ -137,3 +138,7 @@ compared_systems = Glonass ∷ Galileo ∷ Beidou ∷ Qzss ∷ Sbas ∷ Navic �
 -- the systems among those that are asked for whose clocks differ from those of their chains
 unfoldable pub told_clock_lines : SystemFlags → List CaptureSurvey → ℕ → ClockSeconds → List ℕ
 told_clock_lines asked ss n seconds = flat_map (asked_clock_line asked ss n seconds) compared_systems
+
+-- what captures hold in which no code of the systems that are asked for is found: a clock that differs may be the cause
+abbrev pub held_without_code : SystemFlags → List CaptureSurvey → ℕ → ClockSeconds → List ℕ
+held_without_code asked ss n seconds = told_clock_lines asked ss n seconds ++ held_lines ss

@@ -14,7 +14,7 @@ use Rattle.rtk_survey.specs.declared.survey.CaptureSurvey.{CaptureSurvey}
 use Rattle.rtk_survey.specs.declared.system_tellings.LeapRange.{LeapRange}
 use Rattle.rtk_systems.specs.ClockOffsets.{ahead_in_list, told_among, is_wrong_among, gps_offsets_in_capture, gps_offsets_in_captures}
 use Rattle.rtk_systems.specs.declared.clock_seconds.ClockSeconds.{ClockSeconds}
-use Rattle.rtk_systems.specs.declared.system_flags.SystemFlags.{SystemFlags}
+use Rattle.rtk_rinex.specs.declared.system_flags.SystemFlags.{SystemFlags}
 
 -- ---- one capture
 

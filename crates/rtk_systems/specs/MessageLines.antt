@@ -1,5 +1,5 @@
 -- The lines of messages that captures hold, and of those that are not in the file (this project's rule).
-use Rattle.std.specs.Prelude.{ℕ, ◌+◌, ◌==◌, Bool, ◌&&◌, nat_le, List, [], ◌++◌, flat_map, codes, decimal, if◌then◌else◌}
+use Rattle.std.specs.Prelude.{ℕ, ◌+◌, ◌==◌, Bool, not, ◌&&◌, ◌||◌, nat_le, List, [], ◌++◌, flat_map, codes, decimal, if◌then◌else◌}
 use Rattle.std.specs.List.{range_with_len}
 use Rattle.rtk_message.specs.declared.accepted.Accepted.{Accepted}
 use Rattle.rtk_message.specs.declared.msm_kind.MsmKind.{MsmKind}
@@ -96,10 +96,15 @@ unfoldable pub msm_lines : Accepted → List CaptureSurvey → ℕ → List ℕ
 msm_lines taken ss station =
     msm_line taken ss station Msm4 ++ msm_line taken ss station Msm5 ++ msm_line taken ss station Msm6 ++ msm_line taken ss station Msm7
 
+-- values of the 1004 of a station are taken: those of GPS, or those of satellites of SBAS if it has some
+abbrev pub takes_of_1004 : Bool → Bool → List CaptureSurvey → ℕ → Bool
+takes_of_1004 has_gps has_sbas ss station = has_gps || (has_sbas && not (sbas_in_captures ss station == 0))
+
 -- formula
--- the 1004 of a station, unless they are taken
-abbrev pub obs_1004_line : Bool → List CaptureSurvey → ℕ → List ℕ
-obs_1004_line is_taken ss station = if is_taken then [] else count_line_of (codes " not in the file: GPS ") 1004 (obs_1004_in_captures ss station)
+-- the 1004 of a station, unless values of them are taken
+abbrev pub obs_1004_line : Bool → Bool → List CaptureSurvey → ℕ → List ℕ
+obs_1004_line has_gps has_sbas ss station =
+    if takes_of_1004 has_gps has_sbas ss station then [] else count_line_of (codes " not in the file: GPS ") 1004 (obs_1004_in_captures ss station)
 
 -- formula
 -- the 1004 of a station that have satellites of SBAS, unless these are taken

@@ -21,8 +21,8 @@ use Rattle.rtk_survey.specs.declared.station.StationSurvey.{StationSurvey}
 use Rattle.rtk_survey.specs.declared.survey.CaptureSurvey.{CaptureSurvey}
 use Rattle.rtk_survey.specs.declared.system_msm.SystemMsm.{SystemMsm}
 use Rattle.rtk_survey.specs.declared.unread.Unread.{Unread}
-use Rattle.rtk_systems.specs.SystemFlags.{flag_of}
-use Rattle.rtk_systems.specs.declared.system_flags.SystemFlags.{SystemFlags}
+use Rattle.rtk_rinex.specs.SystemFlags.{flag_of}
+use Rattle.rtk_rinex.specs.declared.system_flags.SystemFlags.{SystemFlags}
 use Rattle.rtk_systems.specs.declared.values.TakenMessages.{TakenMessages}
 
 -- table

@@ -2,14 +2,15 @@
 //!
 //! If memory is refused, a first part of what is put may stand there.
 
-ghost use Rattle.std.specs.Prelude.{◌≡◌, ◌++◌, flat_map, OnOk};
+ghost use Rattle.std.specs.Prelude.{◌≡◌, ◌++◌, flat_map, IfOk, OnOk};
 ghost use Rattle.rtk_systems.specs.ClockOffsets as spec;
 
 use crate::clock_offsets::{gps_offsets_in_captures, told_among};
 use crate::clock_seconds::ClockSeconds;
-use crate::system_flags::SystemFlags;
-use crate::system_msms::system_letter;
+use crate::message_lines::put_held;
 use rtk_message::System;
+use rtk_obs::letter_of;
+use rtk_rinex::SystemFlags;
 use rtk_survey::{CaptureSurvey, ClockOffset, compared_clocks, put_clock_line};
 use std::alloc::{AllocError, Global};
 
@@ -33,7 +34,7 @@ fn put_told_line(
     ensures { OnOk result (lines.new.items ≡ lines.old.items ++ spec.told_line_of system all.now) }
 {
     let told = told_among(alloc, all)?;
-    put_clock_line(lines, system_letter(system), compared_clocks(all), told)?;
+    put_clock_line(lines, letter_of(system), compared_clocks(all), told)?;
     Ok(())
 }
 
@@ -103,4 +104,21 @@ pub fn put_told_clocks(
     ensures { OnOk result (lines.new.items ≡ lines.old.items ++ spec.told_clock_lines asked surveys.now station seconds.now) }
 {
     put_clocks_among(alloc, lines, asked, surveys, station, seconds, &COMPARED)
+}
+
+/// What captures hold in which no code of the systems that are asked for is found: the lines of those systems whose clocks
+/// differ, and a line for each number of messages.
+pub fn list_without_code(
+    alloc: Global,
+    asked: SystemFlags,
+    surveys: &[CaptureSurvey],
+    station: u16,
+    seconds: &ClockSeconds,
+) -> Result<Vec<u8>, AllocError>
+    ensures { IfOk result (λ lines. lines.items ≡ spec.held_without_code asked surveys.now station seconds.now) }
+{
+    let mut lines = Vec::new(alloc);
+    put_told_clocks(alloc, &mut lines, asked, surveys, station, seconds)?;
+    put_held(&mut lines, surveys)?;
+    Ok(lines)
 }

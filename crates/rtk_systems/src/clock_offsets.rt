@@ -5,10 +5,10 @@ ghost use Rattle.std.specs.Option.{option_copied};
 ghost use Rattle.rtk_systems.specs.ClockOffsets as spec;
 
 use crate::clock_seconds::ClockSeconds;
-use crate::system_flags::SystemFlags;
 use crate::values::is_glonass_system;
 use rtk_message::System;
 use rtk_obs::WEEK_MS;
+use rtk_rinex::SystemFlags;
 use rtk_survey::{
     CaptureSurvey, ClockOffset, ClockOffsets, ClockSurvey, DayOffset, StationSurvey,
     compared_clocks, told_offset,

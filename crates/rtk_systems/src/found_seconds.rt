@@ -83,8 +83,8 @@ fn is_ahead_in_capture(
     Ok(is)
 }
 
-/// Are no other leap seconds told than these?
-pub fn is_alone(seconds: u64, range: &LeapRange) -> bool
+// Are no other leap seconds told than these?
+fn is_alone(seconds: u64, range: &LeapRange) -> bool
     ensures { result ≡ spec.is_range_alone seconds range.now }
 {
     u64::from(range.least) == seconds && u64::from(range.greatest) == seconds

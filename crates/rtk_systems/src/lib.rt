@@ -8,9 +8,10 @@
 //! use rtk_frame::{After, MemSource};
 //! use rtk_message::MsmKind;
 //! use rtk_obs::AnyCode;
+//! use rtk_rinex::SystemFlags;
 //! use rtk_setup::SystemKinds;
 //! use rtk_survey::survey_capture;
-//! use rtk_systems::{SystemFlags, TakenMessages, codes_in_captures};
+//! use rtk_systems::{TakenMessages, codes_in_captures};
 //! use std::alloc::{AllocError, Global};
 //!
 //! // A frame with a 1004 of station 2003, with values of one satellite in the codes 1C and 2W.
@@ -54,15 +55,15 @@ mod unchecked_systems;
 mod values;
 
 pub use channel_words::put_glonass_words;
-pub use clock_lines::put_told_clocks;
+pub use clock_lines::{list_without_code, put_told_clocks};
 pub use clock_offsets::systems_with_clocks;
 pub use clock_seconds::ClockSeconds;
 pub use doppler_lines::put_doppler;
-pub use found_seconds::{is_alone, leap_in_capture, seconds_in_captures};
+pub use found_seconds::{leap_in_capture, seconds_in_captures};
 pub use message_lines::{list_held, put_msms, put_obs_1004, put_sbas, put_unread};
 pub use nameless_lines::put_nameless;
 pub use slot_channels::{channels_found, channels_joined, own_channels};
-pub use system_flags::SystemFlags;
+pub use system_flags::flags_listed;
 pub use system_msms::{kinds_listed, put_kinds_words};
 pub use told_channels::put_channel_lines;
 pub use unchecked_systems::put_unchecked;

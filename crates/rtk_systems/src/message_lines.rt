@@ -352,16 +352,24 @@ pub(crate) fn put_held(lines: &mut Vec<u8>, surveys: &[CaptureSurvey]) -> Result
     Ok(())
 }
 
-/// Appends a line of the 1004 of a station, unless they are taken.
+// Are values of the 1004 of a station taken: those of GPS, or those of satellites of SBAS if it has some?
+fn takes_of_1004(surveys: &[CaptureSurvey], station: u16, has_gps: bool, has_sbas: bool) -> bool
+    ensures { result ≡ spec.takes_of_1004 has_gps has_sbas surveys.now station }
+{
+    has_gps || (has_sbas && sbas_in_captures(surveys, station) != 0)
+}
+
+/// Appends a line of the 1004 of a station, unless values of them are taken.
 pub fn put_obs_1004(
     lines: &mut Vec<u8>,
     surveys: &[CaptureSurvey],
     station: u16,
-    is_taken: bool,
+    has_gps: bool,
+    has_sbas: bool,
 ) -> Result<(), AllocError>
-    ensures { OnOk result (lines.new.items ≡ lines.old.items ++ spec.obs_1004_line is_taken surveys.now station) }
+    ensures { OnOk result (lines.new.items ≡ lines.old.items ++ spec.obs_1004_line has_gps has_sbas surveys.now station) }
 {
-    if is_taken {
+    if takes_of_1004(surveys, station, has_gps, has_sbas) {
         return Ok(());
     }
     let count = obs_1004_in_captures(surveys, station);

@@ -25,14 +25,31 @@ fn nameless_1012(taken: TakenMessages, station: &StationSurvey) -> u64
     }
 }
 
-// The same of the messages of a system that are no MSM.
-fn nameless_beside_msm(system: System, taken: TakenMessages, station: &StationSurvey) -> u64
-    ensures { result ≡ spec.nameless_beside_msm system taken station.now }
+// How many 1004 have cells without a name, if no code of GPS is listed.
+fn nameless_1004_without(has_gps: bool, station: &StationSurvey) -> u64
+    ensures { result ≡ spec.nameless_1004_without has_gps station.now }
+{
+    if has_gps {
+        0
+    } else {
+        count_of_number(&station.nameless, 1004)
+    }
+}
+
+// The same of the messages of a system that are no MSM. Unknown satellites of 1004 count to GPS, or if it is left out to SBAS.
+fn nameless_beside_msm(
+    system: System,
+    has_gps: bool,
+    taken: TakenMessages,
+    station: &StationSurvey,
+) -> u64
+    ensures { result ≡ spec.nameless_beside_msm system has_gps taken station.now }
 {
     match system {
         System::Gps => count_of_number(&station.nameless, 1004),
         System::Glonass => nameless_1012(taken, station),
-        System::Galileo | System::Beidou | System::Qzss | System::Sbas | System::Navic => 0,
+        System::Sbas => nameless_1004_without(has_gps, station),
+        System::Galileo | System::Beidou | System::Qzss | System::Navic => 0,
     }
 }
 
@@ -44,21 +61,32 @@ fn nameless_typed(msm: MsmType, station: &StationSurvey) -> u64
 }
 
 // The same of all messages of a system that are taken.
-fn nameless_in_station(system: System, taken: TakenMessages, station: &StationSurvey) -> u64
-    ensures { result ≡ spec.nameless_in_station system taken station.now }
+fn nameless_in_station(
+    system: System,
+    has_gps: bool,
+    taken: TakenMessages,
+    station: &StationSurvey,
+) -> u64
+    ensures { result ≡ spec.nameless_in_station system has_gps taken station.now }
 {
     let msm = MsmType {
         system,
         kind: taken.kinds.kind(system),
     };
-    nameless_typed(msm, station).saturating_add(nameless_beside_msm(system, taken, station))
+    let beside = nameless_beside_msm(system, has_gps, taken, station);
+    nameless_typed(msm, station).saturating_add(beside)
 }
 
-fn nameless_of_station(system: System, taken: TakenMessages, station: Option<&StationSurvey>) -> u64
-    ensures { result ≡ spec.nameless_of_station system taken (option_copied station.entry) }
+fn nameless_of_station(
+    system: System,
+    has_gps: bool,
+    taken: TakenMessages,
+    station: Option<&StationSurvey>,
+) -> u64
+    ensures { result ≡ spec.nameless_of_station system has_gps taken (option_copied station.entry) }
 {
     match station {
-        Some(station) => nameless_in_station(system, taken, station),
+        Some(station) => nameless_in_station(system, has_gps, taken, station),
         None => 0,
     }
 }
@@ -67,15 +95,16 @@ fn nameless_of_station(system: System, taken: TakenMessages, station: Option<&St
 fn nameless_in_captures(
     surveys: &[CaptureSurvey],
     station: u16,
+    has_gps: bool,
     taken: TakenMessages,
     system: System,
 ) -> u64
-    ensures { result ≡ spec.nameless_in_captures surveys.now station taken system }
+    ensures { result ≡ spec.nameless_in_captures surveys.now station has_gps taken system }
 {
     let mut count = 0u64;
     for survey in surveys {
-        let more = nameless_of_station(system, taken, survey.contents.stations.get(&station));
-        count = count.saturating_add(more);
+        let heard = survey.contents.stations.get(&station);
+        count = count.saturating_add(nameless_of_station(system, has_gps, taken, heard));
     }
     count
 }
@@ -108,7 +137,8 @@ fn put_nameless_line(
     if !setup.lists(system) {
         return Ok(());
     }
-    let count = nameless_in_captures(surveys, station, taken, system);
+    let has_gps = setup.lists(System::Gps);
+    let count = nameless_in_captures(surveys, station, has_gps, taken, system);
     put_counted(lines, nameless_words(system), count, b"\n")
 }
 

@@ -1,12 +1,11 @@
 //! The kinds of MSM of systems, of which some have a listed code.
 
 ghost use Rattle.std.specs.Prelude.{◌≡◌, ◌++◌, flat_map, OnOk};
-ghost use Rattle.rtk_obs.specs.SatelliteIndex.{letter_of};
 ghost use Rattle.rtk_survey.specs.SummaryText.{msm_option};
 ghost use Rattle.rtk_systems.specs.SystemMsms as spec;
 
 use rtk_message::{MsmKind, System};
-use rtk_obs::AnyCode;
+use rtk_obs::{AnyCode, letter_of};
 use rtk_setup::{Setup, SystemKinds};
 use std::alloc::AllocError;
 
@@ -80,21 +79,6 @@ pub fn kinds_listed(setup: &Setup, kinds: SystemKinds) -> SystemKinds
 
 // ---- the option that names them
 
-/// The letter of a system.
-pub(crate) fn system_letter(system: System) -> u8
-    ensures { result ≡ letter_of system }
-{
-    match system {
-        System::Gps => b'G',
-        System::Glonass => b'R',
-        System::Galileo => b'E',
-        System::Beidou => b'C',
-        System::Qzss => b'J',
-        System::Sbas => b'S',
-        System::Navic => b'I',
-    }
-}
-
 fn kind_digit(kind: MsmKind) -> u8
     ensures { result ≡ spec.kind_digit kind }
 {
@@ -154,7 +138,7 @@ fn put_exception(
         return Ok(());
     }
     line.push(b',')?;
-    line.push(system_letter(system))?;
+    line.push(letter_of(system))?;
     line.push(kind_digit(kind))?;
     Ok(())
 }

@@ -8,9 +8,10 @@ ghost use Rattle.std.specs.Option.{option_copied};
 ghost use Rattle.rtk_systems.specs.UncheckedSystems as spec;
 
 use crate::clock_offsets::clocks_compared;
-use crate::system_msms::{SYSTEMS, system_letter};
+use crate::system_msms::SYSTEMS;
 use crate::values::{is_glonass_system, is_gps_system};
 use rtk_message::{MsmKind, MsmType, System};
+use rtk_obs::letter_of;
 use rtk_setup::Setup;
 use rtk_survey::{CaptureSurvey, StationSurvey};
 use std::alloc::AllocError;
@@ -166,7 +167,7 @@ fn put_unchecked_line(
         return Ok(());
     }
     lines.extend_from_slice(b" unchecked ")?;
-    lines.push(system_letter(system))?;
+    lines.push(letter_of(system))?;
     lines.push(b'\n')?;
     Ok(())
 }

@@ -7,9 +7,9 @@ ghost use Rattle.rtk_survey.specs.Proposal as proposal;
 ghost use Rattle.rtk_survey.specs.Surveys.{places_of};
 ghost use Rattle.rtk_systems.specs.Values as spec;
 
-use crate::system_flags::SystemFlags;
 use rtk_message::{MsmKind, MsmType, System};
 use rtk_obs::{ALL_ANY_CODES, AnyCode};
+use rtk_rinex::SystemFlags;
 use rtk_setup::SystemKinds;
 use rtk_survey::{CaptureSurvey, Epochs, StationSurvey, SystemMsm};
 use std::alloc::{AllocError, Global};

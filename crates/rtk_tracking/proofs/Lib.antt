@@ -5,3 +5,4 @@ mod BitLemmas
 mod StepLemmas
 mod RecordLemmas
 mod ObservationLemmas
+mod SystemCodeLemmas

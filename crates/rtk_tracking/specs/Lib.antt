@@ -4,3 +4,4 @@ pub mod Interval
 pub mod Laws
 pub mod Passes
 pub mod Standing
+pub mod SystemCodes

@@ -22,6 +22,7 @@ mod laws;
 mod observations;
 mod passes;
 mod steps;
+mod system_codes;
 
 pub use extremes::{greater, lesser};
 pub use intervals::{interval, missing_between, mixed_interval, nearness_ms};
@@ -29,3 +30,4 @@ pub use laws::{absences_stay, bits_are_of_three_kinds, interval_is_most_frequent
 pub use observations::{observed_in, shows_phase};
 pub use passes::{Known, Pass};
 pub use steps::StepCounts;
+pub use system_codes::codes_of_system;

@@ -73,6 +73,8 @@ let list: Vec<u8> = Vec::with_capacity(alloc, 1 << 62)?;
 list.reserve(if window == 600 { usize::MAX } else { 1 })?;
 list.reserve(1_000_000 * 1_000_000)?;
 let window = 1 << 62; list.reserve(window)?;
+let target = sink::<W, K>(alloc, 1 << 62, out, 0)?;
+let make = sink::<W, K>; let target = make(alloc, 1 << 62, out, 0)?;
 """.strip().split("\n")
 
 
@@ -125,23 +127,63 @@ def number_of(text, values):
     return sum(math.prod(map(int, term)) for term in terms)
 
 
-def other_sizes(text, values):
-    """The sizes that are asked for and are neither a length of what is there, nor a small constant, nor what the function was given."""
+def functions_of(text):
+    """The functions of a source from their names on, and what is before the first; calls there have no types."""
+    return re.split(r"\bfn ", re.sub(r"::<[^()]*?>(?=\W)", "", text))
+
+
+def sizes_in(function, requests):
+    """What a function asks for in these requests, and the size of each."""
+    for start, place in requests.items():
+        begin = r"(?<=\W)" if start[0].isalpha() else ""  # not the name of the function itself
+        for told in re.findall(rf"{begin}{re.escape(start)}((?:[^()\[\]]|\([^()]*\))*)", function):
+            arguments = re.split("[,;] ", told)
+            yield f"{start}{told}", arguments[place] if place < len(arguments) else ""
+
+
+def is_given(size, function):
+    return f"{size}: usize" in function and not re.search(rf"\b{re.escape(size)}\b[^;{{]* = ", function)
+
+
+def is_small(size, function, values):
+    """Is a size a small constant, or one of two, by the only value that the function gives its name?"""
+    told = re.findall(rf"\b{re.escape(size)}\b[^;{{]* = (?:if [^{{}}]* {{ (\w+) }} else {{ (\w+) }};)?", function) if size else []
+    numbers = [number_of(it, values) for it in (told[0] if len(told) == 1 else [size])]
+    return all(it is not None and it <= MOST for it in numbers)
+
+
+def requests_of(texts):
+    """All requests: a function that asks for a size that it was given is one too, with its place among the arguments."""
+    functions = [function for text in texts for function in functions_of(text)[1:]]
+    requests = {}
+    more = dict(REQUESTS)
+    while more.keys() - requests.keys():
+        requests |= more
+        for function in functions:
+            for size in {size for _, size in sizes_in(function, requests) if is_given(size, function)}:
+                given = re.match(r"(\w+)(?:<[^()]*>)?\(([^()]*)\)", function)
+                names = [it.split(":")[0] for it in given[2].split(", ") if not it.endswith("self")]
+                if more.setdefault(f"{given[1]}(", names.index(size)) != names.index(size):
+                    sys.exit(f"two functions have the name {given[1]}, and their sizes other places")
+    return requests
+
+
+def other_sizes(text, values, requests):
+    """The sizes that are asked for and are neither a length of what is there, nor a small constant, nor what the function was given. Such a
+    function may be named in calls alone, whose sizes are looked at too."""
     wrong = []
-    for function in re.split(r"\bfn ", text):
-        for start, place in REQUESTS.items():
-            for told in re.findall(rf"{re.escape(start)}((?:[^()\[\]]|\([^()]*\))*)", function):
-                size = re.split("[,;] ", told)[place]
-                number = number_of(size, values)
-                is_given = f"{size}: usize" in function and not re.search(rf"\b{re.escape(size)}\b[^;{{]* = ", function)
-                if not (re.fullmatch(LENGTH, size) or is_given or (number is not None and number <= MOST)):
-                    wrong.append(f"{start}{told}")
+    for function in functions_of(text):
+        for told, size in sizes_in(function, requests):
+            if not (re.fullmatch(LENGTH, size) or is_given(size, function) or is_small(size, function, values)):
+                wrong.append(told)
+        for name in (start[:-1] for start in requests.keys() - REQUESTS.keys()):
+            wrong += re.findall(rf"(?<=\W){name}\b(?!\().{{0,20}}", re.sub(r"\buse [^;]*;", "", function))
     return wrong
 
 
-def faults(text, shapes, values):
+def faults(text, shapes, values, requests):
     """The places of a source where a refusal stands in no such branch, or a size that may be refused is asked for."""
-    sizes = other_sizes(text, values)
+    sizes = other_sizes(text, values, requests)
     text = re.sub(rf"\benum \w+(?:<[^>]*>)? {ANY_BLOCK}", lambda it: re.sub(
         r'(?<=[{,}] )(?:#\[error\("OutOfMemory"\)\] )?OutOfMemory,', "", it[0]), text)
     for shape in shapes:
@@ -155,9 +197,10 @@ texts = {file: text for file, text in TEXTS.items() if re.search(r"/crates/(\w+)
 sources = {file: source(text) for file, text in texts.items()}
 shapes = branches([source(text) for text in TEXTS.values()])
 values = constants([source(text) for text in TEXTS.values()])
-tell("each_refusal_of_memory_is_that_of_a_call", [f"{file}: {it}" for file, text in sources.items() for it in faults(text, shapes, values)])
+requests = requests_of(sources.values())
+tell("each_refusal_of_memory_is_that_of_a_call", [f"{file}: {it}" for file, text in sources.items() for it in faults(text, shapes, values, requests)])
 # refuses: a body that gives up for want of memory where no call was refused it
 bodies = [text for text in texts.values() if "\n    let " in text]
 planted = [(it, bodies[7 * at % len(bodies)].replace("\n    let ", f"\n    {it}\n    let ", 1)) for at, it in enumerate(PLANTS)]
-tell("another_refusal_of_memory_is_seen", [it for it, text in planted if not faults(source(text), shapes, values)])
+tell("another_refusal_of_memory_is_seen", [it for it, text in planted if not faults(source(text), shapes, values, requests)])
 tell("each_of_these_crates_has_some", [it for it in crates if not re.search(WORD, "".join(text for file, text in sources.items() if f"/crates/{it}/" in file))])

@@ -1,13 +1,12 @@
 -- What the words of `auto` say, and why they are refused.
-use Rattle.std.specs.Prelude.{◌≡◌, ◌⊎◌, ℕ, true, ℤ, List, Option, None, Some, IsTrue}
+use Rattle.std.specs.Prelude.{◌≡◌, ◌⊎◌, ℕ, true, ℤ, List, Option, None, Some, IsSomeAnd}
 use Rattle.std.specs.Borrow.{Bor}
 use Rattle.std.specs.declared.vec.Vec.{Vec}
-use Rattle.rtk_message.specs.declared.system.System.TheVariants.{Gps, Glonass, Galileo, Beidou, Qzss, Sbas, Navic}
 use Rattle.rtk_obs.specs.Dating.{IsReference}
 use Rattle.rtk_obs.specs.declared.any_code.AnyCode.{AnyCode}
-use Rattle.rtk_systems.specs.declared.system_flags.SystemFlags.{SystemFlags}
 use Rattle.rtk_rinex.specs.Header.{IsMarker}
 use Rattle.rtk_rinex.specs.MixedHead.{IsMixedList}
+use Rattle.rtk_rinex.specs.declared.system_flags.SystemFlags.{SystemFlags}
 use Rattle.rtk_cli.specs.declared.auto_words.AutoOptions.{AutoOptions}
 use Rattle.rtk_cli.specs.declared.words.BadWords.{BadWords}
 use Rattle.rtk_cli.specs.declared.words.BadWords.TheVariants.{NearOfAuto, MadeOfAuto, Codes, CodeOfSystem, CodeOfGps, Marker, Channels, Systems}
@@ -15,26 +14,12 @@ use Rattle.rtk_cli.specs.declared.words.WordsFault.{WordsFault}
 use Rattle.rtk_cli.specs.FaultLines.{IsRefusal}
 use Rattle.rtk_cli.specs.Steps.AnyCodeList.{ListsCodes, in_file_order, IsNameCause}
 use Rattle.rtk_cli.specs.Steps.ChannelList.{WritesChannels}
-use Rattle.rtk_cli.specs.Steps.ChartWords.{are_systems, HasNoSystems}
 use Rattle.rtk_cli.specs.Steps.ConvertWords.{HasBadChannels}
-use Rattle.rtk_cli.specs.Steps.KeptWords.{names_system}
-use Rattle.rtk_cli.specs.Steps.MomentText.{SaysMomentOrNone, HasNoMoment}
+use Rattle.rtk_cli.specs.Steps.MomentText.{WritesMoment, HasNoMoment}
+use Rattle.rtk_cli.specs.Steps.OptionTexts.{SaysIfAny}
+use Rattle.rtk_cli.specs.Steps.SystemLetters.{NamesSystems, HasNoSystems}
 
 -- ---- what one option says
-
--- table
--- the systems of which a text has the letter
-abbrev pub flags_named : List ℕ → SystemFlags
-flags_named text =
-    record {
-      gps = names_system text Gps;
-      glonass = names_system text Glonass;
-      galileo = names_system text Galileo;
-      beidou = names_system text Beidou;
-      qzss = names_system text Qzss;
-      sbas = names_system text Sbas;
-      navic = names_system text Navic;
-    }
 
 -- all systems
 abbrev pub each_flag : SystemFlags
@@ -44,52 +29,34 @@ each_flag = record { gps = true; glonass = true; galileo = true; beidou = true; 
 -- the systems of which the option has the letters, or all without it (this project's rule)
 abbrev pub SaysFlags : Option (Bor (List ℕ)) → SystemFlags → Type 0
 SaysFlags None flags = flags ≡ each_flag
-SaysFlags (Some text) flags = IsTrue (are_systems text.now) × (flags ≡ flags_named text.now)
+SaysFlags (Some text) flags = NamesSystems text.now flags
 
 -- formula
--- the codes that the option lists, in the order of a file, or none without it (this project's rule)
-abbrev pub SaysCodesOrNone : {A : Type 0} → Option (Bor (List ℕ)) → Option (Vec AnyCode A) → Type 0
-SaysCodesOrNone None None = Unit {0}
-SaysCodesOrNone None (Some codes) = ⊥
-SaysCodesOrNone (Some text) None = ⊥
-SaysCodesOrNone (Some text) (Some codes) = (own : List AnyCode) × ListsCodes text.now own × (codes.items ≡ in_file_order own)
+-- the text lists these codes, which are in the order of a file (this project's rule)
+abbrev pub SaysCodes : {A : Type 0} → List ℕ → Vec AnyCode A → Type 0
+SaysCodes text codes = (own : List AnyCode) × ListsCodes text own × (codes.items ≡ in_file_order own)
 
--- formula
--- the channels that the option writes, or none without it (this project's rule)
-abbrev pub SaysChannelsOrNone : Option (Bor (List ℕ)) → Option (List (Option ℤ)) → Type 0
-SaysChannelsOrNone None None = Unit {0}
-SaysChannelsOrNone None (Some channels) = ⊥
-SaysChannelsOrNone (Some text) None = ⊥
-SaysChannelsOrNone (Some text) (Some channels) = WritesChannels text.now channels
-
--- the marker that the option names, or none without it
-abbrev pub SaysMarkerOrNone : Option (Bor (List ℕ)) → Option (List ℕ) → Type 0
-SaysMarkerOrNone None None = Unit {0}
-SaysMarkerOrNone None (Some marker) = ⊥
-SaysMarkerOrNone (Some text) None = ⊥
-SaysMarkerOrNone (Some text) (Some marker) = (marker ≡ text.now) × IsMarker marker
+-- the text names this marker
+abbrev pub SaysMarker : List ℕ → List ℕ → Type 0
+SaysMarker text marker = (marker ≡ text) × IsMarker marker
 
 -- ---- why an option is refused
 
 -- the option is there, and its text names no marker
 abbrev pub HasNoMarker : Option (Bor (List ℕ)) → Type 0
-HasNoMarker None = ⊥
-HasNoMarker (Some text) = ¬ (IsMarker text.now)
+HasNoMarker o = IsSomeAnd o (λ text. ¬ (IsMarker text.now))
 
 -- the option is there, and the cause is that of a name
 abbrev pub IsCauseOfCodes : Option (Bor (List ℕ)) → BadWords → Type 0
-IsCauseOfCodes None cause = ⊥
-IsCauseOfCodes (Some text) cause = IsNameCause text.now cause
+IsCauseOfCodes o cause = IsSomeAnd o (λ text. IsNameCause text.now cause)
 
 -- the option lists codes that are not good together
 abbrev pub HasBadList : Option (Bor (List ℕ)) → Type 0
-HasBadList None = ⊥
-HasBadList (Some text) = (own : List AnyCode) × ListsCodes text.now own × ¬ (IsMixedList (in_file_order own))
+HasBadList o = IsSomeAnd o (λ text. (own : List AnyCode) × ListsCodes text.now own × ¬ (IsMixedList (in_file_order own)))
 
 -- nothing is dated near the moment
 abbrev pub IsNoReference : Option ℕ → Type 0
-IsNoReference None = ⊥
-IsNoReference (Some t) = ¬ (IsReference t)
+IsNoReference o = IsSomeAnd o (λ t. ¬ (IsReference t))
 
 -- ---- the whole
 
@@ -105,11 +72,11 @@ HasListOrNone (Some text) = (own : List AnyCode) × ListsCodes text.now own × I
 
 -- the reference is a moment, if it is given
 abbrev pub HasNear : AutoOptions → Type 0
-HasNear o = (t : Option ℕ) × SaysMomentOrNone o.near t
+HasNear o = (t : Option ℕ) × SaysIfAny WritesMoment o.near t
 
 -- so is the time of making
 abbrev pub HasBothTimes : AutoOptions → Type 0
-HasBothTimes o = HasNear o × ((t : Option ℕ) × SaysMomentOrNone o.made t)
+HasBothTimes o = HasNear o × ((t : Option ℕ) × SaysIfAny WritesMoment o.made t)
 
 -- and each name of the list is a code's
 abbrev pub HasCodeNames : AutoOptions → Type 0
@@ -117,7 +84,7 @@ HasCodeNames o = HasBothTimes o × HasCodesOrNone o.codes
 
 -- and the marker is good
 abbrev pub HasMarkerToo : AutoOptions → Type 0
-HasMarkerToo o = HasCodeNames o × ((marker : Option (List ℕ)) × SaysMarkerOrNone o.marker marker)
+HasMarkerToo o = HasCodeNames o × ((marker : Option (List ℕ)) × SaysIfAny SaysMarker o.marker marker)
 
 -- and the codes are good together
 abbrev pub HasListToo : AutoOptions → Type 0
@@ -125,7 +92,7 @@ HasListToo o = HasMarkerToo o × HasListOrNone o.codes
 
 -- and the channels are good
 abbrev pub HasChannelsToo : AutoOptions → Type 0
-HasChannelsToo o = HasListToo o × ((channels : Option (List (Option ℤ))) × SaysChannelsOrNone o.channels channels)
+HasChannelsToo o = HasListToo o × ((channels : Option (List (Option ℤ))) × SaysIfAny WritesChannels o.channels channels)
 
 -- and so are the letters of systems
 abbrev pub HasSystemsToo : AutoOptions → Type 0
@@ -136,7 +103,7 @@ HasSystemsToo o = HasChannelsToo o × ((flags : SystemFlags) × SaysFlags o.syst
 -- making, the names of the codes, the marker, the codes together, the channels, the systems, and last a reference near which
 -- nothing is dated (this project's rule)
 abbrev pub IsFirstAutoCause : AutoOptions → BadWords → Type 0
-IsFirstAutoCause o NearOfAuto = HasNoMoment o.near ⊎ (HasSystemsToo o × ((t : Option ℕ) × SaysMomentOrNone o.near t × IsNoReference t))
+IsFirstAutoCause o NearOfAuto = HasNoMoment o.near ⊎ (HasSystemsToo o × ((t : Option ℕ) × SaysIfAny WritesMoment o.near t × IsNoReference t))
 IsFirstAutoCause o MadeOfAuto = HasNear o × HasNoMoment o.made
 IsFirstAutoCause o Codes = (HasBothTimes o × IsCauseOfCodes o.codes Codes) ⊎ (HasMarkerToo o × HasBadList o.codes)
 IsFirstAutoCause o (CodeOfSystem s) = HasBothTimes o × IsCauseOfCodes o.codes (CodeOfSystem s)

@@ -1,7 +1,7 @@
 -- What the words of `chart` choose, and why they are refused.
-use Rattle.std.specs.Prelude.{◌≡◌, ℕ, ◌==◌, Bool, false, not, ◌&&◌, ◌||◌, List, [], ◌∷◌, length, codes, Option, None, Some, All, IsTrue}
+use Rattle.std.specs.Prelude.{◌≡◌, ℕ, ◌==◌, Bool, ◌||◌, List, [], ◌∷◌, Option, None, Some, IsSomeAnd, All, IsTrue}
 use Rattle.std.specs.Borrow.{Bor}
-use Rattle.std.specs.List.{list_any, list_all}
+use Rattle.std.specs.List.{list_any}
 use Rattle.rtk_obs.specs.SatelliteIndex.{IsSatelliteIndex, system_at, letter_of, index_name}
 use Rattle.rtk_chart.specs.Choice.{is_chosen}
 use Rattle.rtk_chart.specs.declared.choice.Choice.{Choice}
@@ -10,16 +10,7 @@ use Rattle.rtk_cli.specs.declared.chart_words.ChartOptions.{ChartOptions}
 use Rattle.rtk_cli.specs.declared.words.BadWords.{BadWords}
 use Rattle.rtk_cli.specs.declared.words.BadWords.TheVariants.{Systems, Satellites}
 use Rattle.rtk_cli.specs.Steps.NameList.{comma_names}
-
--- table
--- the letter of a system (RINEX 3.05, section 3.5)
-abbrev pub is_system : ℕ → Bool
-is_system x = list_any (λ y. y == x) (codes "GRECJSI")
-
--- formula
--- letters of systems, one or more; one may stand twice (this project's rule)
-abbrev pub are_systems : List ℕ → Bool
-are_systems text = not (length text == 0) && list_all is_system text
+use Rattle.rtk_cli.specs.Steps.SystemLetters.{are_systems, HasNoSystems}
 
 -- formula
 -- the text lists these satellites, one or more: with a comma before it, it is their names, a comma before each (this
@@ -58,15 +49,9 @@ IsChoiceOf systems satellites (These chosen) =
 abbrev pub SaysChoice : ChartOptions → Choice → Type 0
 SaysChoice o choice = IsChoiceOf o.systems o.satellites choice
 
--- the option is there, and its text is not of letters of systems
-abbrev pub HasNoSystems : Option (Bor (List ℕ)) → Type 0
-HasNoSystems None = ⊥
-HasNoSystems (Some text) = are_systems text.now ≡ false
-
 -- the option is there, and its text lists no satellites
 abbrev pub HasNoSatellites : Option (Bor (List ℕ)) → Type 0
-HasNoSatellites None = ⊥
-HasNoSatellites (Some text) = (listed : List ℕ) → ¬ (ListsSatellites text.now listed)
+HasNoSatellites o = IsSomeAnd o (λ text. (listed : List ℕ) → ¬ (ListsSatellites text.now listed))
 
 -- this is the first cause for which the words are refused: the form of the systems, and last that of the satellites
 -- (this project's rule)

@@ -1,5 +1,5 @@
 -- What the words of `convert` say, and why they are refused.
-use Rattle.std.specs.Prelude.{◌≡◌, ◌⊎◌, ℕ, Bool, true, false, ℤ, List, map, Option, None, Some}
+use Rattle.std.specs.Prelude.{◌≡◌, ◌⊎◌, ℕ, Bool, true, false, ℤ, List, map, Option, None, Some, IsSomeAnd}
 use Rattle.std.specs.Borrow.{Bor}
 use Rattle.rtk_obs.specs.Dating.{IsReference}
 use Rattle.rtk_obs.specs.LeapSeconds.{IsLeapSecondsAt}
@@ -31,8 +31,7 @@ IsLeapSecondsOf (Some given) near n = n ≡ given
 
 -- the text of an option writes these channels
 abbrev pub SaysChannels : Option (Bor (List ℕ)) → List (Option ℤ) → Type 0
-SaysChannels None channels = ⊥
-SaysChannels (Some text) channels = WritesChannels text.now channels
+SaysChannels o channels = IsSomeAnd o (λ text. WritesChannels text.now channels)
 
 -- formula
 -- for a file with these codes the options tell this of GLONASS: nothing, without its codes, channels and 1012; with its
@@ -44,8 +43,7 @@ SaysGlonass o listed near (Some g) =
 
 -- the option is there, and its text writes no channels
 abbrev pub HasBadChannels : Option (Bor (List ℕ)) → Type 0
-HasBadChannels None = ⊥
-HasBadChannels (Some text) = HasNoChannels text.now
+HasBadChannels o = IsSomeAnd o (λ text. HasNoChannels text.now)
 
 -- the option is there, and its text writes channels
 abbrev pub HasGoodChannels : Option (Bor (List ℕ)) → Type 0

@@ -1,6 +1,6 @@
 -- A moment as the words of a command line write it: a whole second, as 2024-05-17T12:00:00
 -- (ISO 8601).
-use Rattle.std.specs.Prelude.{◌≡◌, ℕ, ◌<◌, ◌≤◌, List, ◌∷◌, ◌++◌, Option, None, Some}
+use Rattle.std.specs.Prelude.{◌≡◌, ℕ, ◌<◌, ◌≤◌, List, ◌∷◌, ◌++◌, Option, IsSomeAnd}
 use Rattle.std.specs.Borrow.{Bor}
 use Rattle.rtk_obs.specs.declared.time.Civil.{Civil}
 use Rattle.rtk_obs.specs.declared.time.TheConstants.{LAST_MS}
@@ -29,14 +29,6 @@ WritesMoment text t = (c : Civil) × ReadsAs t c × HasDigits c × (text ≡ mom
 abbrev pub HasMoment : List ℕ → Type 0
 HasMoment text = (t : ℕ) × (t ≤ LAST_MS) × WritesMoment text t
 
--- the option's text writes this moment; without the option there is none
-abbrev pub SaysMomentOrNone : Option (Bor (List ℕ)) → Option ℕ → Type 0
-SaysMomentOrNone None None = Unit {0}
-SaysMomentOrNone None (Some t) = ⊥
-SaysMomentOrNone (Some text) None = ⊥
-SaysMomentOrNone (Some text) (Some t) = WritesMoment text.now t
-
 -- the option is there, and its text writes no moment
 abbrev pub HasNoMoment : Option (Bor (List ℕ)) → Type 0
-HasNoMoment None = ⊥
-HasNoMoment (Some text) = ¬ (HasMoment text.now)
+HasNoMoment o = IsSomeAnd o (λ text. ¬ (HasMoment text.now))

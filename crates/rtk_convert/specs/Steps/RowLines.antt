@@ -2,8 +2,8 @@
 use Rattle.std.specs.Prelude.{◌≡◌, ℕ, Bool, true, false, ◌<◌, ◌≤◌, List, length, All}
 use Rattle.rtk_rinex.specs.declared.epoch_table.Observed.{Observed}
 use Rattle.rtk_rinex.specs.declared.epoch_table.SatelliteRow.{SatelliteRow}
-use Rattle.rtk_rinex.specs.RecordLines.{RecordLinesView, HoldsLines, IsFreeIn}
-use Rattle.rtk_rinex.specs.MixedRecord.{MixedLinesView, HoldsMixedLines}
+use Rattle.rtk_rinex.specs.RecordLines.{RecordLinesView, HoldsLines, HasOpenLine, IsFreeIn}
+use Rattle.rtk_rinex.specs.MixedRecord.{MixedLinesView, HoldsMixedLines, HasOpenMixedLine}
 
 -- the rows stay, with Doppler shifts or without them
 abbrev pub Keeps : {L : Type 0} → (L → Bool → List SatelliteRow → Type 0) → L → L → Type 0
@@ -31,3 +31,13 @@ pub record HasGpsRows (lines : RecordLinesView) (doppler : Bool) (rows : List Sa
 pub record HasMixedRows (lines : MixedLinesView) (doppler : Bool) (rows : List SatelliteRow) : Type 0 where
   pub holds : HoldsMixedLines lines rows
   pub shows : lines.doppler ≡ doppler
+
+-- a line of a satellite of GPS is open whose codes show this, without Doppler shifts
+pub record HasGpsLine (doppler : Bool) (lines : RecordLinesView) (row : List Observed) : Type 0 where
+  pub plain : doppler ≡ false
+  pub open_line : HasOpenLine false lines row
+
+-- a line is open whose codes show this, with Doppler shifts or without them
+pub record HasMixedLine (doppler : Bool) (lines : MixedLinesView) (row : List Observed) : Type 0 where
+  pub shows : lines.doppler ≡ doppler
+  pub open_line : HasOpenMixedLine lines row

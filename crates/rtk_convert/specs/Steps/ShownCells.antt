@@ -100,6 +100,12 @@ pub record ArePlaces (codes : List AnyCode) (columns : List ℕ) : Type 0 where
   pub distinct : AllPairs (λ a b. place_of a ≢ place_of b) codes
   pub among : (place : ℕ) → place < 16 → IsPlaceAmong codes place (slice_index columns place)
 
+-- where all codes stand among those of a row, and how many of them are written without Doppler shifts: all, or none in a
+-- file that has shifts (true)
+pub record AreColumns (doppler : Bool) (plain : ℕ) (codes : List AnyCode) (columns : List ℕ) : Type 0 where
+  pub places : ArePlaces codes columns
+  pub without : plain ≡ (if doppler then 0 else length codes)
+
 -- these are the codes of the rows of this satellite and of those after it up to another one
 pub record AreCodesTo (listed : List AnyCode) (satellite last : ℕ) (codes : List AnyCode) : Type 0 where
   pub few : length codes ≤ 16

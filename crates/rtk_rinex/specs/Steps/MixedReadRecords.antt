@@ -9,6 +9,7 @@ use Rattle.rtk_rinex.specs.MixedTable.{IsMixedRow, IsMixedEpoch, HasNoPhase}
 use Rattle.rtk_rinex.specs.CheckLine.{IsNextTime}
 use Rattle.rtk_rinex.specs.CheckText.{satellite_lines}
 use Rattle.rtk_rinex.specs.MixedCheckText.{AreMixedRows, AreMixedEpochs}
+use Rattle.rtk_rinex.specs.Steps.ReadRecords.{IsEndOrRecord}
 use Rattle.rtk_rinex.specs.declared.epoch_table.Observed.{Observed}
 use Rattle.rtk_rinex.specs.declared.epoch_table.SatelliteRow.{SatelliteRow}
 
@@ -45,6 +46,10 @@ pub record ReadsMixedRows (f : FormView) (due : ℕ) (bytes rest : List ℕ) : T
 -- the record of some epoch begins the text
 abbrev pub BeginsWithMixedRecord : FormView → List ℕ → Type 0
 BeginsWithMixedRecord f bytes = (e : EpochTableView) × (rest : List ℕ) × IsMixedEpoch f e × (bytes ≡ mixed_record_text f.doppler e ++ rest)
+
+-- the record of some epoch begins the text, and after it stands another record, or nothing
+abbrev pub BeginsMixedRecords : FormView → List ℕ → Type 0
+BeginsMixedRecords f bytes = (begins : BeginsWithMixedRecord f bytes) × IsEndOrRecord begins.1
 
 -- the record of an epoch begins the text
 pub record ReadsMixedRecord (f : FormView) (first : ℕ) (last : Option ℕ) (time due : ℕ) (bytes rest : List ℕ) : Type 0 where

@@ -1,8 +1,7 @@
 -- The records that were read so far: they begin the text.
-use Rattle.std.specs.Prelude.{◌≡◌, ℕ, List, ◌++◌, length, flat_map, Option, None}
+use Rattle.std.specs.Prelude.{◌≡◌, ◌≢◌, ◌⊎◌, ℕ, List, [], ◌∷◌, ◌++◌, length, flat_map, All, Option, None}
 use Rattle.rtk_rinex.specs.Record.{EpochTableView, satellite_line, record_text}
 use Rattle.rtk_rinex.specs.Table.{IsTableRow, IsTableEpoch}
-use Rattle.rtk_rinex.specs.Lines.{IsLine}
 use Rattle.rtk_rinex.specs.CheckLine.{IsNextTime}
 use Rattle.rtk_rinex.specs.CheckText.{AreRows, AreEpochs, satellite_lines}
 use Rattle.rtk_rinex.specs.declared.epoch_table.SatelliteRow.{SatelliteRow}
@@ -18,13 +17,17 @@ pub record ReadsRows (n due : ℕ) (bytes rest : List ℕ) : Type 0 where
   pub count : length rows ≡ due
   pub text : bytes ≡ flat_map satellite_line rows ++ rest
 
--- a line is written for each row
-abbrev pub WritesLines : (SatelliteRow → List ℕ) → Type 0
-WritesLines line_of = (r : SatelliteRow) → IsLine (line_of r)
+-- no epoch line begins in this text: it has no `>`
+abbrev pub HasNoMark : List ℕ → Type 0
+HasNoMark text = All (λ x. x ≢ 62) text
 
--- the lines of this many rows begin the text
-abbrev pub BeginsWithRows : (SatelliteRow → List ℕ) → ℕ → List ℕ → Type 0
-BeginsWithRows line_of count bytes = (rows : List SatelliteRow) × (rest : List ℕ) × (length rows ≡ count) × (bytes ≡ flat_map line_of rows ++ rest)
+-- what is written for a row has no `>`
+abbrev pub WritesRows : (SatelliteRow → List ℕ) → Type 0
+WritesRows line_of = (r : SatelliteRow) → HasNoMark (line_of r)
+
+-- nothing, or a text that begins with the `>` of an epoch line
+abbrev pub IsEndOrRecord : List ℕ → Type 0
+IsEndOrRecord text = (text ≡ []) ⊎ ((rest : List ℕ) × (text ≡ 62 ∷ rest))
 
 -- the record of some epoch begins the text
 abbrev pub BeginsWithRecord : ℕ → List ℕ → Type 0

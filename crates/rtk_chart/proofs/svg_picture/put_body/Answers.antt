@@ -11,7 +11,7 @@ returns c =
       c.in_ok-put_ticks.ensures,
       c.strip_height.ensures.value,
       c.in_ok-put_strip.ensures,
-      c.bins_per_column.ensures.value,
+      c.bins_per_column-each.ensures.value,
       c.as_slice-strengths.ensures.value,
       c.in_ok-put_satellites.ensures,
       c.as_slice-2.ensures.value,

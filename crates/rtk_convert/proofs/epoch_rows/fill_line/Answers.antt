@@ -37,7 +37,7 @@ show_cells-second-requires-clause-shows g c =
     let own = map-slice g.E.FileEntry.signal_of c.args.msm.now c.args.at.msm c.show_cells-first.result in
     record {
       first = g.E.FileEntry.places c.args.phases.now;
-      shows = subst (λ (xs : List SignalEntry). ShowsRow g.E.Lines.RowLines.HasLine (g.E.FileEntry.places c.args.phases.now) c.args.form.now.epoch xs c.args.satellite c.args.form.now.codes.now (g.E.FileEntry.places c.show_cells-first.new.phases) c.show_cells-first.new.lines) (sym own)
+      shows = subst (λ (xs : List SignalEntry). ShowsRow (g.E.Lines.RowLines.HasLine c.args.form.now.doppler) (g.E.FileEntry.places c.args.phases.now) c.args.form.now.epoch xs c.args.satellite c.args.form.now.codes.now (g.E.FileEntry.places c.show_cells-first.new.phases) c.show_cells-first.new.lines) (sym own)
           (c.show_cells-first.ensures.takes.shows (g.E.FileEntry.places c.args.phases.now)
           (shows-nothing _ c.args.form.now.epoch c.args.satellite c.args.form.now.codes.now _ _ c.requires.open));
     }
@@ -47,9 +47,9 @@ returns-then-has_satellite-clause-shows g c =
     let f = g.E.FileEntry.signal_of in
     let own = map-slice f c.args.msm.now c.args.at.msm c.show_cells-first.result in
     let begin = shows-nothing _ c.args.form.now.epoch c.args.satellite c.args.form.now.codes.now (g.E.FileEntry.places c.args.phases.now) _ c.requires.open in
-    let first = subst (λ (xs : List SignalEntry). ShowsRow g.E.Lines.RowLines.HasLine (g.E.FileEntry.places c.args.phases.now) c.args.form.now.epoch xs c.args.satellite c.args.form.now.codes.now (g.E.FileEntry.places c.show_cells-first.new.phases) c.show_cells-first.new.lines) (sym own)
+    let first = subst (λ (xs : List SignalEntry). ShowsRow (g.E.Lines.RowLines.HasLine c.args.form.now.doppler) (g.E.FileEntry.places c.args.phases.now) c.args.form.now.epoch xs c.args.satellite c.args.form.now.codes.now (g.E.FileEntry.places c.show_cells-first.new.phases) c.show_cells-first.new.lines) (sym own)
     (c.show_cells-first.ensures.takes.shows (g.E.FileEntry.places c.args.phases.now) begin) in
-    subst (λ (xs : List SignalEntry). ShowsRow g.E.Lines.RowLines.HasLine (g.E.FileEntry.places c.args.phases.now) c.args.form.now.epoch (xs ++ slice_range (map f c.args.legacy.now) c.args.at.legacy c.show_cells-second.result) c.args.satellite c.args.form.now.codes.now (g.E.FileEntry.places c.show_cells-second.new.phases) c.show_cells-second.new.lines) own
+    subst (λ (xs : List SignalEntry). ShowsRow (g.E.Lines.RowLines.HasLine c.args.form.now.doppler) (g.E.FileEntry.places c.args.phases.now) c.args.form.now.epoch (xs ++ slice_range (map f c.args.legacy.now) c.args.at.legacy c.show_cells-second.result) c.args.satellite c.args.form.now.codes.now (g.E.FileEntry.places c.show_cells-second.new.phases) c.show_cells-second.new.lines) own
     (c.show_cells-second.ensures.takes.shows (g.E.FileEntry.places c.args.phases.now) first)
 
 pub returns-then-has_satellite-clause-lines : goal.returns-then-has_satellite-clause-lines
@@ -60,7 +60,7 @@ returns-else-has_satellite-clause-shows g c =
     let f = g.E.FileEntry.signal_of in
     let taken : List SignalEntry = slice_range (map f c.args.msm.now) c.args.at.msm c.show_cells-first.result in
     let begin = shows-nothing _ c.args.form.now.epoch c.args.satellite c.args.form.now.codes.now (g.E.FileEntry.places c.args.phases.now) _ c.requires.open in
-    subst (λ (xs : List SignalEntry). ShowsRow g.E.Lines.RowLines.HasLine (g.E.FileEntry.places c.args.phases.now) c.args.form.now.epoch xs c.args.satellite c.args.form.now.codes.now (g.E.FileEntry.places c.show_cells-first.new.phases) c.show_cells-first.new.lines)
+    subst (λ (xs : List SignalEntry). ShowsRow (g.E.Lines.RowLines.HasLine c.args.form.now.doppler) (g.E.FileEntry.places c.args.phases.now) c.args.form.now.epoch xs c.args.satellite c.args.form.now.codes.now (g.E.FileEntry.places c.show_cells-first.new.phases) c.show_cells-first.new.lines)
     (sym (ap (λ (ys : List SignalEntry). taken ++ ys) (range-empty (map f c.args.legacy.now) c.args.at.legacy) ∙ append-nil taken))
     (c.show_cells-first.ensures.takes.shows (g.E.FileEntry.places c.args.phases.now) begin)
 

@@ -1,4 +1,4 @@
-use Rattle.std.proofs.Common.{◌≡◌, ◌+◌, ◌-◌, ◌≤◌, ℕ, List, [], Option, ◌++◌, map, slice_range, refl, sym, ap, subst, ◌∙◌, arith}
+use Rattle.std.proofs.Common.{◌≡◌, ◌+◌, ◌-◌, ◌≤◌, ℕ, Bool, List, [], Option, None, ◌++◌, map, slice_range, refl, sym, ap, subst, ◌∙◌, arith}
 use Rattle.std.proofs.lemmas.List.{length-map}
 use Rattle.rtk_obs.specs.SatelliteIndex.{IsSatelliteIndex}
 use Rattle.rtk_obs.specs.SignalCells.{IsSignalInRange}
@@ -10,7 +10,7 @@ use Rattle.rtk_rinex.specs.declared.epoch_table.Observed.{Observed}
 use Rattle.rtk_rinex.specs.declared.epoch_table.SatelliteRow.{SatelliteRow}
 use Rattle.rtk_convert.specs.Epochs.{set_of}
 use Rattle.rtk_convert.specs.LastPhases.{track_at}
-use Rattle.rtk_convert.specs.Rows.{first_cell, cell_at, cells_at_epochs, codes_for, observed_at, observed_after, row_with, row_if_any, rows_to}
+use Rattle.rtk_convert.specs.Rows.{first_cell, cell_at, cells_at_epochs, codes_for, observed_at, observed_after, or_nothing, row_with, row_if_any, rows_to}
 use Rattle.rtk_convert.specs.Steps.ShownCells.{AreRowCodes, MayStep, ShowsRow, shown_by, track_after}
 use Rattle.rtk_convert.proofs.EntriesLemmas.{all-map, one-kind, turn-is}
 use Rattle.rtk_convert.proofs.ThroughLemmas.{track-below, later-after}
@@ -39,6 +39,7 @@ satellites-init g c =
       epoch = c.form_from-form.ensures.epoch ∙ c.epoch-epoch.ensures;
       within = c.form_from-form.ensures.last.1;
       least = c.form_from-form.ensures.least;
+      doppler = c.form_from-form.ensures.doppler;
       columns = c.form_from-form.ensures.columns;
     }
 
@@ -218,7 +219,11 @@ fill_line-at-requires-clause-later g c =
 
 pub fill_line-at-requires-clause-open : goal.fill_line-at-requires-clause-open
 fill_line-at-requires-clause-open g c =
-    subst (λ (row : List Observed). g.E.Lines.RowLines.HasLine c.open_line.new.self row) (sym (row-blank c.renew_form.new.form.codes.now)) c.in_ok-open_line.ensures.open
+    let codes = c.renew_form.new.form.codes.now in
+    let shifts : c.args.doppler ≡ c.renew_form.new.form.doppler = sym (c.renew_form.ensures.doppler ∙ c.satellites.invariant.doppler) in
+    let opened = c.in_ok-open_line.ensures.open c.args.doppler _ c.satellites.invariant.shows.holds in
+    subst (λ (d : Bool). g.E.Lines.RowLines.HasLine d c.open_line.new.self (map (λ (code : AnyCode). or_nothing None) codes)) shifts
+    (subst (λ (row : List Observed). g.E.Lines.RowLines.HasLine c.args.doppler c.open_line.new.self row) (sym (row-blank codes)) opened)
 
 pub close_line-requires-clause-satellite : goal.close_line-requires-clause-satellite
 close_line-requires-clause-satellite g c =
@@ -270,7 +275,7 @@ close_line-requires-clause-room g c =
     room-held g.E.Lines.RowLines.HasRows c.args.doppler g.E.Lines.RowLines.greatest c.fill_line-at.new.lines (shown_by old epoch (ms ++ ls)) c.args.listed.now (i.from - 1) (c.fill_line-at.ensures.lines c.args.doppler _ (c.in_ok-open_line.ensures.rows c.args.doppler _ i.holds)) (omega (arith, few, from, i.one))
 
 pub close_line-requires-clause-open : goal.close_line-requires-clause-open
-close_line-requires-clause-open g c = (_, c.fill_line-at.ensures.shows.row)
+close_line-requires-clause-open g c = (_, _, c.fill_line-at.ensures.shows.row)
 
 pub satellites-smaller : goal.satellites-smaller
 satellites-smaller g c =
@@ -302,7 +307,7 @@ satellites-preserved g c =
     let same : codes_for c.args.listed.now n ≡ codes = c.renew_form.ensures.codes.codes_are n (omega arith) c.renew_form.ensures.last.0 in
     let filled = c.fill_line-at in
     let formed : c.renew_form.new.form.epoch ≡ epoch = c.renew_form.ensures.epoch ∙ c.satellites.invariant.epoch in
-    let shows = subst (λ (e : ℕ). ShowsRow g.E.Lines.RowLines.HasLine (g.E.FileEntry.places c.satellites.phases) e
+    let shows = subst (λ (e : ℕ). ShowsRow (g.E.Lines.RowLines.HasLine c.renew_form.new.form.doppler) (g.E.FileEntry.places c.satellites.phases) e
     (slice_range ms c.satellites.at.msm filled.result.msm ++ slice_range ls c.satellites.at.legacy filled.result.legacy) n codes (g.E.FileEntry.places filled.new.phases) filled.new.lines) formed filled.ensures.shows in
     let h = shown_by old epoch (ms ++ ls) in
     let rows = rows_to h c.args.listed.now (n - 1) in
@@ -311,8 +316,10 @@ satellites-preserved g c =
     (rows-between old epoch ms c.satellites.at.msm ls c.satellites.at.legacy i.from n (g.E.FileEntry.places c.satellites.phases) i.fills from at.msm at.legacy c.args.listed.now i.one (omega (arith, hn.1)))
     i.holds in
     let held = filled.ensures.lines c.args.doppler rows (c.in_ok-open_line.ensures.rows c.args.doppler rows before) in
-    let shown = fills-row old epoch ms c.satellites.at.msm ls c.satellites.at.legacy n (g.E.FileEntry.places c.satellites.phases) at _ filled.result.msm filled.result.legacy codes own
-    (g.E.FileEntry.places filled.new.phases) filled.new.lines filled.ensures.msm.from filled.ensures.msm.next filled.ensures.legacy.from filled.ensures.legacy.next shows in
+    let shifts : c.renew_form.new.form.doppler ≡ c.args.doppler = c.renew_form.ensures.doppler ∙ c.satellites.invariant.doppler in
+    let shown = subst (λ (d : Bool). g.E.Lines.RowLines.HasLine d filled.new.lines (row_with h codes n).observed.items) shifts
+    (fills-row old epoch ms c.satellites.at.msm ls c.satellites.at.legacy n (g.E.FileEntry.places c.satellites.phases) at _ filled.result.msm filled.result.legacy codes own
+    (g.E.FileEntry.places filled.new.phases) filled.new.lines filled.ensures.msm.from filled.ensures.msm.next filled.ensures.legacy.from filled.ensures.legacy.next shows) in
     let closed = c.close_line.ensures c.args.doppler rows (row_with h codes n).observed.items held shown in
     record {
       shows = record {
@@ -330,6 +337,7 @@ satellites-preserved g c =
       epoch = formed;
       within = c.renew_form.ensures.last.1;
       least = c.renew_form.ensures.least;
+      doppler = shifts;
       columns = c.renew_form.ensures.columns;
     }
 

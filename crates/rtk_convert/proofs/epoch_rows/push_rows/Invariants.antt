@@ -1,5 +1,5 @@
 use Rattle.std.proofs.Common.{◌≡◌, ◌≤◌, ◌+◌, ◌-◌, length, map}
-use Rattle.rtk_convert.specs.Steps.ShownCells.{ArePlaces}
+use Rattle.rtk_convert.specs.Steps.ShownCells.{AreColumns}
 use Rattle.rtk_convert.proofs.SatelliteLemmas.{ShowsBelow}
 use Rattle.rtk_convert.proofs.epoch_rows.push_rows.Given as goal
 
@@ -11,7 +11,8 @@ invariant-satellites g l = record {
   epoch : l.form.epoch ≡ l.fn.set.epoch;
   within : l.form.last ≤ 221;
   least : 32 ≤ l.form.last;
-  columns : ArePlaces l.form.codes.now l.form.columns;
+  doppler : l.form.doppler ≡ l.doppler;
+  columns : AreColumns l.form.doppler l.form.plain l.form.codes.now l.form.columns;
 }
 
 abbrev pub decreases-satellites : goal.decreases-satellites

@@ -1,7 +1,8 @@
 use Rattle.std.proofs.Common.{◌≡◌, ◌++◌, ◌∙◌, ℕ, Bool, List, true, false, sym, ap}
 use Rattle.rtk_rinex.specs.declared.epoch_table.SatelliteRow.{SatelliteRow}
 use Rattle.rtk_rinex.specs.MixedRecord.{mixed_record_text}
-use Rattle.rtk_cut.specs.KeptSystems.{keeps, keeps_row}
+use Rattle.rtk_rinex.specs.SystemFlags.{flag_of}
+use Rattle.rtk_cut.specs.KeptSystems.{keeps_row}
 use Rattle.rtk_cut.proofs.KeptFileLemmas.{lines-none, lines-room, lines-more, lines-past, rows-all}
 use Rattle.rtk_cut.proofs.kept_file.put_kept_record.Goals as goal
 
@@ -20,7 +21,7 @@ pub loop-satellite-preserved : goal.loop-satellite-preserved
 loop-satellite-preserved c =
     let l = c.loop-satellite in
     let row : SatelliteRow = record { satellite = c.in-Some.satellite; observed = c.next_row.new.observed } in
-    let off : keeps_row c.args.kept row ≡ false = sym (c.keeps.ensures ∙ ap (keeps c.args.kept) c.system.ensures) ∙ c.if-keeps.false in
+    let off : keeps_row c.args.kept row ≡ false = sym (c.has.ensures ∙ ap (flag_of c.args.kept) c.system.ensures) ∙ c.if-has.false in
     record {
       lines = lines-past c.args.kept c.args.read.now l.rows c.next_row.new.self l.lines row l.invariant.lines c.in-Some.ensures.next c.in-Some.ensures.end.count off;
       doppler = l.invariant.doppler;
@@ -30,7 +31,7 @@ pub loop-satellite-preserved-in-Continue-1 : goal.loop-satellite-preserved-in-Co
 loop-satellite-preserved-in-Continue-1 c =
     let l = c.loop-satellite in
     let row : SatelliteRow = record { satellite = c.in-Some.satellite; observed = c.next_row.new.observed } in
-    let on : keeps_row c.args.kept row ≡ true = sym (c.keeps.ensures ∙ ap (keeps c.args.kept) c.system.ensures) ∙ c.if-keeps.true in
+    let on : keeps_row c.args.kept row ≡ true = sym (c.has.ensures ∙ ap (flag_of c.args.kept) c.system.ensures) ∙ c.if-has.true in
     record {
       lines = lines-more c.args.kept c.args.read.now l.rows c.next_row.new.self l.lines c.push_row.new.self row l.invariant.lines c.in-Some.ensures.next c.in-Some.ensures.end.count on
           (rw c.as_slice.ensures.value at c.in_ok-push_row.ensures.ok);

@@ -1,4 +1,5 @@
 use Rattle.std.proofs.Common.{take, arith}
+use Rattle.rtk_obs.specs.MsmCells.{signals_of}
 use Rattle.rtk_obs.proofs.MsmLemmas.{none-of-row, few_in_message}
 use Rattle.rtk_obs.proofs.signal_rows.put_satellite.Goals as goal
 
@@ -7,7 +8,7 @@ overflow_add-result g c = omega (arith, c.requires.cells, few_in_message (g.M.Si
 
 pub returns-in_default-clause-entries : goal.returns-in_default-clause-entries
 returns-in_default-clause-entries g c =
-    none-of-row (g.M.SignalsOfMsm.entry_of c.args.message.now) c.args.signals.now c.args.start.cell c.args.place c.args.bits (take c.args.start.count c.args.found.now.items)
+    none-of-row (g.M.SignalsOfMsm.entry_of c.args.message.now) (signals_of (g.M.SignalsOfMsm.header c.args.message.now)) c.args.start.cell c.args.place c.args.bits (take c.args.start.count c.args.found.now.items)
     (λ k signal. c.in_default.ensures.none k signal)
 
 pub returns-clause-entries : goal.returns-clause-entries

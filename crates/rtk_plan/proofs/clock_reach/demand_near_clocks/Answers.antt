@@ -6,7 +6,7 @@ use Rattle.rtk_captures.specs.declared.station_capture.StationCapture.{StationCa
 use Rattle.rtk_systems.specs.SlotChannels.{AreSecondsChosen}
 use Rattle.rtk_plan.specs.ClockReach.{has_far_clock}
 use Rattle.rtk_plan.specs.Plan.{HaveFarClocks}
-use Rattle.rtk_plan.specs.declared.clock_reach.ClockDating.{ClockDating}
+use Rattle.rtk_plan.specs.declared.clock_dating.ClockDating.{ClockDating}
 use Rattle.rtk_survey.proofs.ResultLemmas.{on-ok}
 use Rattle.rtk_plan.proofs.ClockReachLemmas.{far-clocks}
 use Rattle.rtk_plan.proofs.RefusedLemmas.{refused-by}

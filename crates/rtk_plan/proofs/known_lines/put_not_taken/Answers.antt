@@ -9,7 +9,7 @@ pub returns : goal.returns
 unfolding not_taken_by
 returns c =
     let ss = c.args.surveys.now in
-    let f = obs_1004_line c.args.has_1004 ss c.args.station in
+    let f = obs_1004_line c.args.has_gps c.args.has_sbas ss c.args.station in
     let a = msm_lines c.args.taken ss c.args.station in
     let b = doppler_lines_unless c.args.has_doppler c.args.taken ss c.args.station in
     let d = sbas_line c.args.has_sbas ss c.args.station in

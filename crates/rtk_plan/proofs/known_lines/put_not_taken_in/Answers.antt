@@ -1,7 +1,7 @@
 use Rattle.std.proofs.Common.{◌++◌, ℕ, Bool, List, ap, ◌∙◌}
 use Rattle.rtk_message.specs.declared.accepted.Accepted.{Accepted}
-use Rattle.rtk_message.specs.declared.system.System.TheVariants.{Sbas}
-use Rattle.rtk_setup.specs.Setup.{taken_by, takes_1004, lists_system}
+use Rattle.rtk_message.specs.declared.system.System.TheVariants.{Gps, Sbas}
+use Rattle.rtk_setup.specs.Setup.{taken_by, lists_system}
 use Rattle.rtk_plan.specs.KnownLines.{not_taken_by}
 use Rattle.rtk_plan.proofs.known_lines.put_not_taken_in.Goals as goal
 
@@ -11,13 +11,13 @@ returns c =
     let ss = c.args.surveys.now in
     let setup = c.args.setup.now in
     let taken = c.accepted-taken.result in
-    let has_1004 = c.takes_1004-has_1004.result in
+    let has_gps = c.takes_gps-has_gps.result in
     let has_sbas = c.takes_sbas-has_sbas.result in
     let has_doppler = c.has_doppler-has_doppler.result in
     let is_long = c.args.is_long in
     c.in_ok-put_not_taken.ensures
-    ∙ ap (λ (n : ℕ). old ++ not_taken_by taken has_1004 has_sbas has_doppler is_long ss n) c.station.ensures.value
-    ∙ ap (λ (a : Accepted). old ++ not_taken_by a has_1004 has_sbas has_doppler is_long ss setup.station) c.accepted-taken.ensures
-    ∙ ap (λ (b : Bool). old ++ not_taken_by (taken_by setup) b has_sbas has_doppler is_long ss setup.station) c.takes_1004-has_1004.ensures
-    ∙ ap (λ (b : Bool). old ++ not_taken_by (taken_by setup) (takes_1004 setup) b has_doppler is_long ss setup.station) c.takes_sbas-has_sbas.ensures
-    ∙ ap (λ (b : Bool). old ++ not_taken_by (taken_by setup) (takes_1004 setup) (lists_system setup.head.listed Sbas) b is_long ss setup.station) c.has_doppler-has_doppler.ensures
+    ∙ ap (λ (n : ℕ). old ++ not_taken_by taken has_gps has_sbas has_doppler is_long ss n) c.station.ensures.value
+    ∙ ap (λ (a : Accepted). old ++ not_taken_by a has_gps has_sbas has_doppler is_long ss setup.station) c.accepted-taken.ensures
+    ∙ ap (λ (b : Bool). old ++ not_taken_by (taken_by setup) b has_sbas has_doppler is_long ss setup.station) c.takes_gps-has_gps.ensures
+    ∙ ap (λ (b : Bool). old ++ not_taken_by (taken_by setup) (lists_system setup.head.listed Gps) b has_doppler is_long ss setup.station) c.takes_sbas-has_sbas.ensures
+    ∙ ap (λ (b : Bool). old ++ not_taken_by (taken_by setup) (lists_system setup.head.listed Gps) (lists_system setup.head.listed Sbas) b is_long ss setup.station) c.has_doppler-has_doppler.ensures

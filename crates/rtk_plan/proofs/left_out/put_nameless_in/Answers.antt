@@ -1,5 +1,4 @@
 use Rattle.std.proofs.Common.{◌++◌, ℕ, List, ap, ◌∙◌}
-use Rattle.rtk_plan.specs.Plan.{taken_messages}
 use Rattle.rtk_systems.specs.NamelessLines.{nameless_lines}
 use Rattle.rtk_systems.specs.declared.values.TakenMessages.{TakenMessages}
 use Rattle.rtk_plan.proofs.left_out.put_nameless_in.Goals as goal

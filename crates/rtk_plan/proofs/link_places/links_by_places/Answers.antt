@@ -1,12 +1,12 @@
-use Rattle.std.proofs.Common.{◌≡◌, ◌∙◌, List, Option, ap, subst}
+use Rattle.std.proofs.Common.{◌∙◌, List, Option, ap, subst}
 use Rattle.std.proofs.lemmas.Result.{IfOk-weaker}
 use Rattle.rtk_captures.specs.Dating.{ArePlaced, IsNearOf, IsSpanOf, captures_of}
 use Rattle.rtk_captures.specs.Linking.{links_found}
 use Rattle.rtk_captures.specs.declared.station_capture.StationCapture.{StationCapture}
 use Rattle.rtk_survey.specs.declared.placing.Placed.{Placed}
-use Rattle.rtk_plan.specs.ClockReach.{midway, clock_dating}
+use Rattle.rtk_plan.specs.ClockDating.{midway, clock_dating}
 use Rattle.rtk_plan.specs.LinkPlaces.{places_among_links}
-use Rattle.rtk_plan.specs.declared.clock_reach.ClockDating.{ClockDating}
+use Rattle.rtk_plan.specs.declared.clock_dating.ClockDating.{ClockDating}
 use Rattle.rtk_plan.proofs.link_places.links_by_places.Goals as goal
 
 pub returns : goal.returns

@@ -2,7 +2,7 @@ use Rattle.std.proofs.Common.{◌≡◌, ◌≤◌, ◌<◌, ◌+◌, ℕ, suc, 
 use Rattle.rtk_survey.specs.declared.placing.Placed.{Placed}
 use Rattle.rtk_survey.specs.declared.survey.CaptureSurvey.{CaptureSurvey}
 use Rattle.rtk_plan.specs.Near1012.{ends_with_capture, ends_after}
-use Rattle.rtk_plan.specs.declared.clock_reach.ClockDating.{ClockDating}
+use Rattle.rtk_plan.specs.declared.clock_dating.ClockDating.{ClockDating}
 use Rattle.rtk_plan.specs.declared.near_1012.Ends.{Ends}
 use Rattle.rtk_plan.proofs.EndsLemmas.{ends-end, ends-step}
 use Rattle.rtk_plan.proofs.near_1012.ends_after.Goals as goal

@@ -7,7 +7,7 @@ use Rattle.rtk_plan.proofs.station_setup.demand_rates.Goals as goal
 pub returns-in-Some-clause-refused : goal.returns-in-Some-clause-refused
 returns-in-Some-clause-refused c =
     is-refused (IsRatesCause c.args.is_asked c.args.kinds c.args.listed.now) _ c.refused.result c.refused.ensures
-    (c.in-Some.system, sym c.without_rates.ensures ∙ c.in-Some.is, c.letter_of-letter.ensures)
+    (c.in-Some.system, sym c.without_rates.ensures ∙ c.in-Some.is, c.from-letter.ensures ∙ c.letter_of-byte.ensures)
 
 -- there is none
 pub returns-in-None-clause-rates : goal.returns-in-None-clause-rates

@@ -2,7 +2,8 @@ use Rattle.std.proofs.Common.{◌≡◌, ◌++◌, [], ◌∙◌, Bool, List, le
 use Rattle.rtk_obs.specs.declared.any_code.AnyCode.{AnyCode}
 use Rattle.rtk_tracking.specs.Epochs.{newest_first}
 use Rattle.rtk_quality.specs.MixedQuality.{system_text}
-use Rattle.rtk_quality.specs.SystemParts.{codes_of_system, epochs_of_system}
+use Rattle.rtk_tracking.specs.SystemCodes.{codes_of_system}
+use Rattle.rtk_quality.specs.SystemParts.{epochs_of_system}
 use Rattle.rtk_quality.proofs.MixedTextLemmas.{no-part, some-part}
 use Rattle.rtk_quality.proofs.mixed_document.put_system.Goals as goal
 

@@ -1,9 +1,8 @@
 use Rattle.std.proofs.Common.{◌∙◌, ◌<◌, length, sym, arith}
 use Rattle.std.proofs.lemmas.Grind.{not_there}
-use mathlib.Core.Logic.{∥∥₁_map}
 use Rattle.rtk_rinex.proofs.EpochLemmas.{length-line, line-columns}
 use Rattle.rtk_rinex.specs.Record.{satellite_line}
-use Rattle.rtk_rinex.proofs.LineLemmas.{satellite_line-line, no_line, same_line}
+use Rattle.rtk_rinex.proofs.LineLemmas.{satellite_line-row, no_line, same_line}
 use Rattle.rtk_rinex.proofs.OneLemmas.{count-of, epoch-front, epoch_line-of}
 use Rattle.rtk_rinex.proofs.RecordsLemmas.{epoch_line-due, below}
 use Rattle.rtk_rinex.proofs.records.skip_record.Goals as goal
@@ -33,20 +32,10 @@ unreachable-requires-in_default-stamp_in c =
     c.in_default-stamp_in.ensures due.epoch.time _ due.is_epoch.time due.count
     (c.split_at.ensures.front ∙ line-columns c.in-Some.line.now due.epoch.time _ due.is_epoch.time (omega (arith, due.count)) same.0))
 
-pub skip_rows-requires : goal.skip_rows-requires
-skip_rows-requires c =
-    let line = c.in-Some.ensures in
-    ∥∥₁_map c.requires (λ has.
-    let due = epoch_line-due has.0 c.args.text.now has.1 in
-    let same = same_line c.in-Some.line.now _ c.in-Some.after.now _ line.0 due.line (sym line.1 ∙ due.text) in
-    let one = c.in-Some-stamp_in.ensures.3 due.epoch.time _ due.is_epoch.time due.count
-    (c.split_at.ensures.front ∙ line-columns c.in-Some.line.now due.epoch.time _ due.is_epoch.time (omega (arith, due.count)) same.0) in
-    (satellite_line, satellite_line-line, (due.epoch.rows, due.rest, sym one.1, same.1)))
-
 pub returns : goal.returns
-returns c = λ n e rest is text.
+returns c = λ n e rest is ends text.
     let line = c.in-Some.ensures in
     let count = count-of n e is in
     let same = same_line c.in-Some.line.now _ c.in-Some.after.now _ line.0 (epoch_line-of n e is) (sym line.1 ∙ text ∙ epoch-front n e rest is) in
     let one = c.in-Some-stamp_in.ensures.3 e.time _ is.time count (c.split_at.ensures.front ∙ line-columns c.in-Some.line.now e.time _ is.time (omega (arith, count)) same.0) in
-    (one.0, c.skip_rows.ensures.rest satellite_line e.rows rest satellite_line-line (sym one.1) same.1)
+    (one.0, c.skip_rows.ensures.rest satellite_line e.rows rest satellite_line-row ends same.1)

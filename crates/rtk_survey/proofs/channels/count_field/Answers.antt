@@ -1,4 +1,4 @@
-use Rattle.std.proofs.Common.{◌≡◌, ◌≢◌, ◌<◌, ◌+◌, ◌∙◌, ℕ, ap, subst, sym, arith}
+use Rattle.std.proofs.Common.{◌≡◌, ◌+◌, ◌∙◌, ℕ, subst, arith}
 use Rattle.rtk_survey.specs.Channels.{place_of_field}
 use Rattle.rtk_survey.specs.Contents.{count_at}
 use Rattle.rtk_survey.specs.Counting.{shown_count}

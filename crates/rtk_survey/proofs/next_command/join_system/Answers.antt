@@ -1,4 +1,4 @@
-use Rattle.std.proofs.Common.{◌≡◌, ◌||◌, ◌&&◌, ◌∙◌, ℕ, Bool, List, Option, true, false, not, get_or, refl, sym, ap}
+use Rattle.std.proofs.Common.{◌≡◌, ◌||◌, ◌&&◌, ◌∙◌, Bool, List, true, false, not, get_or, refl, sym, ap}
 use Rattle.rtk_obs.specs.AnyCode.{number_of}
 use Rattle.rtk_survey.specs.BitMarks.{is_marked_in}
 use Rattle.rtk_survey.specs.Chains.{no_clocks, clocks_at}

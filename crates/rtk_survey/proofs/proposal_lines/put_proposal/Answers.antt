@@ -1,4 +1,4 @@
-use Rattle.std.proofs.Common.{◌≡◌, ◌++◌, ◌∙◌, ℕ, Bool, List, Option, false, get_or, append_assoc, ap, sym}
+use Rattle.std.proofs.Common.{◌≡◌, ◌++◌, ◌∙◌, ℕ, Bool, List, Option, false, get_or, ap}
 use Rattle.std.proofs.Math.Path.{fun_ext}
 use Rattle.rtk_message.specs.declared.msm_kind.MsmKind.{MsmKind}
 use Rattle.rtk_obs.specs.declared.any_code.AnyCode.{AnyCode}
@@ -9,7 +9,6 @@ use Rattle.rtk_survey.specs.BitMarks.{is_marked_in}
 use Rattle.rtk_survey.specs.Contents.{epochs_held, codes_held}
 use Rattle.rtk_survey.specs.FrameDates.{proposed_date}
 use Rattle.rtk_survey.specs.NextCommand.{next_options, station_proposal}
-use Rattle.rtk_survey.specs.Proposal.{proposed}
 use Rattle.rtk_survey.specs.Steps.OtherSystems.{glonass_held, taken_held}
 use Rattle.rtk_survey.specs.Steps.Tables.{system_epochs_held}
 use Rattle.rtk_survey.specs.SummaryText.{near_text, second_frequency_line, other_msm_lines, all_codes_text, next_lines, proposal_lines}

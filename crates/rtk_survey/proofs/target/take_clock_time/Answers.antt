@@ -1,6 +1,6 @@
 use Rattle.std.proofs.Common.{Option, sym, ap, ◌∙◌}
 use Rattle.rtk_message.specs.AnyDecoded.{station_of}
-use Rattle.rtk_survey.specs.ClockSpans.{clocks_by_station, with_time_for_if_any}
+use Rattle.rtk_survey.specs.StationClocks.{clocks_by_station, with_time_for_if_any}
 use Rattle.rtk_survey.specs.Targets.{marks_if_known}
 use Rattle.rtk_survey.specs.declared.clock_spans.FollowedTime.{FollowedTime}
 use Rattle.rtk_survey.proofs.ResultLemmas.{on-ok}

@@ -1,8 +1,8 @@
 use Rattle.std.proofs.Common.{ℕ, Option, ap, ◌∙◌}
-use Rattle.rtk_survey.specs.ClockSpans.{clocks_by_station, with_time_for}
+use Rattle.rtk_survey.specs.StationClocks.{clocks_by_station, with_time_for}
 use Rattle.rtk_survey.specs.Targets.{marks_if_known}
 use Rattle.rtk_survey.specs.declared.clock_marks.ClockMarks.{ClockMarks}
-use Rattle.rtk_survey.proofs.ClockSpanLemmas.{time-more}
+use Rattle.rtk_survey.proofs.StationClockLemmas.{time-more}
 use Rattle.rtk_survey.proofs.ResultLemmas.{both-ok}
 use Rattle.rtk_survey.proofs.target.take_time_of.Goals as goal
 

@@ -1,4 +1,3 @@
-use Rattle.std.proofs.Common.{ℕ, List}
 use Rattle.rtk_survey.specs.ClockLines.{clock_lines}
 use Rattle.rtk_survey.specs.UncheckedClocks.{unchecked_lines, all_clock_lines}
 use Rattle.rtk_survey.proofs.ListLemmas.{and-then}

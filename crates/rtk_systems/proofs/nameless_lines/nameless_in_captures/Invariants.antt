@@ -6,4 +6,4 @@ use Rattle.rtk_systems.specs.NamelessLines.{nameless_of_station}
 use Rattle.rtk_systems.proofs.nameless_lines.nameless_in_captures.Given as goal
 
 abbrev pub invariant-loop-survey : goal.invariant-loop-survey
-invariant-loop-survey l = l.count ≡ shown_count (sum_by (λ s. nameless_of_station l.system l.taken (station_in l.station s)) (take l.survey-index l.surveys))
+invariant-loop-survey l = l.count ≡ shown_count (sum_by (λ s. nameless_of_station l.system l.has_gps l.taken (station_in l.station s)) (take l.survey-index l.surveys))

@@ -16,13 +16,16 @@ use Rattle.rtk_collect.proofs.signals.Gatherer+SignalEntry.offer_signals.Goals a
 use Rattle.rtk_collect.specs.Signals.{signals, entries_by}
 use Rattle.rtk_obs.specs.declared.signal_cells.SignalEntry.{SignalEntry}
 
-pub keys_rise-rises-requires : goal.keys_rise-rises-requires
-keys_rise-rises-requires c = subst (AreOfOneSource signals) (sym (c.as_slice-cells.ensures.value ∙ c.put_entries.ensures.cells)) (entries_by-kind _ _ _ _)
+pub cells_rise-rises-requires-clause-kind : goal.cells_rise-rises-requires-clause-kind
+cells_rise-rises-requires-clause-kind c = subst (AreOfOneSource signals) (sym (c.as_slice-cells.ensures.value ∙ c.put_entries.ensures.cells)) (entries_by-kind _ _ _ _)
+
+pub cells_rise-rises-requires-clause-own : goal.cells_rise-rises-requires-clause-own
+cells_rise-rises-requires-clause-own c = (c.args.sbas, c.args.doppler, c.args.channels.now, c.as_slice-cells.ensures.value ∙ c.put_entries.ensures.cells)
 
 pub offer_cells-requires : goal.offer_cells-requires
 offer_cells-requires c =
     let kind = subst (AreOfOneSource signals) (sym (c.as_slice-cells.ensures.value ∙ c.put_entries.ensures.cells)) (entries_by-kind _ _ _ _) in
-    let rising = c.keys_rise-rises.ensures in
+    let rising = c.cells_rise-rises.ensures in
     (omega arith, (search rules, (search rules, (c.place_of_epoch-at.ensures, (c.as_slice-cells.ensures.fits, (search rules, (kind, (rising, (search rules, c.clear.ensures)))))))))
 
 pub returns-in_default-clause-answer : goal.returns-in_default-clause-answer

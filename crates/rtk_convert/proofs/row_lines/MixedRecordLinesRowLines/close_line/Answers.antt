@@ -1,4 +1,4 @@
-use Rattle.std.proofs.Common.{◌≡◌, ◌∙◌, ℕ, [], ◌∷◌, ◌++◌, Option, subst}
+use Rattle.std.proofs.Common.{◌∙◌, ℕ, [], ◌∷◌, ◌++◌, Option, subst}
 use Rattle.std.specs.Option.{SomeIff}
 use Rattle.rtk_obs.specs.SatelliteIndex.{IsSatelliteIndex}
 use Rattle.rtk_rinex.specs.MixedRecord.{HoldsMixedLines}
@@ -13,6 +13,6 @@ returns c = λ doppler rows observed h opened.
     let index = subst (λ (o : Option ℕ). SomeIff o (IsSatelliteIndex c.args.satellite) c.args.satellite) c.in-Some.is c.new.ensures in
     record {
       holds = subst (λ (n : ℕ). HoldsMixedLines c.close_line.new.self (rows ++ record { satellite = n; observed = record { items = observed } } ∷ [])) index.1
-          (c.close_line.ensures.lines rows observed h.holds opened);
+          (c.close_line.ensures.lines rows observed h.holds opened.open_line);
       shows = c.close_line.ensures.doppler ∙ h.shows;
     }

@@ -13,7 +13,7 @@ returns c = λ doppler rows observed h opened.
     let within = λ (r : SatelliteRow). r.satellite ≤ 32 in
     record {
       holds = record {
-        holds = c.close_line.ensures rows observed h.holds.holds opened;
+        holds = c.close_line.ensures rows observed h.holds.holds opened.open_line;
         satellites = All-append within rows (row ∷ []) h.holds.satellites (All-cons within row [] c.requires.within (All-nil within));
       };
       plain = h.plain;

@@ -24,7 +24,7 @@ returns-then-self c = λ doppler os o.
     let old : RecordLinesView = record { text = take len text; count = count; rest = drop at text; is_written = ltb len end } in
     let shown : HasOpenLine doppler old os = subst (λ (v : RecordLinesView). HasOpenLine doppler v os) (sym c.self.view_is) o in
     let has : list_any (is_shown doppler) os ≡ true = sym shown.written ∙ lt-ltb len end (omega arith) in
-    let same : c.max-at.result ≡ at = c.max-at.ensures in
+    let same : c.self.inside.at ≡ at = i.place in
     let is : now ≡ (take at text ++ line) ++ replicate (length text - r) 32 = rw (c.deref_mut.ensures.value, same) at c.end_line_at-self-inside.ensures.text in
     let sum : r ≡ at + length line = rw (c.deref_mut.ensures.value, same) at c.end_line_at-self-inside.ensures.len in
     let size : length (take at text) ≡ at = omega (arith, length-take at text, i.begun, i.within) in

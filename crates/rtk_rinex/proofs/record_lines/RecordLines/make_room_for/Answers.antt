@@ -16,6 +16,7 @@ invariant_of-self c =
         few = i.few;
         within = omega (arith, i.within);
         from = i.from;
+        place = i.place;
         short = i.short;
         none = i.none;
         some = i.some;

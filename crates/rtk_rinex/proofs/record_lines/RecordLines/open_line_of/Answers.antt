@@ -24,7 +24,7 @@ returns-then-self-clause-open c =
     let blank : drop at now ≡ replicate (length (drop at now)) 32 = blank-later now len at first (omega arith) ∙ ap (λ (n : ℕ). replicate n 32) (sym (length-drop at now)) in
     let new : RecordLinesView = record { text = take len now; count = c.self.inside.count; rest = drop at now; is_written = ltb len len } in
     subst (λ (t : List ℕ). HasOpenLine c.args.doppler (record { text = take len t; count = c.self.inside.count; rest = drop at t; is_written = ltb len len }) (replicate c.args.codes no_observation)) (sym whole)
-    (open-line c.args.doppler new c.args.codes c.requires.few (omega (arith, length-drop at now, c.in_ok-make_room.ensures.room, c.max-at.ensures, c.line_room.ensures.value)) blank (le-ltb len len (omega arith)))
+    (open-line c.args.doppler new c.args.codes c.requires.few (omega (arith, length-drop at now, c.in_ok-make_room.ensures.room, c.self.invariant.0.place, c.line_room.ensures.value)) blank (le-ltb len len (omega arith)))
 
 pub returns-else-self-clause-open : goal.returns-else-self-clause-open
 returns-else-self-clause-open c =
@@ -37,4 +37,4 @@ returns-else-self-clause-open c =
     let first = blank-longer text more end i.blank i.within c.in_ok-make_room.ensures.ok in
     let blank : drop at more ≡ replicate (length (drop at more)) 32 = blank-later more end at first (omega arith) ∙ ap (λ (n : ℕ). replicate n 32) (sym (length-drop at more)) in
     let new : RecordLinesView = record { text = take len more; count = c.self.inside.count; rest = drop at more; is_written = ltb len end } in
-    open-line c.args.doppler new c.args.codes c.requires.few (omega (arith, length-drop at more, c.in_ok-make_room.ensures.room, c.max-at.ensures, c.line_room.ensures.value)) blank (le-ltb len end (omega arith))
+    open-line c.args.doppler new c.args.codes c.requires.few (omega (arith, length-drop at more, c.in_ok-make_room.ensures.room, c.self.invariant.0.place, c.line_room.ensures.value)) blank (le-ltb len end (omega arith))

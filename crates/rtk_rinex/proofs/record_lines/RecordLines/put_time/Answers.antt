@@ -51,6 +51,7 @@ invariant_of-self c =
         few = i.few;
         within = omega (arith, i.within, put.0);
         from = i.from;
+        place = i.place;
         short = i.short;
         none = i.none;
         some = i.some;

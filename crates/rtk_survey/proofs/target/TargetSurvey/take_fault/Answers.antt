@@ -1,13 +1,13 @@
-use Rattle.std.proofs.Common.{◌≡◌, ℕ, Bool, true, Option, sym, ap, subst, ◌∙◌}
+use Rattle.std.proofs.Common.{ℕ, Option, sym, ap, subst, ◌∙◌}
 use Rattle.std.specs.BTreeMap.{BTreeMap}
 use Rattle.rtk_bits.specs.Bits.{bits}
-use Rattle.rtk_survey.specs.ClockSpans.{clocks_by_station}
+use Rattle.rtk_survey.specs.StationClocks.{clocks_by_station}
 use Rattle.rtk_survey.specs.DateMessages.{date_in}
 use Rattle.rtk_survey.specs.ReadFrames.{messages_in}
 use Rattle.rtk_survey.specs.EquipmentMessages.{equipment_in}
 use Rattle.rtk_survey.specs.SystemPhases.{HasSystemPhases}
 use Rattle.rtk_survey.specs.Targets.{dates_of, with_date_if_any, with_equipment_if_any, first_to_come, HasTargetPhases}
-use Rattle.rtk_survey.specs.declared.clock_spans.StationClocks.{StationClocks}
+use Rattle.rtk_survey.specs.declared.station_clocks.StationClocks.{StationClocks}
 use Rattle.rtk_survey.specs.declared.date_message.DateMessage.{DateMessage}
 use Rattle.rtk_survey.specs.declared.dating_systems.DatingSystems.{DatingSystems}
 use Rattle.rtk_survey.specs.declared.equipment_message.EquipmentMessage.{EquipmentMessage}

@@ -1,9 +1,10 @@
 use Rattle.std.proofs.Common.{ℕ, sym, ap, ◌∙◌}
 use Rattle.rtk_message.specs.AnyDecoded.{station_of}
-use Rattle.rtk_survey.specs.ClockSpans.{followed_with_value, with_time_for_if_any}
+use Rattle.rtk_survey.specs.ClockSpans.{followed_with_value}
+use Rattle.rtk_survey.specs.StationClocks.{with_time_for_if_any}
 use Rattle.rtk_survey.specs.ReadFrames.{messages_in}
 use Rattle.rtk_survey.specs.Targets.{with_observation, marks_if_known, clocks_in}
-use Rattle.rtk_survey.specs.declared.clock_spans.StationClocks.{StationClocks}
+use Rattle.rtk_survey.specs.declared.station_clocks.StationClocks.{StationClocks}
 use Rattle.rtk_survey.specs.declared.dating_systems.DatingSystems.{DatingSystems}
 use Rattle.rtk_survey.specs.declared.target.TargetDates.{TargetDates}
 use Rattle.rtk_survey.proofs.ResultLemmas.{on-ok}
@@ -25,7 +26,7 @@ returns c = on-ok c.take_phases.result (λ took q fs payload count is.
           let dated = sym (ap (λ (s : DatingSystems). s.gps) systems) ∙ dates in
           took old.dates.systems old.dates.station (messages_in fs) dated station (is.phases dated);
       equipment = is.equipment;
-      parting = parted-message q fs old m c.args.frame c.take_message.new.dates c.take_epochs.new.self c.take_message.ensures count is c.take_epochs.ensures;
+      parting = parted-message q fs old m c.args.frame c.take_message.new.dates c.take_message_of.new.self c.take_message.ensures count is c.take_message_of.ensures;
       to_come = is.to_come;
       clocks = λ n.
           let k = station_of m in
