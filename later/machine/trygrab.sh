@@ -1,7 +1,7 @@
 #!/bin/bash
 # trygrab.sh CLONE DEST: rt try of the program of CLONE; copies what the process that it runs maps into DEST. Ends that process, which this script itself began.
 clone=$1; dest=$2; log=$3
-cd $clone/crates/rtcm2rinex || exit 1
+cd $clone/crates/rtcm2rinex || exit 1; echo -11 > /proc/self/autogroup
 setsid rt try --seconds 50 -- summary /dev/zero >$log 2>&1 </dev/null &
 top=$!
 date > $log.begun

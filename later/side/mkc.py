@@ -1,6 +1,6 @@
 import sys
 sys.dont_write_bytecode=True
-R='/work/w/conv'; sys.path[:0]=[R+'/bench',R+'/tests/model',R+'/tests/outside']
+R='/work/w/land'; sys.path[:0]=[R+'/bench',R+'/tests/model',R+'/tests/outside']
 import sky, station
 for n in (150,300):
     its={l:list(sky.epochs(1,n,259_200_000,l)) for l in sky.SEVERAL}

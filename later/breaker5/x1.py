@@ -1,0 +1,27 @@
+from h import *
+import h
+K=dict(recs=2)
+# two stations interleaved, bits per station
+go('A1 stations 7,8 interleaved; 8 has the bits open',{'a':[S,d13(T),[(g(t,sync=1),g(t,st=8,sync=1),R(t,sync=0),g(t+0,st=8,sync=0)) for t in ep]]},['--station','7'],**K)
+go('A2 station 8 R clock off, 7 right, interleaved',{'a':[S,d13(T),[(g(t,sync=1),g(t,st=8,sync=1),R(t,sync=0),R(t,st=8,off=1,sync=0)) for t in ep]]},['--station','7'],**K)
+# chain over midnight: GPS before midnight, GLONASS after; time of day of R rolls at 21h GPS
+N=gms(2024,5,17,20,59,40)
+go('A3 R day rolls at 21:00',{'a':[S,d13(N),[(g(t,sync=1),R(t,sync=0)) for t in E(N,60)]]},**K)
+W=gms(2024,5,18,23,59,40)
+go('A4 week rolls',{'a':[S,d13(W),[(g(t,sync=1),R(t,sync=1),g(t,sys='C',sync=0)) for t in E(W,60)]]},**K)
+go('A5 week rolls, 1013 behind the roll only',{'a':[S,[(g(t,sync=1),R(t,sync=1),g(t,sys='C',sync=0)) for t in E(W,60)],d13(W+60000)]},**K)
+go('A6 week rolls, 1019 of old week at first, made in new',{'a':[S,e19(W),[(g(t,sync=1),R(t,sync=1),g(t,sys='C',sync=0)) for t in E(W,60)],e19(W+7200000)]},['--made','2024-05-19T00:10:00'],**K)
+go('A6b made before the roll',{'a':[S,e19(W,dw=1),[(g(t,sync=1),R(t,sync=1),g(t,sys='C',sync=0)) for t in E(W,60)]]},['--made','2024-05-18T23:59:50'],**K)
+go('A6c 1019 next week toe 0 while epochs old week; made new week',{'a':[S,frame(m1019(5,W//WEEK+1,0)),[(g(t,sync=1)) for t in E(W,4)]]},['--made','2024-05-19T00:10:00'],**K)
+go('A6d 1019 old week toe 604784? old week, epochs of new week',{'a':[S,frame(m1019(5,W//WEEK,0)),[(g(t,sync=1)) for t in E(W,4)]]},['--made','2024-05-19T00:10:00'],**K)
+go('A7 GPS off -18 (sends UTC), others right: who is left out',{'a':[S,d13(T),[(g(t,off=-18,sync=1),g(t,sys='E',sync=1),R(t,sync=1),g(t,sys='C')) for t in ep]]},**K)
+go('A8 GPS 24h apart same time of day, closing lost',{'a':[S,d13(T),g(T,sync=1),g(T+DAY,sync=1),R(T+DAY),g(T+2*DAY,sync=1),R(T+2*DAY)]},**K)
+go('A9 GPS lost its close; next message R of next day same tod',{'a':[S,d13(T),g(T,sync=1),R(T+DAY,sync=0),g(T+2*DAY,sync=1),R(T+2*DAY)]},**K)
+go('A10 1012 in epoch beside 1087 that differs by 3h(UTC)',{'a':[S,d13(T),[(s4(t,sync=1),m12(t,sync=1,off=-3*3600),R(t,sync=0)) for t in ep]]},**K)
+go('A11 1012 3h off, no MSM',{'a':[S,d13(T),[(s4(t,sync=1),m12(t,off=-3*3600)) for t in ep]]},**K)
+go('A11b --systems R',{'a':[S,d13(T),[(s4(t,sync=1),m12(t,off=-3*3600)) for t in ep]]},['--systems','R'],**K)
+go('A11c --codes',{'a':[S,d13(T),[(s4(t,sync=1),m12(t,off=-3*3600)) for t in ep]]},['--codes','1C,R1C'],**K)
+go('A12 1087 off +1 with leap 17 1019-dated, two captures, one R-only right by 18',{'a':[S,e19(T),[(g(t,sync=1),R(t,off=1)) for t in ep]],'b':[e19(T),[R(t) for t in E(T+H)]]},**K)
+go('A13 E clock off by a week? no: off half day',{'a':[S,d13(T),[(g(t,sync=1),g(t,sys='E',off=43200)) for t in ep]]},**K)
+go('A14 R off by half week exactly',{'a':[S,d13(T),[(g(t,sync=1),R(t,off=302400)) for t in ep]]},**K)
+go('A15 bits zero for GPS, E one..: every message sync 1 but the last capture end',{'a':[S,d13(T),[(g(t,sync=1),g(t,sys='E',sync=1),R(t,sync=1)) for t in ep]]},**K)
